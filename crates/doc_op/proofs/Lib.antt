@@ -1,4 +1,5 @@
+pub mod Applying
 pub mod Built
 pub mod Lengths
-pub mod Switches
 pub mod Structures
+pub mod Switches
