@@ -1,6 +1,6 @@
 -- What `get` answers of `tabulate` and `merge`, and what `matches` says at each key.
 use Rattle.std.proofs.Common.{◌≡◌, Bool, true, false, cond, ◌||◌, List, [], ◌∷◌, ◌++◌, refl, sym, ap, subst, ◌∙◌, is_some, true≢false, Option, None, Some, inl, inr}
-use Rattle.std.specs.Option.{option_map}
+use Rattle.std.specs.Option.{option_map, option_and_then}
 use Rattle.std.specs.Ordering.{nat_cmp, eq_by_cmp}
 use Rattle.std.specs.Cmp.{Equal-is}
 use Rattle.std.specs.Cmp.Lexicographic.{slice_cmp, bytes_decides}
@@ -129,3 +129,8 @@ module _ {X Z : Type 0} where
   pub get-each : (f : X → Z) (m : Map X) (q : Key) → get (each f m) q ≡ option_map f (get m q)
   unfolding each
   get-each f m q = get-tabulate (keys m) (λ k. option_map f (get m k)) q (λ e. ap (option_map f) (absent m q e))
+
+-- each value that f makes of a map's values
+module _ {X Z : Type 0} where
+  pub get-picked : (f : X → Option Z) (m : Map X) (q : Key) → get (tabulate (keys m) (λ k. option_and_then f (get m k))) q ≡ option_and_then f (get m q)
+  get-picked f m q = get-tabulate (keys m) (λ k. option_and_then f (get m k)) q (λ e. ap (option_and_then f) (absent m q e))

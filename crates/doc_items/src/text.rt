@@ -1,6 +1,7 @@
 ghost use Rattle.std.specs.Prelude.{◌≡◌, ◌==◌, length, true, IfOk};
 ghost use Rattle.std.specs.Str.{chars, encode_utf8_all};
 ghost use Rattle.std.proofs.Math.Utf8.{scalars};
+ghost use Rattle.doc_items.specs.Maps.{same_text};
 
 use crate::Memory;
 use std::alloc::Global;
@@ -51,6 +52,20 @@ impl Text {
         ensures { result ≡ (length self.now == 0) }
     {
         self.string.as_str().chars().next().is_none()
+    }
+
+    /// Whether the texts have the same characters.
+    pub fn same(&self, other: &Text) -> bool
+        ensures { result ≡ same_text self.now other.now }
+    {
+        self.string.as_str() == other.string.as_str()
+    }
+
+    /// The characters, one by one.
+    pub fn to_chars(&self, alloc: Global) -> Result<Vec<char>, Memory>
+        ensures { IfOk result (λ v. v.items ≡ self.now) }
+    {
+        self.string.chars().collect(alloc)
     }
 
     /// An equal text.

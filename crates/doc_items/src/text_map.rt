@@ -1,7 +1,7 @@
 ghost use Rattle.std.specs.Prelude.{◌≡◌, OnOk, OnErr, IfOk};
 ghost use Rattle.std.specs.Option.{option_copied};
 ghost use Rattle.std.specs.FinMap as finite;
-ghost use Rattle.doc_items.specs.Maps.{set_key};
+ghost use Rattle.doc_items.specs.Maps.{set_key, same_values};
 
 use crate::Memory;
 use std::alloc::Global;
@@ -78,6 +78,15 @@ impl TextMap {
         let stored_value = String::from_str(alloc, value)?;
         let _old = self.map.insert(stored_key, stored_value)?;
         Ok(())
+    }
+
+    /// Whether the maps have the same keys and values.
+    pub fn same(&self, other: &TextMap) -> bool
+        ensures { result ≡ same_values self.now other.now }
+    {
+        let _sorted = self.map.len();
+        let _other_sorted = other.map.len();
+        self.map == other.map
     }
 
     /// An equal map.

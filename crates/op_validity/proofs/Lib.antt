@@ -1,0 +1,4 @@
+pub mod Demands
+pub mod Gives
+pub mod Ways
+pub mod Walks

@@ -1,0 +1,13 @@
+use Rattle.std.proofs.Common.{◌≡◌, ◌+◌, ◌-◌, ◌++◌, replicate, arith}
+use Rattle.doc_items.specs.Changes.{change_set}
+use Rattle.doc_op.specs.Actions.{Action, keep}
+use Rattle.op_validity.proofs.Gives.{gives_more}
+use Rattle.op_validity.proofs.Walks.{replicate_next}
+use Rattle.op_validity.proofs.rebuild.Rebuild.keep.Goals as goal
+
+pub loop-left-preserved : goal.loop-left-preserved
+loop-left-preserved c =
+    let a = keep (change_set c.args.running.now) in
+    let e : c.loop-left.left - 1 + 1 ≡ c.loop-left.left = omega (arith, c.loop-left-test.true) in
+    λ more. gives_more _ _ _ _ _ _ _ _ (replicate (c.loop-left.left - 1) a ++ more) a (replicate_next c.loop-left.left (c.loop-left.left - 1) a more e) (c.loop-left.invariant more)
+    (c.in_ok-give.ensures (replicate (c.loop-left.left - 1) a ++ more))

@@ -1,0 +1,177 @@
+ghost use Rattle.std.specs.Prelude.{◌≡◌, ◌++◌, ◌∷◌, [], List, map, replicate, OnOk, IfOk};
+ghost use Rattle.doc_items.specs.Changes.{change_set, put};
+ghost use Rattle.doc_items.specs.declared.item.Content.TheVariants.{Character, Start};
+ghost use Rattle.doc_op.specs.Actions.{Action, keep, insertion, deletion, component_actions, new_values};
+ghost use Rattle.op_validity.specs.Walks.{Gives, demand_action, with_left};
+
+use crate::demand::Demand;
+use doc_items::{Attributes, Changes, Content, Item, Memory, Notes, Text};
+use doc_op::Component;
+use std::alloc::Global;
+
+/// The items that are left of a document to which an operation applies, and those made so far of the others.
+#[derive(Drop)]
+pub(crate) struct Rebuild<'a> {
+    pub rest: &'a [Item],
+    pub items: Vec<Item>,
+}
+
+impl Rebuild<'_> {
+    /// Does what a component says with the items that it takes.
+    #[tactic(auto, using(crate::proofs::Gives::starts))]
+    pub fn step(
+        &mut self,
+        alloc: Global,
+        running: &Changes,
+        component: &Component,
+    ) -> Result<(), Memory>
+        ensures { OnOk result ((more : List Action)
+            → Gives self.old.rest.now self.old.items.items (component_actions (change_set running.now) component.now ++ more) self.new.rest.now self.new.items.items more) }
+    {
+        match component {
+            Component::Retain(count) => self.keep(alloc, running, *count),
+            Component::Characters(text) => self.insert_text(alloc, running, text),
+            Component::ElementStart { kind, attributes } => {
+                self.insert_start(alloc, running, kind, attributes)
+            }
+            Component::ElementEnd => self.insert(alloc, running, Content::End),
+            Component::DeleteCharacters(text) => self.delete(alloc, running, text),
+            Component::DeleteElementStart { kind, attributes } => {
+                self.give(alloc, running, Demand::Start { kind, attributes })
+            }
+            Component::DeleteElementEnd => self.give(alloc, running, Demand::End),
+            Component::ReplaceAttributes { old, new } => {
+                self.give(alloc, running, Demand::Replace { old, new })
+            }
+            Component::UpdateAttributes(changes) => {
+                self.give(alloc, running, Demand::Update(changes))
+            }
+            Component::AnnotationBoundary(_) => Ok(()),
+        }
+    }
+
+    #[tactic(auto, using(crate::proofs::Gives::starts))]
+    fn keep(&mut self, alloc: Global, running: &Changes, count: u64) -> Result<(), Memory>
+        ensures { OnOk result ((more : List Action)
+            → Gives self.old.rest.now self.old.items.items (replicate count (keep (change_set running.now)) ++ more) self.new.rest.now self.new.items.items more) }
+    {
+        let mut left = count;
+        while left > 0 {
+            self.give(alloc, running, Demand::Keep)?;
+            left -= 1;
+        }
+        Ok(())
+    }
+
+    fn delete(&mut self, alloc: Global, running: &Changes, text: &Text) -> Result<(), Memory>
+        ensures { OnOk result ((more : List Action)
+            → Gives self.old.rest.now self.old.items.items (map (λ c. deletion (change_set running.now) (Character c)) text.now ++ more) self.new.rest.now self.new.items.items more) }
+    {
+        let chars = text.to_chars(alloc)?;
+        self.delete_each(alloc, running, chars.as_slice())?;
+        Ok(())
+    }
+
+    #[tactic(auto, using(crate::proofs::Gives::starts))]
+    fn delete_each(
+        &mut self,
+        alloc: Global,
+        running: &Changes,
+        chars: &[char],
+    ) -> Result<(), Memory>
+        ensures { OnOk result ((more : List Action)
+            → Gives self.old.rest.now self.old.items.items (map (λ c. deletion (change_set running.now) (Character c)) chars.now ++ more) self.new.rest.now self.new.items.items more) }
+    {
+        for c in chars {
+            self.give(alloc, running, Demand::Character(*c))?;
+        }
+        Ok(())
+    }
+
+    fn insert_text(&mut self, alloc: Global, running: &Changes, text: &Text) -> Result<(), Memory>
+        ensures { OnOk result ((more : List Action)
+            → Gives self.old.rest.now self.old.items.items (map (λ c. insertion (change_set running.now) (Character c)) text.now ++ more) self.new.rest.now self.new.items.items more) }
+    {
+        let chars = text.to_chars(alloc)?;
+        self.insert_each(alloc, running, chars.as_slice())?;
+        Ok(())
+    }
+
+    #[tactic(auto, using(crate::proofs::Gives::starts))]
+    fn insert_each(
+        &mut self,
+        alloc: Global,
+        running: &Changes,
+        chars: &[char],
+    ) -> Result<(), Memory>
+        ensures { OnOk result ((more : List Action)
+            → Gives self.old.rest.now self.old.items.items (map (λ c. insertion (change_set running.now) (Character c)) chars.now ++ more) self.new.rest.now self.new.items.items more) }
+    {
+        for c in chars {
+            self.insert(alloc, running, Content::Character(*c))?;
+        }
+        Ok(())
+    }
+
+    fn insert_start(
+        &mut self,
+        alloc: Global,
+        running: &Changes,
+        kind: &Text,
+        attributes: &Attributes,
+    ) -> Result<(), Memory>
+        ensures { OnOk result ((more : List Action)
+            → Gives self.old.rest.now self.old.items.items (insertion (change_set running.now) (Start kind.now attributes.now) ∷ more) self.new.rest.now self.new.items.items more) }
+    {
+        let kind = kind.copy(alloc)?;
+        let attributes = attributes.copy()?;
+        self.insert(alloc, running, Content::Start { kind, attributes })?;
+        Ok(())
+    }
+
+    // Inserts an item with the new values that run.
+    #[tactic(auto, using(crate::proofs::Gives::starts))]
+    fn insert(&mut self, alloc: Global, running: &Changes, content: Content) -> Result<(), Memory>
+        ensures { OnOk result ((more : List Action)
+            → Gives self.old.rest.now self.old.items.items (insertion (change_set running.now) content ∷ more) self.new.rest.now self.new.items.items more) }
+    {
+        let notes = new_notes(alloc, running)?;
+        self.items.push(Item { content, notes })?;
+        Ok(())
+    }
+
+    // Does what a demand says with the next item.
+    fn give(&mut self, alloc: Global, running: &Changes, demand: Demand<'_>) -> Result<(), Memory>
+        ensures { OnOk result ((more : List Action)
+            → Gives self.old.rest.now self.old.items.items (demand_action (change_set running.now) demand.entry ∷ more) self.new.rest.now self.new.items.items more) }
+    {
+        let Some((item, rest)) = self.rest.split_first() else {
+            return Ok(());
+        };
+        let left = demand.leaves(alloc, running, item)?;
+        self.push(left)?;
+        self.rest = rest;
+        Ok(())
+    }
+
+    fn push(&mut self, left: Option<Item>) -> Result<(), Memory>
+        ensures items { OnOk result (self.new.items.items ≡ with_left self.old.items.items left) }
+        ensures rest { self.new.rest ≡ self.old.rest }
+    {
+        match left {
+            Some(item) => {
+                self.items.push(item)?;
+                Ok(())
+            }
+            None => Ok(()),
+        }
+    }
+}
+
+fn new_notes(alloc: Global, running: &Changes) -> Result<Notes, Memory>
+    ensures { IfOk result (λ notes. notes ≡ new_values (change_set running.now)) }
+{
+    let mut notes = Notes::new(alloc);
+    running.put(alloc, &mut notes)?;
+    Ok(notes)
+}
