@@ -1,4 +1,5 @@
 pub mod Demands
 pub mod Gives
-pub mod Ways
+pub mod Refusals
 pub mod Walks
+pub mod Ways

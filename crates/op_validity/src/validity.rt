@@ -1,4 +1,4 @@
-ghost use Rattle.std.specs.Prelude.{◌≡◌, List, IsSome, Some, OnOk, OnErr, IfOk, IfErr};
+ghost use Rattle.std.specs.Prelude.{◌≡◌, ◌≢◌, List, IsSome, None, Some, OnOk, OnErr, IfOk, IfErr};
 ghost use Rattle.doc_items.specs.Balance.{Balanced};
 ghost use Rattle.doc_items.specs.Changes.{change_set};
 ghost use Rattle.doc_op.specs.Apply.{apply as applied, valid};
@@ -17,7 +17,19 @@ use std::alloc::Global;
 
 /// Whether the operation is structured and applies to the document. Refusals, in this order: `NotStructured`, `Mismatch`,
 /// `WrongLength`.
+#[tactic(auto, using(crate::proofs::Refusals::refused_invalid))]
 pub fn check(alloc: Global, op: &DocOp, document: &Document) -> Result<(), CheckFault>
+    ensures ok { OnOk result (IsSome (valid op.now document.now)) }
+    ensures refused { IfErr result (λ e. IsRefused e op.now document.now) }
+    ensures invalid { IfErr result (λ e. e ≢ CheckFault.Memory → valid op.now document.now ≡ None) }
+{
+    match walk_over(alloc, op, document) {
+        Ok(()) => Ok(()),
+        Err(fault) => Err(fault),
+    }
+}
+
+fn walk_over(alloc: Global, op: &DocOp, document: &Document) -> Result<(), CheckFault>
     ensures ok { OnOk result (IsSome (valid op.now document.now)) }
     ensures refused { IfErr result (λ e. IsRefused e op.now document.now) }
 {
@@ -45,6 +57,7 @@ pub fn check(alloc: Global, op: &DocOp, document: &Document) -> Result<(), Check
 pub fn apply(alloc: Global, op: &DocOp, document: &mut Document) -> Result<(), CheckFault>
     ensures ok { OnOk result (valid op.now document.old ≡ Some document.new) }
     ensures refused { IfErr result (λ e. IsRefused e op.now document.old) }
+    ensures invalid { IfErr result (λ e. e ≢ CheckFault.Memory → valid op.now document.old ≡ None) }
     ensures kept { OnErr result (document.new ≡ document.old) }
     ensures balance { OnOk result (Balanced document.old → Balanced document.new) }
 {

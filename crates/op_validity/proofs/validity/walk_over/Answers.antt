@@ -6,7 +6,7 @@ use Rattle.doc_op.specs.Refusals.{IsBuilt}
 use Rattle.op_validity.specs.Walks.{IsPassable, Same}
 use Rattle.op_validity.proofs.Walks.{same-trans}
 use Rattle.op_validity.proofs.Ways.{fit_at, passable_at, running_next, actions_next}
-use Rattle.op_validity.proofs.validity.check.Goals as goal
+use Rattle.op_validity.proofs.validity.walk_over.Goals as goal
 
 pub step-requires-clause-fit : goal.step-requires-clause-fit
 step-requires-clause-fit c =

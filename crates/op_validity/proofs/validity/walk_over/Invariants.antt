@@ -3,7 +3,7 @@ use Rattle.doc_items.specs.Limits.{max_count}
 use Rattle.doc_items.specs.Changes.{change_set}
 use Rattle.doc_op.specs.Actions.{running, actions, actions_from}
 use Rattle.op_validity.specs.Walks.{Same}
-use Rattle.op_validity.proofs.validity.check.Given as goal
+use Rattle.op_validity.proofs.validity.walk_over.Given as goal
 
 abbrev pub invariant-loop-component : goal.invariant-loop-component
 invariant-loop-component l = record {
