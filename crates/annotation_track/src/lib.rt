@@ -1,6 +1,8 @@
 //! The changes of annotations that run at a place of an operation.
 #![tactic(auto)]
 
+mod edit;
+mod spot;
 mod track;
 
 pub use track::Track;

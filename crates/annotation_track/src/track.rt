@@ -1,9 +1,11 @@
 ghost use Rattle.std.specs.Prelude.{◌≡◌, [], OnOk, OnErr};
 ghost use Rattle.doc_items.specs.Changes.{IsAscending, Fits, change_set, after_boundary};
 
+use crate::edit::{start_all, stop_all};
 use doc_items::{Boundary, Changes, Memory};
-use std::alloc::Global;
+use std::alloc::{AllocError, Global};
 use std::marker::Model;
+use std::mem;
 
 /// The changes that run at a place of an operation, seen as a list in byte order of their keys.
 #[derive(Drop)]
@@ -43,9 +45,17 @@ impl Track {
         ensures passed { OnOk result (change_set self.new ≡ after_boundary (change_set self.old) boundary.now) }
         ensures kept { OnErr result (self.new ≡ self.old) }
     {
-        let _ = alloc;
-        let _ = boundary;
-        Err(std::alloc::AllocError)
+        let fresh = boundary.change.copy(alloc)?.into_vec();
+        let none = Changes::from_vec(Vec::new(alloc));
+        let mut list = mem::replace(&mut self.running, none).into_vec();
+        if list.reserve(fresh.len()).is_err() {
+            self.running = Changes::from_vec(list);
+            return Err(AllocError);
+        }
+        stop_all(&mut list, boundary.end.as_slice());
+        start_all(&mut list, fresh);
+        self.running = Changes::from_vec(list);
+        Ok(())
     }
 
     /// The running changes, in byte order of their keys.

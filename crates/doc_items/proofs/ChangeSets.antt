@@ -1,6 +1,6 @@
 -- Change sets made of lists of changes.
 --     get_change, get_unchanged     what a list with ascending keys makes of one of its keys, and of any other
---     change_set_next, put_next     one change more
+--     with_changes_next, put_next, without_next     one change more, one key fewer
 --     tested_*                      a test of each key, along the list
 use Rattle.std.proofs.Common.{is_eq, Ordering, Less, Equal, Greater, zero, suc, ◌⊎◌, inl, inr, ◌≡◌, ℕ, ◌+◌, ◌<◌, Bool, true, false, cond, List, [], ◌∷◌, ◌++◌, length, take, drop, get_or, refl, sym, ap, subst, ◌∙◌, arith, add-one, true≢false, below_more, Option, None, Some}
 use Rattle.std.proofs.Math.Seq.{take-suc}
@@ -11,23 +11,23 @@ use Rattle.std.specs.Cmp.Lexicographic.{slice_cmp}
 use Rattle.std.proofs.lemmas.Cmp.{nat_list_cmp_total, eq_by_cmp_equiv}
 use Rattle.std.specs.FinMap.{get, insert, empty, remove, get-insert, get-remove, get-empty}
 use Rattle.doc_items.specs.Maps.{Key, Map, set_key, same_value, merge, matches}
-use Rattle.doc_items.specs.Changes.{KeyChange, ChangeSet, key_change, with_changes, change_set, none_running, before, ascends, AscendsFrom, IsAscending, fits_old, set_new, agrees, put}
+use Rattle.doc_items.specs.Changes.{KeyChange, ChangeSet, key_change, without, with_changes, change_set, none_running, before, ascends, AscendsFrom, IsAscending, fits_old, set_new, agrees, put}
 use Rattle.doc_items.specs.declared.change.Change.{Change}
 use Rattle.doc_items.proofs.Maps.{tie, tied, alike, get-merge, matches_at, matches_all}
 
-abbrev at : Key → Key → Bool
+abbrev pub at : Key → Key → Bool
 at q k = eq_by_cmp (slice_cmp nat_cmp) q k
 
-at-is : (q k : Key) → at q k ≡ true → q ≡ k
+pub at-is : (q k : Key) → at q k ≡ true → q ≡ k
 unfolding tie
 at-is q k e = tied q k e
 
-abbrev key : Change → Key
+abbrev pub key : Change → Key
 key c = encode_utf8_all c.key
 
 -- ---- keys that ascend are distinct
 
-less : (r : Ordering) → is_lt r ≡ true → r ≡ Less
+pub less : (r : Ordering) → is_lt r ≡ true → r ≡ Less
 less Less e = refl
 less Equal e = absurd (true≢false (sym e))
 less Greater e = absurd (true≢false (sym e))
@@ -37,27 +37,27 @@ not_equal Less e = refl
 not_equal Equal e = absurd (true≢false (sym e))
 not_equal Greater e = absurd (true≢false (sym e))
 
-before_trans : (a b c : List ℕ) → before a b ≡ true → before b c ≡ true → before a c ≡ true
+pub before_trans : (a b c : List ℕ) → before a b ≡ true → before b c ≡ true → before a c ≡ true
 before_trans a b c p q = ap is_lt (nat_list_cmp_total.trans (encode_utf8_all a) (encode_utf8_all b) (encode_utf8_all c) (less _ p) (less _ q))
 
-before_other : (a b : List ℕ) → before a b ≡ true → at (encode_utf8_all a) (encode_utf8_all b) ≡ false
+pub before_other : (a b : List ℕ) → before a b ≡ true → at (encode_utf8_all a) (encode_utf8_all b) ≡ false
 before_other a b p = not_equal _ p
 
-behind_less : (k l : List ℕ) (cs : List Change) → before k l ≡ true → AscendsFrom (Some l) cs → AscendsFrom (Some k) cs
+pub behind_less : (k l : List ℕ) (cs : List Change) → before k l ≡ true → AscendsFrom (Some l) cs → AscendsFrom (Some k) cs
 behind_less k l [] b h = tt
 behind_less k l (c ∷ cs) b h = (before_trans k l c.key b h.0, h.1)
 
 -- no change of the list is q's
-pub NoKey : Key → List Change → Type 0
+unfoldable pub NoKey : Key → List Change → Type 0
 NoKey q [] = Unit {0}
 NoKey q (c ∷ cs) = (at q (key c) ≡ false) × NoKey q cs
 
-none_behind : (k : List ℕ) (cs : List Change) → AscendsFrom (Some k) cs → NoKey (encode_utf8_all k) cs
+pub none_behind : (k : List ℕ) (cs : List Change) → AscendsFrom (Some k) cs → NoKey (encode_utf8_all k) cs
 unfolding NoKey
 none_behind k [] h = tt
 none_behind k (c ∷ cs) h = (before_other k c.key h.0, none_behind k cs (behind_less k c.key cs h.0 h.1))
 
-get_past : (cs : List Change) (u : ChangeSet) (q : Key) → NoKey q cs → get (with_changes u cs) q ≡ get u q
+pub get_past : (cs : List Change) (u : ChangeSet) (q : Key) → NoKey q cs → get (with_changes u cs) q ≡ get u q
 unfolding NoKey
 get_past [] u q h = refl
 get_past (c ∷ cs) u q h = get_past cs (insert u (key c) (key_change c)) q h.1
@@ -115,13 +115,23 @@ one_misfits cs m i c h lt is e = elim (agrees (change_set cs) m) as (λ b. agree
 
 -- ---- one change more
 
-with_changes-append : (u : ChangeSet) (xs ys : List Change) → with_changes u (xs ++ ys) ≡ with_changes (with_changes u xs) ys
+pub with_changes-append : (u : ChangeSet) (xs ys : List Change) → with_changes u (xs ++ ys) ≡ with_changes (with_changes u xs) ys
 with_changes-append u [] ys = refl
 with_changes-append u (x ∷ xs) ys = with_changes-append (insert u (key x) (key_change x)) xs ys
 
 pub with_changes_next : (u : ChangeSet) (cs : List Change) (i : ℕ) (c : Change) → i < length cs → c ≡ get_or cs i c
     → with_changes u (take (i + 1) cs) ≡ insert (with_changes u (take i cs)) (encode_utf8_all c.key) (key_change c)
 with_changes_next u cs i c h is = ap (with_changes u) (ap (λ n. take n cs) (add-one i) ∙ take-suc cs i c h) ∙ with_changes-append u (take i cs) (get_or cs i c ∷ []) ∙ ap (λ x. insert (with_changes u (take i cs)) (key x) (key_change x)) (sym is)
+
+-- ---- one key fewer
+
+without-append : (u : ChangeSet) (xs ys : List (List ℕ)) → without u (xs ++ ys) ≡ without (without u xs) ys
+without-append u [] ys = refl
+without-append u (x ∷ xs) ys = without-append (remove u (encode_utf8_all x)) xs ys
+
+pub without_next : (u : ChangeSet) (ks : List (List ℕ)) (i : ℕ) (k : List ℕ) → i < length ks → k ≡ get_or ks i k
+    → without u (take (i + 1) ks) ≡ remove (without u (take i ks)) (encode_utf8_all k)
+without_next u ks i k h is = ap (without u) (ap (λ n. take n ks) (add-one i) ∙ take-suc ks i k h) ∙ without-append u (take i ks) (get_or ks i k ∷ []) ∙ ap (λ x. remove (without u (take i ks)) (encode_utf8_all x)) (sym is)
 
 new_at : (b : Bool) (c : KeyChange) (o : Option KeyChange) (v : Option Key) → set_new (cond b (Some c) o) v ≡ cond b c.new (set_new o v)
 new_at true c o v = refl

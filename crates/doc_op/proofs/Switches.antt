@@ -101,14 +101,6 @@ kept-switched m n k on s q h = elim (contains_key m k) as (λ b. contains_key m 
 
 -- ---- along a list
 
-without-append : (u : ChangeSet) (xs ys : List (List ℕ)) → without u (xs ++ ys) ≡ without (without u xs) ys
-without-append u [] ys = refl
-without-append u (x ∷ xs) ys = without-append (remove u (encode_utf8_all x)) xs ys
-
-pub without-next : (u : ChangeSet) (ks : List (List ℕ)) (i : ℕ) (k : List ℕ) → i < length ks → k ≡ get_or ks i k
-    → without u (take (i + 1) ks) ≡ remove (without u (take i ks)) (encode_utf8_all k)
-without-next u ks i k h is = ap (without u) (ap (λ n. take n ks) (add-one i) ∙ take-suc ks i k h) ∙ without-append u (take i ks) (get_or ks i k ∷ []) ∙ ap (λ x. remove (without u (take i ks)) (encode_utf8_all x)) (sym is)
-
 pub there-more : (n : ℕ) (old new : Map Bool) (cs : List Change) (c : Change) → n < length cs → c ≡ get_or cs n c → KeepsThere old new → IsThere new (encode_utf8_all c.key)
     → AreThereBelow n old cs → AreThereBelow (n + 1) new cs
 there-more n old new cs c h is kept last below = below_more _ _ (λ i lt d. kept _ (below i lt d))
