@@ -1,0 +1,64 @@
+// The adapters over std's readers and writers, as standard input and output. They tell nothing of their bytes.
+ghost use Rattle.std.specs.Prelude.{None};
+
+use crate::faults::Faults;
+use crate::{Failed, Sink, Source};
+use std::io::{Read, Write};
+
+/// A source over a reader, which counts the reader's errors.
+#[derive(Drop)]
+pub struct ReaderSource<R: Read + Drop> {
+    reader: R,
+    faults: Faults,
+}
+
+impl<R: Read + Drop> ReaderSource<R> {
+    pub fn new(reader: R) -> Self {
+        ReaderSource {
+            reader,
+            faults: Faults::none(),
+        }
+    }
+}
+
+impl<R: Read + Drop> Source for ReaderSource<R> {
+    ghost left = { λ _. None };
+
+    ghost faults = { λ s. s.faults.count };
+
+    fn read(&mut self, into: &mut [u8]) -> Result<usize, Failed> {
+        match self.reader.read(into) {
+            Ok(count) => Ok(count),
+            Err(_) => Err(self.faults.raise()),
+        }
+    }
+}
+
+/// A sink over a writer, which counts the writer's errors, and as one of them that it takes nothing of some bytes.
+#[derive(Drop)]
+pub struct WriterSink<W: Write + Drop> {
+    writer: W,
+    faults: Faults,
+}
+
+impl<W: Write + Drop> WriterSink<W> {
+    pub fn new(writer: W) -> Self {
+        WriterSink {
+            writer,
+            faults: Faults::none(),
+        }
+    }
+}
+
+impl<W: Write + Drop> Sink for WriterSink<W> {
+    ghost written = { λ _. None };
+
+    ghost faults = { λ s. s.faults.count };
+
+    fn write(&mut self, bytes: &[u8]) -> Result<usize, Failed> {
+        match self.writer.write(bytes) {
+            Ok(count) if count > 0 || bytes.is_empty() => Ok(count),
+            _ => Err(self.faults.raise()),
+        }
+    }
+}
