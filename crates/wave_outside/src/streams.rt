@@ -1,5 +1,7 @@
-// The adapters over std's readers and writers, as standard input and output. They tell nothing of their bytes.
-ghost use Rattle.std.specs.Prelude.{None};
+// The adapters over std's readers and writers. They tell of their bytes what the reader or writer tells: standard input and
+// output tell nothing.
+ghost use Rattle.std.specs.Prelude.{◌≡◌};
+ghost use Rattle.wave_outside.specs.Streams.{reader_of, writer_of, source_faults, sink_faults};
 
 use crate::faults::Faults;
 use crate::{Failed, Sink, Source};
@@ -13,7 +15,10 @@ pub struct ReaderSource<R: Read + Drop> {
 }
 
 impl<R: Read + Drop> ReaderSource<R> {
-    pub fn new(reader: R) -> Self {
+    pub fn new(reader: R) -> Self
+        ensures reader { reader_of result ≡ reader }
+        ensures faults { source_faults result ≡ 0 }
+    {
         ReaderSource {
             reader,
             faults: Faults::none(),
@@ -22,7 +27,7 @@ impl<R: Read + Drop> ReaderSource<R> {
 }
 
 impl<R: Read + Drop> Source for ReaderSource<R> {
-    ghost left = { λ _. None };
+    ghost left = { λ s. R.remaining s.reader };
 
     ghost faults = { λ s. s.faults.count };
 
@@ -42,7 +47,10 @@ pub struct WriterSink<W: Write + Drop> {
 }
 
 impl<W: Write + Drop> WriterSink<W> {
-    pub fn new(writer: W) -> Self {
+    pub fn new(writer: W) -> Self
+        ensures writer { writer_of result ≡ writer }
+        ensures faults { sink_faults result ≡ 0 }
+    {
         WriterSink {
             writer,
             faults: Faults::none(),
@@ -51,7 +59,7 @@ impl<W: Write + Drop> WriterSink<W> {
 }
 
 impl<W: Write + Drop> Sink for WriterSink<W> {
-    ghost written = { λ _. None };
+    ghost written = { λ s. W.contents s.writer };
 
     ghost faults = { λ s. s.faults.count };
 
