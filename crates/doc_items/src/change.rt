@@ -1,0 +1,149 @@
+ghost use Rattle.std.specs.Prelude.{◌≡◌, IfOk};
+
+use crate::{Memory, Text};
+use std::alloc::Global;
+use std::marker::Model;
+
+/// What becomes of the value at a key: the old value, which is checked, and the new one. Each may be absent.
+#[derive(Drop)]
+pub struct Change {
+    pub key: Text,
+    pub old: Option<Text>,
+    pub new: Option<Text>,
+}
+
+impl Change {
+    /// An equal change.
+    pub fn copy(&self, alloc: Global) -> Result<Change, Memory>
+        ensures { IfOk result (λ c. c ≡ self.now) }
+    {
+        let key = self.key.copy(alloc)?;
+        let old = copy_value(alloc, &self.old)?;
+        let new = copy_value(alloc, &self.new)?;
+        Ok(Change { key, old, new })
+    }
+}
+
+fn copy_value(alloc: Global, value: &Option<Text>) -> Result<Option<Text>, Memory>
+    ensures { IfOk result (λ v. v ≡ value.now) }
+{
+    match value {
+        Some(text) => Ok(Some(text.copy(alloc)?)),
+        None => Ok(None),
+    }
+}
+
+/// A list of changes.
+#[derive(Drop)]
+pub struct Changes {
+    list: Vec<Change>,
+}
+
+impl Model for Changes {
+    ghost use Rattle.std.specs.Prelude.{List};
+    ghost use Rattle.doc_items.specs.declared.change.Change.{Change};
+
+    ghost Value = { List Change };
+
+    ghost view = { λ c. c.list.items };
+}
+
+impl Changes {
+    /// The list of these changes.
+    pub fn from_vec(list: Vec<Change>) -> Changes
+        ensures { result ≡ list.items }
+    {
+        Changes { list }
+    }
+
+    /// The changes, which the list gives up.
+    pub fn into_vec(self) -> Vec<Change>
+        ensures { result.items ≡ self }
+    {
+        self.list
+    }
+
+    /// The changes, in order.
+    pub fn as_slice(&self) -> &[Change]
+        ensures { result.now ≡ self.now }
+    {
+        self.list.as_slice()
+    }
+
+    /// An equal list.
+    pub fn copy(&self, alloc: Global) -> Result<Changes, Memory>
+        ensures { IfOk result (λ c. c ≡ self.now) }
+    {
+        let mut list = Vec::with_capacity(alloc, self.list.len())?;
+        for change in self.list.as_slice() {
+            list.push(change.copy(alloc)?)?;
+        }
+        Ok(Changes { list })
+    }
+}
+
+/// A list of keys.
+#[derive(Drop)]
+pub struct Keys {
+    list: Vec<Text>,
+}
+
+impl Model for Keys {
+    ghost use Rattle.std.specs.Prelude.{List, ℕ};
+
+    ghost Value = { List (List ℕ) };
+
+    ghost view = { λ k. k.list.items };
+}
+
+impl Keys {
+    /// The list of these keys.
+    pub fn from_vec(list: Vec<Text>) -> Keys
+        ensures { result ≡ list.items }
+    {
+        Keys { list }
+    }
+
+    /// The keys, which the list gives up.
+    pub fn into_vec(self) -> Vec<Text>
+        ensures { result.items ≡ self }
+    {
+        self.list
+    }
+
+    /// The keys, in order.
+    pub fn as_slice(&self) -> &[Text]
+        ensures { result.now ≡ self.now }
+    {
+        self.list.as_slice()
+    }
+
+    /// An equal list.
+    pub fn copy(&self, alloc: Global) -> Result<Keys, Memory>
+        ensures { IfOk result (λ k. k ≡ self.now) }
+    {
+        let mut list = Vec::with_capacity(alloc, self.list.len())?;
+        for key in self.list.as_slice() {
+            list.push(key.copy(alloc)?)?;
+        }
+        Ok(Keys { list })
+    }
+}
+
+/// A place between items where changes of annotations end and begin: the keys that end, and those that change.
+#[derive(Drop)]
+pub struct Boundary {
+    pub end: Keys,
+    pub change: Changes,
+}
+
+impl Boundary {
+    /// An equal boundary.
+    pub fn copy(&self, alloc: Global) -> Result<Boundary, Memory>
+        ensures { IfOk result (λ b. b ≡ self.now) }
+    {
+        let end = self.end.copy(alloc)?;
+        let change = self.change.copy(alloc)?;
+        Ok(Boundary { end, change })
+    }
+}

@@ -1,0 +1,62 @@
+ghost use Rattle.std.specs.Prelude.{◌≡◌, ◌==◌, length, true, IfOk};
+ghost use Rattle.std.specs.Str.{chars, encode_utf8_all};
+ghost use Rattle.std.proofs.Math.Utf8.{scalars};
+
+use crate::Memory;
+use std::alloc::Global;
+use std::marker::Model;
+
+/// A text, seen as its list of characters (Unicode scalar values).
+#[derive(Debug, Drop)]
+pub struct Text {
+    string: String,
+}
+
+impl Model for Text {
+    ghost use Rattle.std.specs.Prelude.{List, ℕ, string_bytes};
+    ghost use Rattle.std.specs.Str.{chars};
+
+    ghost Value = { List ℕ };
+
+    ghost view = { λ t. chars (string_bytes t.string) };
+}
+
+impl Text {
+    /// A copy of `text`.
+    pub fn from_str(alloc: Global, text: &str) -> Result<Text, Memory>
+        ensures { IfOk result (λ t. t ≡ chars text.now) }
+    {
+        let string = String::from_str(alloc, text)?;
+        Ok(Text { string })
+    }
+
+    /// The text as UTF-8.
+    pub fn as_str(&self) -> &str
+        ensures bytes { result.now ≡ encode_utf8_all self.now }
+        ensures chars { chars result.now ≡ self.now }
+        ensures scalars { scalars self.now ≡ true }
+    {
+        self.string.as_str()
+    }
+
+    /// The number of characters.
+    pub fn len(&self) -> u64
+        ensures { result ≡ length self.now }
+    {
+        self.string.chars().count() as u64
+    }
+
+    /// Whether there is no character.
+    pub fn is_empty(&self) -> bool
+        ensures { result ≡ (length self.now == 0) }
+    {
+        self.string.as_str().chars().next().is_none()
+    }
+
+    /// An equal text.
+    pub fn copy(&self, alloc: Global) -> Result<Text, Memory>
+        ensures { IfOk result (λ t. t ≡ self.now) }
+    {
+        Text::from_str(alloc, self.string.as_str())
+    }
+}

@@ -1,0 +1,91 @@
+ghost use Rattle.std.specs.Prelude.{◌≡◌, OnOk, OnErr, IfOk};
+ghost use Rattle.std.specs.Option.{option_copied};
+ghost use Rattle.std.specs.FinMap as finite;
+ghost use Rattle.doc_items.specs.Maps.{set_key};
+
+use crate::Memory;
+use std::alloc::Global;
+use std::collections::BTreeMap;
+use std::marker::Model;
+
+/// A map from texts to texts, in byte order of its keys.
+#[derive(Drop)]
+pub struct TextMap {
+    map: BTreeMap<String, String>,
+}
+
+/// The annotations of an item.
+pub type Notes = TextMap;
+
+/// The attributes of an element.
+pub type Attributes = TextMap;
+
+impl Model for TextMap {
+    ghost use Rattle.doc_items.specs.Maps.{Key, Map, map_code, stored};
+
+    ghost Value = { Map Key };
+
+    ghost coded = { map_code };
+
+    ghost view = { λ m. stored m.map.entries };
+}
+
+impl TextMap {
+    /// The map without keys.
+    pub fn new(alloc: Global) -> TextMap
+        ensures { result ≡ finite.empty }
+    {
+        TextMap {
+            map: BTreeMap::new(alloc),
+        }
+    }
+
+    /// The value at a key; None exactly where the key isn't there.
+    pub fn get(&self, key: &str) -> Option<&str>
+        ensures { option_copied result ≡ finite.get self.now key.now }
+    {
+        match self.map.get(key) {
+            Some(value) => Some(value.as_str()),
+            None => None,
+        }
+    }
+
+    /// Sets the value at a key; None takes the key away. After want of memory the map is as it was.
+    pub fn set(&mut self, alloc: Global, key: &str, value: Option<&str>) -> Result<(), Memory>
+        ensures ok { OnOk result (self.new ≡ set_key self.old key.now (option_copied value.entry)) }
+        ensures err { OnErr result (self.new ≡ self.old) }
+    {
+        match value {
+            None => {
+                self.remove(key);
+                Ok(())
+            }
+            Some(text) => self.insert(alloc, key, text),
+        }
+    }
+
+    fn remove(&mut self, key: &str)
+        ensures { self.new ≡ finite.remove self.old key.now }
+    {
+        let _old = self.map.remove(key);
+    }
+
+    fn insert(&mut self, alloc: Global, key: &str, value: &str) -> Result<(), Memory>
+        ensures ok { OnOk result (self.new ≡ finite.insert self.old key.now value.now) }
+        ensures err { OnErr result (self.new ≡ self.old) }
+    {
+        let stored_key = String::from_str(alloc, key)?;
+        let stored_value = String::from_str(alloc, value)?;
+        let _old = self.map.insert(stored_key, stored_value)?;
+        Ok(())
+    }
+
+    /// An equal map.
+    pub fn copy(&self) -> Result<TextMap, Memory>
+        ensures { IfOk result (λ m. m ≡ self.now) }
+    {
+        Ok(TextMap {
+            map: self.map.clone()?,
+        })
+    }
+}

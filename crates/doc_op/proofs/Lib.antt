@@ -1,0 +1,4 @@
+pub mod Built
+pub mod Lengths
+pub mod Switches
+pub mod Structures
