@@ -1,6 +1,11 @@
-ghost use Rattle.std.specs.Prelude.{◌≡◌, IfOk};
+ghost use Rattle.std.specs.Prelude.{◌≡◌, Some, IfOk, OnOk, option_map};
+ghost use Rattle.std.specs.Option.{option_copied};
+ghost use Rattle.std.specs.Str.{encode_utf8_all};
+ghost use Rattle.std.specs.FinMap.{get};
+ghost use Rattle.doc_items.specs.Maps.{set_key};
+ghost use Rattle.doc_items.specs.Changes.{IsAscending, key_change, change_set, fits_old, agrees, put};
 
-use crate::{Memory, Text};
+use crate::{Memory, Text, TextMap};
 use std::alloc::Global;
 use std::marker::Model;
 
@@ -13,6 +18,41 @@ pub struct Change {
 }
 
 impl Change {
+    // Whether the map has the old value.
+    fn fits_in(&self, map: &TextMap) -> bool
+        ensures { result ≡ fits_old (Some (key_change self.now)) (get map.now (encode_utf8_all self.now.key)) }
+    {
+        self.fits(map.get(self.key.as_str()))
+    }
+
+    // Sets the new value.
+    fn put_in(&self, alloc: Global, map: &mut TextMap) -> Result<(), Memory>
+        ensures { OnOk result (map.new ≡ set_key map.old (encode_utf8_all self.now.key) (option_map encode_utf8_all self.now.new)) }
+    {
+        map.set(alloc, self.key.as_str(), self.new_value())
+    }
+
+    // Whether the value is the old one.
+    fn fits(&self, value: Option<&str>) -> bool
+        ensures { result ≡ fits_old (Some (key_change self.now)) (option_copied value.entry) }
+    {
+        match (&self.old, value) {
+            (Some(old), Some(value)) => old.as_str() == value,
+            (None, None) => true,
+            (Some(_), None) => false,
+            (None, Some(_)) => false,
+        }
+    }
+
+    fn new_value(&self) -> Option<&str>
+        ensures { option_copied result ≡ option_map encode_utf8_all self.now.new }
+    {
+        match &self.new {
+            Some(new) => Some(new.as_str()),
+            None => None,
+        }
+    }
+
     /// An equal change.
     pub fn copy(&self, alloc: Global) -> Result<Change, Memory>
         ensures { IfOk result (λ c. c ≡ self.now) }
@@ -68,6 +108,29 @@ impl Changes {
         ensures { result.now ≡ self.now }
     {
         self.list.as_slice()
+    }
+
+    /// Whether the map has each old value.
+    pub fn agrees(&self, map: &TextMap) -> bool
+        requires { IsAscending self.now }
+        ensures { result ≡ agrees (change_set self.now) map.now }
+    {
+        for change in self.list.as_slice() {
+            if !change.fits_in(map) {
+                return false;
+            }
+        }
+        true
+    }
+
+    /// Sets each new value. After want of memory some are set.
+    pub fn put(&self, alloc: Global, map: &mut TextMap) -> Result<(), Memory>
+        ensures { OnOk result (map.new ≡ put (change_set self.now) map.old) }
+    {
+        for change in self.list.as_slice() {
+            change.put_in(alloc, map)?;
+        }
+        Ok(())
     }
 
     /// An equal list.

@@ -105,17 +105,9 @@ without-append : (u : ChangeSet) (xs ys : List (List ℕ)) → without u (xs ++ 
 without-append u [] ys = refl
 without-append u (x ∷ xs) ys = without-append (remove u (encode_utf8_all x)) xs ys
 
-with_changes-append : (u : ChangeSet) (xs ys : List Change) → with_changes u (xs ++ ys) ≡ with_changes (with_changes u xs) ys
-with_changes-append u [] ys = refl
-with_changes-append u (x ∷ xs) ys = with_changes-append (insert u (encode_utf8_all x.key) (key_change x)) xs ys
-
 pub without-next : (u : ChangeSet) (ks : List (List ℕ)) (i : ℕ) (k : List ℕ) → i < length ks → k ≡ get_or ks i k
     → without u (take (i + 1) ks) ≡ remove (without u (take i ks)) (encode_utf8_all k)
 without-next u ks i k h is = ap (without u) (ap (λ n. take n ks) (add-one i) ∙ take-suc ks i k h) ∙ without-append u (take i ks) (get_or ks i k ∷ []) ∙ ap (λ x. remove (without u (take i ks)) (encode_utf8_all x)) (sym is)
-
-pub with_changes-next : (u : ChangeSet) (cs : List Change) (i : ℕ) (c : Change) → i < length cs → c ≡ get_or cs i c
-    → with_changes u (take (i + 1) cs) ≡ insert (with_changes u (take i cs)) (encode_utf8_all c.key) (key_change c)
-with_changes-next u cs i c h is = ap (with_changes u) (ap (λ n. take n cs) (add-one i) ∙ take-suc cs i c h) ∙ with_changes-append u (take i cs) (get_or cs i c ∷ []) ∙ ap (λ x. insert (with_changes u (take i cs)) (encode_utf8_all x.key) (key_change x)) (sym is)
 
 pub there-more : (n : ℕ) (old new : Map Bool) (cs : List Change) (c : Change) → n < length cs → c ≡ get_or cs n c → KeepsThere old new → IsThere new (encode_utf8_all c.key)
     → AreThereBelow n old cs → AreThereBelow (n + 1) new cs

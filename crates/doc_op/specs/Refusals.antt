@@ -1,6 +1,5 @@
 -- What a builder refuses, in this order.
 --     component_len     the count, the characters or the keys of a component
---     before a b, same_key a b     a comes before b in byte order; neither comes before the other
 --     bad_end u p ks    the first key of ks, behind p, that doesn't ascend or that doesn't run under u
 --     bad_change e p cs     the first key of cs, behind p, that doesn't ascend or that is among the ends e
 --     bad_key u c       the first bad key of a boundary's ends and then of its changes, or of an update
@@ -9,12 +8,9 @@
 --     IsBuilt cs        a builder takes each component in turn
 use Rattle.std.specs.Prelude.{◌≡◌, ℕ, ◌+◌, ◌==◌, ◌&&◌, ◌||◌, nat_lt, nat_le, List, [], ◌∷◌, ◌++◌, length, Bool, true, false, not, if◌then◌else◌, Option, None, Some, is_none}
 use Rattle.std.specs.Str.{encode_utf8_all}
-use Rattle.std.specs.Ordering.{nat_cmp, is_lt, eq_by_cmp}
-use Rattle.std.specs.Cmp.Lexicographic.{slice_cmp}
-use Rattle.std.specs.List.{list_any}
 use Rattle.std.specs.FinMap.{contains_key}
 use Rattle.doc_items.specs.Limits.{max_count}
-use Rattle.doc_items.specs.Changes.{ChangeSet}
+use Rattle.doc_items.specs.Changes.{ChangeSet, ascends, is_named}
 use Rattle.doc_items.specs.declared.change.Change.{Change}
 use Rattle.doc_op.specs.declared.component.Component.{Component}
 use Rattle.doc_op.specs.declared.component.Component.TheVariants.{Retain, Characters, ElementStart, ElementEnd, DeleteCharacters, DeleteElementStart, DeleteElementEnd, ReplaceAttributes, UpdateAttributes, AnnotationBoundary}
@@ -37,20 +33,6 @@ component_len (UpdateAttributes changes) = length changes
 component_len (AnnotationBoundary b) = length b.end + length b.change
 
 -- ---- keys
-
-abbrev pub before : List ℕ → List ℕ → Bool
-before a b = is_lt (slice_cmp nat_cmp (encode_utf8_all a) (encode_utf8_all b))
-
-abbrev pub same_key : List ℕ → List ℕ → Bool
-same_key a b = eq_by_cmp (slice_cmp nat_cmp) (encode_utf8_all a) (encode_utf8_all b)
-
-abbrev pub is_named : List (List ℕ) → List ℕ → Bool
-is_named ends k = list_any (same_key k) ends
-
--- the first of a list, or behind another in byte order
-abbrev pub ascends : Option (List ℕ) → List ℕ → Bool
-ascends None k = true
-ascends (Some p) k = before p k
 
 abbrev pub runs : ChangeSet → List ℕ → Bool
 runs u k = contains_key u (encode_utf8_all k)

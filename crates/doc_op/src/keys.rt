@@ -2,8 +2,8 @@
 ghost use Rattle.std.specs.Prelude.{◌≡◌, List, ℕ, None, IfOk};
 ghost use Rattle.std.specs.Option.{option_copied};
 ghost use Rattle.std.specs.Str.{encode_utf8_all};
-ghost use Rattle.doc_items.specs.Changes.{ChangeSet};
-ghost use Rattle.doc_op.specs.Refusals.{ascends, bad_end, bad_change, bad_key, is_named};
+ghost use Rattle.doc_items.specs.Changes.{ChangeSet, ascends, is_named};
+ghost use Rattle.doc_op.specs.Refusals.{bad_end, bad_change, bad_key};
 ghost use Rattle.doc_op.specs.Running.{on_at, Follows};
 
 use crate::Component;

@@ -1,7 +1,8 @@
 use Rattle.std.proofs.Common.{◌≡◌, List, ℕ, drop, None}
 use Rattle.std.specs.Option.{option_copied}
 use Rattle.std.specs.Str.{encode_utf8_all}
-use Rattle.doc_op.specs.Refusals.{bad_change, is_named}
+use Rattle.doc_items.specs.Changes.{is_named}
+use Rattle.doc_op.specs.Refusals.{bad_change}
 use Rattle.doc_op.specs.Running.{on_at}
 use Rattle.doc_op.proofs.keys.bad_change.Given as goal
 

@@ -1,6 +1,6 @@
 use Rattle.std.proofs.Common.{◌≡◌, List, ℕ, take}
 use Rattle.std.specs.Str.{encode_utf8_all}
-use Rattle.doc_op.specs.Refusals.{is_named}
+use Rattle.doc_items.specs.Changes.{is_named}
 use Rattle.doc_op.specs.Running.{on_at}
 use Rattle.doc_op.proofs.keys.ended_keys.Given as goal
 

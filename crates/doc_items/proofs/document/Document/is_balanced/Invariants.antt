@@ -1,4 +1,4 @@
-use Rattle.std.proofs.Common.{◌≤◌, drop, ◌↔◌}
+use Rattle.std.proofs.Common.{◌≤◌, drop}
 use Rattle.doc_items.specs.Balance.{BalancedFrom}
 use Rattle.doc_items.proofs.document.Document.is_balanced.Given as goal
 
