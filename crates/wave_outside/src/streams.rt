@@ -1,5 +1,5 @@
-// The adapters over std's readers and writers. They tell of their bytes what the reader or writer tells: standard input and
-// output tell nothing.
+// The adapters over std's readers and writers. They tell of their bytes what the reader or writer tells: standard input
+// and output tell nothing.
 ghost use Rattle.std.specs.Prelude.{◌≡◌};
 ghost use Rattle.wave_outside.specs.Streams.{reader_of, writer_of, source_faults, sink_faults};
 
