@@ -1,0 +1,11 @@
+pub mod Component
+pub mod Cut
+pub mod Edit
+pub mod Lines
+pub mod Machine
+pub mod Message
+pub mod Output
+pub mod Pipe
+pub mod Reply
+pub mod Run
+pub mod Words

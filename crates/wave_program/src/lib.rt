@@ -1,0 +1,23 @@
+//! The program's top call: edits of one document in, one JSON line each, and their answers out.
+//!
+//! A byte goes from the source through `pipe` (a chunk at a time), `cut` (lines), `message` and `component` (JSON),
+//! `machine` (the document) and `reply` (JSON) to `output` and the sink.
+#![tactic(auto)]
+
+mod component;
+mod cut;
+mod machine;
+mod message;
+mod output;
+mod pipe;
+mod reply;
+mod top;
+mod words;
+
+pub use machine::Machine;
+pub use message::MAX_CLIENT;
+pub use reply::Reply;
+pub use top::run;
+
+#[cfg(test)]
+mod tests;
