@@ -3,6 +3,8 @@
 
 mod edit;
 mod spot;
+#[cfg(test)]
+mod tests;
 mod track;
 
 pub use track::Track;

@@ -8,6 +8,9 @@ mod item;
 mod text;
 mod text_map;
 
+#[cfg(test)]
+mod tests;
+
 pub use change::{Boundary, Change, Changes, Keys};
 pub use document::Document;
 pub use item::{Content, Item};

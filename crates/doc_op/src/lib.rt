@@ -8,6 +8,8 @@ mod fault;
 mod keys;
 mod op;
 mod running;
+#[cfg(test)]
+mod tests;
 
 pub use builder::Builder;
 pub use component::Component;

@@ -4,6 +4,8 @@
 mod demand;
 mod fault;
 mod rebuild;
+#[cfg(test)]
+mod tests;
 mod validity;
 mod walk;
 

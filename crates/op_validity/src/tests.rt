@@ -1,0 +1,155 @@
+use crate::{CheckFault, apply, check};
+use doc_items::{Attributes, Boundary, Change, Changes, Content, Document, Keys, Text};
+use doc_op::{Builder, Component, DocOp, OpFault};
+use std::alloc::{AllocError, Global};
+use std::test::Fail;
+
+fn text(alloc: Global, text: &str) -> Result<Text, AllocError> {
+    Text::from_str(alloc, text)
+}
+
+// An attribute, an annotation or a value: an empty text stands for an absent one.
+fn value(alloc: Global, text: &str) -> Result<Option<Text>, AllocError> {
+    if text.is_empty() {
+        return Ok(None);
+    }
+    Ok(Some(Text::from_str(alloc, text)?))
+}
+
+fn change(alloc: Global, key: &str, old: &str, new: &str) -> Result<Changes, AllocError> {
+    let mut list = Vec::new(alloc);
+    list.push(Change {
+        key: Text::from_str(alloc, key)?,
+        old: value(alloc, old)?,
+        new: value(alloc, new)?,
+    })?;
+    Ok(Changes::from_vec(list))
+}
+
+fn boundary(alloc: Global, key: &str, old: &str, new: &str) -> Result<Component, AllocError> {
+    Ok(Component::AnnotationBoundary(Boundary {
+        end: Keys::from_vec(Vec::new(alloc)),
+        change: change(alloc, key, old, new)?,
+    }))
+}
+
+fn attributes(alloc: Global, list: &[(&str, &str)]) -> Result<Attributes, AllocError> {
+    let mut attributes = Attributes::new(alloc);
+    for (key, value) in list {
+        attributes.set(alloc, key, Some(value))?;
+    }
+    Ok(attributes)
+}
+
+fn operation<const N: usize>(alloc: Global, components: [Component; N]) -> Result<DocOp, OpFault> {
+    let mut builder = Builder::new(alloc);
+    let components = match Vec::from_array(alloc, components) {
+        Ok(components) => components,
+        Err(failed) => return Err(AllocError::from(failed).into()),
+    };
+    for component in components {
+        builder.add(alloc, component)?;
+    }
+    Ok(builder.finish())
+}
+
+// Each character with its annotation `bold`, `<` and its attribute `a` for a start, `>` for an end.
+fn shown(alloc: Global, document: &Document) -> Result<String, AllocError> {
+    let mut shown = String::new(alloc);
+    for item in document.as_slice() {
+        match &item.content {
+            Content::Character(c) => shown.push(*c)?,
+            Content::Start { attributes, .. } => {
+                shown.push('<')?;
+                shown.push_str(attributes.get("a").unwrap_or(""))?;
+            }
+            Content::End => shown.push('>')?,
+        }
+        shown.push_str(item.notes.get("bold").unwrap_or(""))?;
+    }
+    Ok(shown)
+}
+
+#[test]
+fn annotations_are_checked_and_changed(rt: HostRuntime) -> Result<(), Fail> {
+    let alloc = rt.alloc();
+    let mut document = Document::new(alloc);
+    let ab = Component::Characters(text(alloc, "ab")?);
+    apply(alloc, &operation(alloc, [ab])?, &mut document)?;
+    let bold = boundary(alloc, "bold", "", "1")?;
+    let embolden = operation(alloc, [bold, Component::Retain(2)])?;
+    apply(alloc, &embolden, &mut document)?;
+    assert_eq!(rt; shown(alloc, &document)?.as_str(), "a1b1");
+    assert_eq!(rt;
+        apply(alloc, &embolden, &mut document),
+        Err(CheckFault::Mismatch(0))
+    );
+    // A change that keeps the value is checked too.
+    let kept = boundary(alloc, "bold", "2", "2")?;
+    let wrong = operation(alloc, [Component::Retain(1), kept, Component::Retain(1)])?;
+    assert_eq!(rt;
+        check(alloc, &wrong, &document),
+        Err(CheckFault::Mismatch(1))
+    );
+    // A deletion names the running keys.
+    let named = boundary(alloc, "bold", "1", "")?;
+    let b = Component::DeleteCharacters(text(alloc, "b")?);
+    apply(
+        alloc,
+        &operation(alloc, [Component::Retain(1), named, b])?,
+        &mut document,
+    )?;
+    assert_eq!(rt; shown(alloc, &document)?.as_str(), "a1");
+    Ok(())
+}
+
+#[test]
+fn elements_are_checked_and_changed(rt: HostRuntime) -> Result<(), Fail> {
+    let alloc = rt.alloc();
+    let mut document = Document::new(alloc);
+    let start = Component::ElementStart {
+        kind: text(alloc, "p")?,
+        attributes: attributes(alloc, &[("a", "1"), ("b", "2")])?,
+    };
+    let element = operation(alloc, [start, Component::ElementEnd])?;
+    apply(alloc, &element, &mut document)?;
+    let update = Component::UpdateAttributes(change(alloc, "a", "1", "9")?);
+    apply(
+        alloc,
+        &operation(alloc, [update, Component::Retain(1)])?,
+        &mut document,
+    )?;
+    assert_eq!(rt; shown(alloc, &document)?.as_str(), "<9>");
+    let replace = Component::ReplaceAttributes {
+        old: attributes(alloc, &[("a", "9"), ("b", "2")])?,
+        new: attributes(alloc, &[("a", "3")])?,
+    };
+    let replaced = operation(alloc, [replace, Component::Retain(1)])?;
+    apply(alloc, &replaced, &mut document)?;
+    assert_eq!(rt; shown(alloc, &document)?.as_str(), "<3>");
+    assert_eq!(rt;
+        check(alloc, &replaced, &document),
+        Err(CheckFault::Mismatch(0))
+    );
+    let deletion = Component::DeleteElementStart {
+        kind: text(alloc, "p")?,
+        attributes: attributes(alloc, &[("a", "3")])?,
+    };
+    let open = operation(alloc, [deletion, Component::Retain(1)])?;
+    assert_eq!(rt;
+        check(alloc, &open, &document),
+        Err(CheckFault::NotStructured(1))
+    );
+    let long = operation(alloc, [Component::Retain(3)])?;
+    assert_eq!(rt;
+        apply(alloc, &long, &mut document),
+        Err(CheckFault::WrongLength)
+    );
+    let short = operation(alloc, [Component::Retain(1)])?;
+    assert_eq!(rt;
+        apply(alloc, &short, &mut document),
+        Err(CheckFault::WrongLength)
+    );
+    assert_eq!(rt; shown(alloc, &document)?.as_str(), "<3>");
+    Ok(())
+}
