@@ -1,0 +1,5 @@
+pub mod File
+pub mod Journal
+pub mod Shape
+pub mod Stage
+pub mod Stored
