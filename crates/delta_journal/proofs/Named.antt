@@ -1,10 +1,13 @@
 -- A file has one name or none, or its header is broken.
-use Rattle.std.proofs.Common.{◌≡◌, ◌≢◌, ℕ, ◌+◌, ◌^◌, ◌<◌, ◌≤◌, inl, inr, List, [], ◌∷◌, ◌++◌, length, take, drop, refl, sym, ◌∙◌, ap, subst, arith, append_assoc, length-append}
-use Rattle.std.specs.Prelude.{Option, Some, None}
-use Rattle.std.proofs.lemmas.List.{take_at, drop_at}
+use Rattle.std.proofs.Common.{◌≡◌, ◌≢◌, ℕ, ◌+◌, ◌^◌, ◌<◌, ◌≤◌, ◌-◌, min, inl, inr, List, [], ◌∷◌, ◌++◌, length, take, drop, get_or, refl, sym, ◌∙◌, ap, subst, arith, append_assoc, length-append, length-drop, take-append-drop}
+use Rattle.std.specs.Prelude.{Option, Some, None, codes}
+use Rattle.std.proofs.lemmas.List.{take_at, drop_at, take_all, drop_more, length-take-le}
+use Rattle.std.proofs.lemmas.Bool.{cases_eq}
 use Rattle.std.proofs.lemmas.Nat.{from_be_bytes-to_be_bytes_4}
 use Rattle.std.specs.Int.{w32, to_be_bytes, from_be_bytes}
 use Rattle.delta_journal.specs.File.{Closed, HasNoHeader, HasName, HasBrokenHeader, IsWhole, NamedOnce, header}
+use Rattle.delta_journal.specs.Name.{TellsName, named_front}
+use Rattle.delta_journal.specs.declared.name.Header.TheVariants.{Named}
 
 header_once : (name other p q : List ℕ) → length name < 2 ^ 32 → length other < 2 ^ 32 → header name ++ p ≡ header other ++ q → name ≡ other
 header_once name other p q short short_too e =
@@ -38,3 +41,25 @@ not_broken file (Some name) (rest, is, short, whole) (rest_too, is_too, two, bro
 
 pub named_once : NamedOnce
 named_once = record { one = one_name; not_broken = not_broken }
+
+-- the first bytes as they are read
+pub front_is : (count size : ℕ) (file read bytes front : List ℕ) → count ≡ min size 13 → size ≡ length file → read ≡ file → bytes ≡ take count (drop 0 read) → front ≡ bytes → front ≡ take 13 file
+front_is count size file read bytes front least whole same read_is is = is ∙ read_is ∙ ap (λ (l : List ℕ). take count l) same ∙ ap (λ (n : ℕ). take n file) least ∙ elim (cases_eq (min size 13) 13) [
+  | inl all ↦ ap (λ (n : ℕ). take n file) all
+  | inr few ↦ let short : length file ≤ 13 = omega (arith, few, whole) in let least_is : length file ≤ min size 13 = omega (arith, few, whole) in take_all (min size 13) file least_is ∙ sym (take_all 13 file short)
+]
+
+-- the name as it is read
+pub name_is : (count : ℕ) (file name : List ℕ) → count < 2 ^ 32 → TellsName (Named count) file → name ≡ take count (drop 13 file) → HasName (Some name) file
+name_is count file name short (room, front) is =
+    let behind = drop 13 file in
+    let long : length behind ≡ length file - 13 = length-drop 13 file in
+    let size : length name ≡ count = ap length is ∙ length-take-le count behind (omega (arith, long, room)) in
+    let more : drop count behind ≡ get_or behind count 0 ∷ drop (count + 1) behind = drop_more behind count 0 (omega (arith, long, room)) in
+    let split : behind ≡ name ++ get_or behind count 0 ∷ drop (count + 1) behind =
+    sym (take-append-drop count behind) ∙ ap (λ (l : List ℕ). l ++ drop count behind) (sym is) ∙ ap (λ (l : List ℕ). name ++ l) more in
+    let whole : file ≡ named_front count ++ behind = sym (take-append-drop 13 file) ∙ ap (λ (l : List ℕ). l ++ behind) front in
+    let rest = (codes "WAVEJNL1" ++ to_be_bytes w32 count) ++ behind in
+    let is_header : rest ≡ header name ++ get_or behind count 0 ∷ drop (count + 1) behind =
+    ap (λ (n : ℕ). (codes "WAVEJNL1" ++ to_be_bytes w32 n) ++ behind) (sym size) ∙ ap (λ (l : List ℕ). (codes "WAVEJNL1" ++ to_be_bytes w32 (length name)) ++ l) split in
+    (rest, whole, omega (arith, size, short), (get_or behind count 0, drop (count + 1) behind, is_header))

@@ -16,4 +16,5 @@ pub use fault::JournalFault;
 pub use journal::Journal;
 pub use laws::{file_means_once, file_named_once};
 pub use load::{Loaded, Unloaded};
+pub use name::stored_name;
 pub use stored::{Bytes, Stored, StoredRecords};
