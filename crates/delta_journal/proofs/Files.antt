@@ -1,11 +1,11 @@
 -- What each write leaves of a file, whole or torn.
-use Rattle.std.proofs.Common.{◌≡◌, ◌≢◌, ◌⊎◌, inl, inr, ℕ, ◌+◌, ◌<◌, ◌≤◌, List, [], ◌∷◌, ◌++◌, length, get_or, take, drop, refl, sym, ◌∙◌, ap, subst, arith, append_assoc, length-append, length-drop}
+use Rattle.std.proofs.Common.{◌≡◌, ◌⊎◌, inl, inr, ℕ, ◌+◌, ◌<◌, ◌≤◌, List, [], ◌∷◌, ◌++◌, length, get_or, take, drop, refl, sym, ◌∙◌, ap, subst, arith, append_assoc, length-append}
 use Rattle.std.proofs.lemmas.List.{take_at, drop_at, drop_more, length-take-le}
 use Rattle.std.proofs.lemmas.Bool.{cases_eq}
-use Rattle.disk_model.specs.Disk.{DiskView, IsClocked, Elapses, IsUntouched, IsWritten, LeavesJust, Kept, LeavesOnly, Torn, overwritten}
+use Rattle.disk_model.specs.Disk.{DiskView, IsClocked, Elapses, IsUntouched, IsWritten, LeavesJust, Kept, Torn, overwritten}
 use Rattle.disk_model.proofs.Moments.{started, goes_on, kept_write, kept_same, kept_synced}
 use Rattle.delta_journal.specs.File.{Closed}
-use Rattle.delta_journal.specs.Shape.{Shape, no_gate, shut_gate, any_gate, HasShape, Spares, Stays, IsBlank, Staged}
+use Rattle.delta_journal.specs.Shape.{Shape, no_gate, shut_gate, any_gate, HasShape, Spares, Stays, Staged}
 
 -- up to a gate and with it
 upto : (front : List ℕ) (gate : ℕ) (tail file : List ℕ) → file ≡ front ++ gate ∷ tail → take (length front + 1) file ≡ front ++ gate ∷ []

@@ -1,11 +1,11 @@
 -- A file has one name or none, or its header is broken.
-use Rattle.std.proofs.Common.{◌≡◌, ◌≢◌, ℕ, ◌+◌, ◌^◌, ◌<◌, ◌≤◌, ◌-◌, min, inl, inr, List, [], ◌∷◌, ◌++◌, length, take, drop, get_or, refl, sym, ◌∙◌, ap, subst, arith, append_assoc, length-append, length-drop, take-append-drop}
+use Rattle.std.proofs.Common.{◌≡◌, ℕ, ◌+◌, ◌^◌, ◌<◌, ◌≤◌, ◌-◌, min, inl, inr, List, ◌∷◌, ◌++◌, length, take, drop, get_or, refl, sym, ◌∙◌, ap, subst, arith, length-append, length-drop, take-append-drop}
 use Rattle.std.specs.Prelude.{Option, Some, None, codes}
-use Rattle.std.proofs.lemmas.List.{take_at, drop_at, take_all, drop_more, length-take-le}
+use Rattle.std.proofs.lemmas.List.{take_at, take_all, drop_more, length-take-le}
 use Rattle.std.proofs.lemmas.Bool.{cases_eq}
 use Rattle.std.proofs.lemmas.Nat.{from_be_bytes-to_be_bytes_4}
 use Rattle.std.specs.Int.{w32, to_be_bytes, from_be_bytes}
-use Rattle.delta_journal.specs.File.{Closed, HasNoHeader, HasName, HasBrokenHeader, IsWhole, NamedOnce, header}
+use Rattle.delta_journal.specs.File.{HasNoHeader, HasName, HasBrokenHeader, IsWhole, NamedOnce, header}
 use Rattle.delta_journal.specs.Name.{TellsName, named_front}
 use Rattle.delta_journal.specs.declared.name.Header.TheVariants.{Named}
 

@@ -1,10 +1,10 @@
 -- A file means one thing.
-use Rattle.std.proofs.Common.{◌≡◌, ◌≢◌, ◌⊎◌, inl, inr, ℕ, ◌+◌, ◌^◌, ◌<◌, ◌≤◌, List, [], ◌∷◌, ◌++◌, length, take, drop, refl, sym, ◌∙◌, ap, subst, arith, append_assoc, length-append}
+use Rattle.std.proofs.Common.{◌≡◌, ◌≢◌, inl, inr, ℕ, ◌+◌, ◌^◌, ◌<◌, List, [], ◌∷◌, ◌++◌, length, take, drop, refl, sym, ◌∙◌, ap, subst, arith, append_assoc, length-append}
 use Rattle.std.proofs.lemmas.List.{take_at, drop_at}
 use Rattle.std.proofs.lemmas.Nat.{from_be_bytes-to_be_bytes_8}
 use Rattle.std.specs.Int.{w64, to_be_bytes, from_be_bytes}
-use Rattle.delta_journal.specs.File.{Closed, StandsFor, HasNoHeader, IsWhole, HasNoRecord, HasOtherHeader, HasTornRecord, IsTornFrom, IsDamaged, Means, MeansOnce, header, framed, blocks, opened}
-use Rattle.std.specs.Prelude.{Result, Ok, Err}
+use Rattle.delta_journal.specs.File.{Closed, StandsFor, HasNoHeader, IsWhole, HasNoRecord, HasOtherHeader, HasTornRecord, IsTornFrom, IsDamaged, MeansOnce, header, framed, blocks, opened}
+use Rattle.std.specs.Prelude.{Ok, Err}
 
 framed_once : (x y p q : List ℕ) → length x < 2 ^ 64 → length y < 2 ^ 64 → framed x ++ p ≡ framed y ++ q → (x ≡ y) × (p ≡ q)
 framed_once x y p q lx ly e =

@@ -1,5 +1,5 @@
 -- A block is put behind a closed gate, and then the gate is opened.
-use Rattle.std.proofs.Common.{◌≡◌, inl, inr, ℕ, ◌+◌, List, [], ◌∷◌, ◌++◌, length, refl, ap, subst, ◌∙◌}
+use Rattle.std.proofs.Common.{◌≡◌, inl, ℕ, ◌+◌, List, [], ◌∷◌, ◌++◌, length, refl, ap, subst, ◌∙◌}
 use Rattle.disk_model.specs.Disk.{DiskView, Kept, LeavesOnly, overwritten}
 use Rattle.disk_model.proofs.Moments.{joined, weaker, kept_weaker}
 use Rattle.delta_journal.specs.File.{Closed}

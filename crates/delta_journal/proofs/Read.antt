@@ -1,5 +1,5 @@
 -- Records that are read one behind the other.
-use Rattle.std.proofs.Common.{◌≡◌, ℕ, ◌+◌, List, [], ◌∷◌, ◌++◌, length, refl, sym, ◌∙◌, ap, subst, arith, append_assoc, length-append}
+use Rattle.std.proofs.Common.{◌≡◌, ℕ, ◌+◌, List, [], ◌∷◌, ◌++◌, length, refl, sym, ◌∙◌, ap, arith, append_assoc, length-append}
 use Rattle.delta_journal.specs.File.{framed, blocks}
 use Rattle.delta_journal.specs.Stored.{bytes_of, StandFrom}
 use Rattle.delta_journal.specs.declared.stored.Stored.{Stored}

@@ -1,12 +1,12 @@
 -- What a journal's file stands for at each stage.
-use Rattle.std.proofs.Common.{◌≡◌, ◌≢◌, ◌⊎◌, inl, inr, ℕ, ◌+◌, List, [], ◌∷◌, ◌++◌, length, true, false, refl, sym, ◌∙◌, ap, subst, arith, append_assoc, length-append}
+use Rattle.std.proofs.Common.{◌≡◌, ◌⊎◌, inl, inr, ℕ, ◌+◌, List, [], ◌∷◌, ◌++◌, length, true, false, refl, sym, ◌∙◌, ap, subst, arith, append_assoc, length-append}
 use Rattle.std.specs.Prelude.{Result, Ok, Err, OnErr}
 use Rattle.std.proofs.lemmas.List.{append-nil}
-use Rattle.disk_model.specs.Disk.{DiskView, Kept, LeavesOnly, overwritten}
+use Rattle.disk_model.specs.Disk.{DiskView, Kept, overwritten}
 use Rattle.disk_model.proofs.Moments.{kept_weaker}
 use Rattle.disk_model.specs.declared.disk.Disk.{Ghosts}
 use Rattle.delta_journal.specs.File.{Closed, StandsFor, StandsForEither, header, framed, blocks, opened}
-use Rattle.delta_journal.specs.Shape.{IsBlank, Staged, HasShape, Spares}
+use Rattle.delta_journal.specs.Shape.{Staged, HasShape, Spares}
 use Rattle.delta_journal.specs.Stage.{IsEmptyAt, IsBlock, HasBlock, front_at, shape_at, left_over_at, record_in, is_unsure_at, repaired_at}
 use Rattle.delta_journal.specs.Journal.{IsJournal, on_disk, left_over}
 use Rattle.delta_journal.specs.declared.journal.Journal.{Journal}

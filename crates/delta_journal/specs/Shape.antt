@@ -1,6 +1,6 @@
 -- The shapes that a journal's file has from one write to the next, and the writes that leave each. `HasShape` says
 -- what a shape is, `Spares` which writes, whole or torn, a file of that shape keeps it under.
-use Rattle.std.specs.Prelude.{◌≡◌, ℕ, ◌+◌, ◌<◌, List, [], ◌∷◌, ◌++◌, length}
+use Rattle.std.specs.Prelude.{◌≡◌, ℕ, ◌+◌, ◌<◌, List, ◌∷◌, ◌++◌, length}
 use Rattle.disk_model.specs.Disk.{DiskView, Kept, LeavesOnly}
 use Rattle.delta_journal.specs.File.{Closed}
 

@@ -68,10 +68,7 @@ fn header_in(front: &[u8], size: u64) -> Header
 /// The name in the header of a disk's file, as it is read: none exactly where the file stands for no header.
 /// `Damaged` at offset 0 exactly where the header behind an open gate is no name's, and `DiskFault` where the disk
 /// failed.
-pub fn stored_name<K: Disk>(
-    alloc: Global,
-    disk: &mut K,
-) -> Result<Option<Vec<u8>>, JournalFault>
+pub fn stored_name<K: Disk>(alloc: Global, disk: &mut K) -> Result<Option<Vec<u8>>, JournalFault>
     ensures name { IfOk result (λ found. IsTrue K.tells → MatchOption found (HasNoHeader (K.view disk.old).seen) (λ name. HasName (Some name.items) (K.view disk.old).seen)) }
     ensures short { IfOk result (λ found. IfSome found (λ name. length name.items < 2 ^ 32)) }
     ensures damaged { IfErr result (λ e. (offset : ℕ) → e ≡ JournalFault.Damaged offset → (offset ≡ 0) × (IsTrue K.tells → HasBrokenHeader (K.view disk.old).seen)) }

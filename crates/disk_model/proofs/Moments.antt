@@ -1,5 +1,5 @@
 -- How a run of disk calls goes on.
-use Rattle.std.proofs.Common.{◌≡◌, inl, inr, ⊎_elim, ℕ, ◌≤◌, List, sym, subst, arith}
+use Rattle.std.proofs.Common.{◌≡◌, inl, inr, ⊎_elim, ℕ, List, sym, subst, arith}
 use Rattle.disk_model.specs.Disk.{DiskView, Elapses, IsUntouched, IsClocked, LeavesOnly, LeavesJust, Kept, Torn, IsWritten}
 
 -- before the first call

@@ -1,12 +1,12 @@
 -- One more step joins those that a `MemoryDisk` keeps.
-use Rattle.std.proofs.Common.{◌≡◌, ◌≢◌, inl, inr, ℕ, ◌+◌, ◌<◌, ◌≤◌, List, [], ◌∷◌, ◌++◌, length, get_or, take, Option, Vec, sym, ap, ◌∙◌, subst, refl, arith, length-append}
-use Rattle.std.proofs.lemmas.List.{take_all, take-append-le, take_more}
+use Rattle.std.proofs.Common.{◌≡◌, ◌≢◌, inl, inr, ℕ, ◌+◌, ◌≤◌, List, [], ◌∷◌, ◌++◌, length, take, Option, Vec, sym, ap, ◌∙◌, subst, refl, arith, length-append}
+use Rattle.std.proofs.lemmas.List.{take_all, take-append-le}
 use Rattle.std.proofs.lemmas.Bool.{cases_eq}
 use Rattle.std.specs.declared.alloc.Global.{Global}
-use Rattle.disk_model.specs.Disk.{Torn, IsWritten, LeavesJust, Elapses, overwritten}
+use Rattle.disk_model.specs.Disk.{Torn, Elapses}
 use Rattle.disk_model.specs.Memory.{view_of}
 use Rattle.disk_model.proofs.Torn.{torn_same}
-use Rattle.disk_model.specs.Steps.{file_step, file_after, file_before, left_step, left_after, left_of, since_of}
+use Rattle.disk_model.specs.Steps.{file_step, file_after, file_before, left_step, left_after, left_of}
 use Rattle.disk_model.specs.declared.memory.Step.{Step}
 use Rattle.disk_model.specs.declared.memory.Step.TheVariants.{Wrote, Synced}
 

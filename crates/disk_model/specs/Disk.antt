@@ -2,7 +2,7 @@
 -- disk means at one moment, `overwritten` and `Torn` are a write that is whole and one that isn't, `Elapses`,
 -- `IsUntouched` and `HasCause` say what a call may do, `IsClocked` is the law of the clock, and `LeavesOnly`,
 -- `Kept`, `OnlyRead` are the words of the crates above.
-use Rattle.std.specs.Prelude.{◌≡◌, ◌⊎◌, ℕ, ◌+◌, ◌-◌, ◌^◌, ◌<◌, ◌≤◌, min, max, List, ◌++◌, length, take, drop, Result, OnErr}
+use Rattle.std.specs.Prelude.{◌≡◌, ◌⊎◌, ℕ, ◌+◌, ◌-◌, ◌^◌, ◌≤◌, min, max, List, ◌++◌, length, take, drop, Result, OnErr}
 
 -- what a disk means at one moment
 pub record DiskView : Type 1 where

@@ -1,5 +1,5 @@
 -- What a `MemoryDisk` means: `disk_view` as a disk, `chosen_image` as the image of a choice.
-use Rattle.std.specs.Prelude.{◌≡◌, ℕ, ◌^◌, ◌<◌, ◌≤◌, true, IsTrue, List, length, take, refl}
+use Rattle.std.specs.Prelude.{ℕ, ◌^◌, ◌<◌, true, IsTrue, List, length}
 use Rattle.std.proofs.Common.{subst, sym, arith}
 use Rattle.std.proofs.lemmas.List.{take_all}
 use Rattle.disk_model.specs.Disk.{DiskView, IsClocked}

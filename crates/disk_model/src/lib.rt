@@ -9,3 +9,6 @@ mod steps;
 
 pub use disk::{Disk, DiskError, DiskFault};
 pub use memory::MemoryDisk;
+
+#[cfg(test)]
+mod tests;

@@ -1,4 +1,4 @@
-use Rattle.std.proofs.Common.{◌≡◌, ◌+◌, List, ℕ, [], ◌∷◌, ◌++◌, length, ap, sym, ◌∙◌, subst, arith}
+use Rattle.std.proofs.Common.{◌≡◌, List, ℕ, [], ◌∷◌, ◌++◌, length, ap, sym, ◌∙◌, subst, arith}
 use Rattle.delta_journal.specs.File.{blocks}
 use Rattle.delta_journal.specs.Stored.{bytes_of, StandFrom}
 use Rattle.delta_journal.specs.declared.stored.Stored.{Stored}

@@ -1,7 +1,7 @@
-use Rattle.std.proofs.Common.{◌≡◌, List, ℕ, ◌+◌, [], ◌∷◌, ◌++◌, length, ap, ◌∙◌, subst, arith}
+use Rattle.std.proofs.Common.{◌≡◌, List, ℕ, ◌+◌, [], ◌∙◌, subst, arith}
 use Rattle.disk_model.specs.Disk.{Kept}
 use Rattle.disk_model.proofs.Moments.{weaker}
-use Rattle.delta_journal.specs.File.{Closed, header, opened}
+use Rattle.delta_journal.specs.File.{Closed, header}
 use Rattle.delta_journal.specs.Shape.{Staged}
 use Rattle.delta_journal.proofs.Puts.{put_moments, put_opened, put_stays}
 use Rattle.delta_journal.proofs.Stages.{header_stands, opened-none, place_headed, shut_file, shut_none, shut_place}

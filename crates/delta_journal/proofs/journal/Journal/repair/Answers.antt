@@ -1,4 +1,4 @@
-use Rattle.std.proofs.Common.{List, ℕ, length, sym, ◌∙◌, ap, subst}
+use Rattle.std.proofs.Common.{length, sym, ◌∙◌, ap, subst}
 use Rattle.disk_model.specs.Disk.{Kept}
 use Rattle.disk_model.proofs.Moments.{weaker}
 use Rattle.delta_journal.specs.Shape.{HasShape}

@@ -1,10 +1,8 @@
-use Rattle.std.proofs.Common.{List, ℕ, length, refl, ◌∙◌, ap, sym, subst}
+use Rattle.std.proofs.Common.{List, ℕ, ◌∙◌, ap, sym}
 use Rattle.disk_model.specs.Disk.{overwritten}
-use Rattle.disk_model.specs.Steps.{left_of}
-use Rattle.disk_model.specs.declared.memory.Step.{Step}
 use Rattle.disk_model.specs.declared.memory.Step.TheVariants.{Wrote}
 use Rattle.disk_model.proofs.Pushed.{crash_write, crash_none, time_push, whole_after}
-use Rattle.disk_model.proofs.Torn.{torn_none, torn_same, torn_overwritten}
+use Rattle.disk_model.proofs.Torn.{torn_none, torn_same}
 use Rattle.disk_model.proofs.calls.MemoryDiskDisk.write_at.Goals as goal
 
 pub returns-in_err-call-clause-torn : goal.returns-in_err-call-clause-torn
