@@ -1,20 +1,16 @@
 // Adding a record.
-ghost use Rattle.std.specs.Prelude.{◌≡◌, ◌⊎◌, ◌+◌, ◌^◌, ◌<◌, ◌≤◌, List, ℕ, [], ◌∷◌, ◌++◌, length, false, IfOk, OnOk, OnErr, IsErrOf};
+ghost use Rattle.std.specs.Prelude.{◌≡◌, ◌⊎◌, ◌+◌, ◌≤◌, ℕ, [], ◌∷◌, ◌++◌, length, false, IfOk, OnOk, OnErr, IsErrOf};
 ghost use Rattle.disk_model.specs.Disk.{LeavesOnly, HasCause, Rose};
-ghost use Rattle.delta_journal.specs.File.{StandsFor, StandsForEither, framed};
+ghost use Rattle.delta_journal.specs.File.{StandsFor, StandsForEither};
 ghost use Rattle.delta_journal.specs.Stage.{record_in, IsBlock};
-ghost use Rattle.delta_journal.specs.Journal.{IsJournal, WhereHeld, EachImage, disk_of, on_disk, left_over, needs_repair};
+ghost use Rattle.delta_journal.specs.Journal.{IsJournal, WhereHeld, EachImage, on_disk, left_over, needs_repair};
 ghost use Rattle.delta_journal.specs.declared.stage.Stage.TheVariants.{Blank, Shut, Headed};
 
-use crate::stage::Stage;
+use crate::stage::{CLOSED, OPEN, Stage};
 use crate::write::write_through;
 use crate::{Journal, JournalFault};
 use disk_model::{Disk, DiskFault};
 use std::alloc::{AllocError, Global};
-
-const CLOSED: u8 = 0;
-
-const OPEN: u8 = 1;
 
 // The block of a record: its length, its bytes and a closed gate.
 fn block_of(alloc: Global, bytes: &[u8]) -> Result<Vec<u8>, AllocError>
@@ -127,41 +123,5 @@ impl<K: Disk> Journal<K> {
         self.write_header()?;
         self.add(block)?;
         Ok(())
-    }
-
-    /// Closes the gate again that an append may have opened, and syncs. With nothing to repair it does nothing.
-    ///
-    /// At `Ok` each image stands for the records from before that append. At `DiskFault` a repair is still pending.
-    pub fn repair(&mut self) -> Result<(), DiskFault>
-        ensures any_moment { WhereHeld self.old (λ name records. LeavesOnly (on_disk self.old) (on_disk self.new) (StandsForEither name records (left_over self.old))) }
-        ensures held { WhereHeld self.old (λ name records. IsJournal name records self.new) }
-
-        ensures every_image { OnOk result (WhereHeld self.old (λ name records. EachImage self.new (StandsFor name records))) }
-        ensures done { OnOk result (needs_repair self.new ≡ false) }
-
-        ensures left_over { OnErr result (left_over self.new ≡ left_over self.old) }
-        ensures pending { OnErr result (needs_repair self.new ≡ needs_repair self.old) }
-        ensures cause { HasCause (on_disk self.old) (on_disk self.new) result }
-    {
-        let Some(stage) = self.stage.repaired() else {
-            return Ok(());
-        };
-        write_through(&mut self.disk, self.place, &[CLOSED])?;
-        self.stage = stage;
-        Ok(())
-    }
-
-    /// Whether a gate may be open that is to be closed before the next record.
-    pub fn needs_repair(&self) -> bool
-        ensures { result ≡ needs_repair self.now }
-    {
-        self.stage.is_unsure()
-    }
-
-    /// Gives the disk.
-    pub fn close(self) -> K
-        ensures { result ≡ disk_of self }
-    {
-        self.disk
     }
 }

@@ -8,6 +8,7 @@ mod laws;
 mod load;
 mod name;
 mod reading;
+mod repair;
 mod stage;
 mod stored;
 mod write;

@@ -1,5 +1,5 @@
 // Starting a journal, and loading one from its disk.
-ghost use Rattle.std.specs.Prelude.{◌≡◌, ◌≢◌, ◌+◌, ◌^◌, ◌<◌, ◌≤◌, List, ℕ, [], ◌∷◌, ◌++◌, length, take, false, IfOk, IfErr, OnOk, IsTrue};
+ghost use Rattle.std.specs.Prelude.{◌≡◌, ◌≢◌, ◌^◌, ◌<◌, ◌≤◌, ℕ, [], ◌∷◌, ◌++◌, length, false, IfOk, IfErr, OnOk, IsTrue};
 ghost use Rattle.disk_model.specs.Disk.{LeavesJust, OnlyRead, Rose};
 ghost use Rattle.delta_journal.specs.File.{StandsFor, IsDamaged, header};
 ghost use Rattle.delta_journal.specs.Shape.{HasShape};
@@ -8,7 +8,7 @@ ghost use Rattle.delta_journal.specs.Stored.{bytes_of, StandFrom};
 ghost use Rattle.delta_journal.specs.Journal.{IsJournal, disk_of, on_disk, needs_repair};
 
 use crate::reading::{Parsed, parse};
-use crate::stage::Stage;
+use crate::stage::{CLOSED, Stage};
 use crate::{Journal, JournalFault, StoredRecords};
 use disk_model::{Disk, DiskError};
 use std::alloc::{AllocError, Global};
@@ -36,7 +36,7 @@ fn header_of(alloc: Global, name: &[u8]) -> Result<Vec<u8>, AllocError>
     header.extend_from_slice(b"WAVEJNL1")?;
     header.extend_from_slice(&(name.len() as u32).to_be_bytes())?;
     header.extend_from_slice(name)?;
-    header.push(0)?;
+    header.push(CLOSED)?;
     Ok(header)
 }
 

@@ -1,5 +1,5 @@
 // The name in a file's header.
-ghost use Rattle.std.specs.Prelude.{◌≡◌, ◌≢◌, ◌+◌, ◌^◌, ◌<◌, ◌≤◌, List, ℕ, [], ◌∷◌, ◌++◌, length, take, drop, codes, IfOk, IfErr, IfSome, MatchOption, MatchResult, Option, IsTrue, Some, None};
+ghost use Rattle.std.specs.Prelude.{◌≡◌, ◌≢◌, ◌+◌, ◌^◌, ◌<◌, ◌≤◌, List, ℕ, ◌++◌, length, take, drop, codes, IfOk, IfErr, IfSome, MatchOption, Option, IsTrue, Some, None};
 ghost use Rattle.std.specs.Int.{w32, to_be_bytes};
 ghost use Rattle.disk_model.specs.Disk.{OnlyRead, Rose};
 ghost use Rattle.delta_journal.specs.File.{HasName, HasNoHeader, HasBrokenHeader, header};

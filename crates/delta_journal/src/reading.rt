@@ -1,5 +1,5 @@
 // What the bytes of a file stand for.
-ghost use Rattle.std.specs.Prelude.{◌≡◌, ◌+◌, ◌^◌, ◌<◌, ◌≤◌, List, ℕ, [], ◌∷◌, ◌++◌, length, false, IfOk, IfErr, MatchOption, ◌≢◌};
+ghost use Rattle.std.specs.Prelude.{◌≡◌, ◌+◌, ◌^◌, ◌<◌, ◌≤◌, ℕ, [], ◌∷◌, ◌++◌, length, false, IfOk, IfErr, MatchOption, ◌≢◌};
 ghost use Rattle.delta_journal.specs.File.{Closed, IsWhole, HasNoRecord, IsTornFrom, IsDamaged, header, framed, blocks};
 ghost use Rattle.delta_journal.specs.Shape.{HasShape};
 ghost use Rattle.delta_journal.specs.Stage.{front_at, shape_at, IsEmptyAt, HasBlock, is_unsure_at, least_length};

@@ -2,6 +2,12 @@
 ghost use Rattle.std.specs.Prelude.{◌≡◌, true, false, IfSome, IfNone, OnSome};
 ghost use Rattle.delta_journal.specs.Stage.{is_unsure_at, repaired_at};
 
+/// The byte of a closed gate that is written. Every other byte but `OPEN` is closed too.
+pub(crate) const CLOSED: u8 = 0;
+
+/// The byte of an open gate.
+pub(crate) const OPEN: u8 = 1;
+
 #[derive(Drop)]
 pub(crate) enum Stage {
     /// There may be no first gate yet.

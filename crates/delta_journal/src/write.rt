@@ -1,5 +1,5 @@
 // One write that is synced.
-ghost use Rattle.std.specs.Prelude.{◌≡◌, ◌+◌, ◌^◌, ◌<◌, ◌≤◌, List, length, IsTrue, OnOk};
+ghost use Rattle.std.specs.Prelude.{◌≡◌, ◌+◌, ◌^◌, ◌<◌, ◌≤◌, length, IsTrue, OnOk};
 ghost use Rattle.disk_model.specs.Disk.{HasCause, Kept, overwritten};
 ghost use Rattle.delta_journal.specs.Shape.{Shape, HasShape, Spares, Stays};
 

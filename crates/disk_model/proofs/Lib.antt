@@ -1,4 +1,4 @@
 mod Chosen
 pub mod Moments
-pub mod Pushed
-pub mod Torn
+mod Pushed
+mod Torn

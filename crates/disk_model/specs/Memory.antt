@@ -1,5 +1,6 @@
--- What a `MemoryDisk` means: `disk_view` as a disk, `chosen_image` as the image of a choice.
-use Rattle.std.specs.Prelude.{ℕ, ◌^◌, ◌<◌, true, IsTrue, List, length}
+-- What a `MemoryDisk` means: `disk_view` as a disk, `chosen_image` as the image of a choice, and which of
+-- its calls are to fail.
+use Rattle.std.specs.Prelude.{ℕ, ◌^◌, ◌<◌, true, IsTrue, Option, List, length}
 use Rattle.std.proofs.Common.{subst, sym, arith}
 use Rattle.std.proofs.lemmas.List.{take_all}
 use Rattle.disk_model.specs.Disk.{DiskView, IsClocked}
@@ -23,6 +24,17 @@ view_of file first steps faults = record {
 
 abbrev pub disk_view : MemoryDisk → DiskView
 disk_view m = view_of m.bytes.items (first_file m) m.steps.items m.faults
+
+-- the numbers of the calls that are to fail, counted from 0; from `first_stopped` on all fail
+abbrev pub failing_calls : MemoryDisk → List ℕ
+failing_calls m = m.failing.items
+
+abbrev pub first_stopped : MemoryDisk → Option ℕ
+first_stopped m = m.stop
+
+-- how many calls were made
+abbrev pub call_count : MemoryDisk → ℕ
+call_count m = m.calls
 
 -- the image that has the i-th write since the last sync exactly where bit i modulo 64 of the choice is set
 abbrev pub chosen_image : MemoryDisk → ℕ → List ℕ

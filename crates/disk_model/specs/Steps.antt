@@ -1,7 +1,9 @@
 -- What steps make of a file: `file_after` is the file, `left_of` are the images that a crash may leave after them,
--- `since_of` those that it might have left since a moment, and `image_from` is the image of a choice.
-use Rattle.std.specs.Prelude.{◌≡◌, ℕ, ◌+◌, ◌-◌, ◌%◌, ◌≤◌, Bool, cond, nat_eq, List, [], ◌∷◌, ◌++◌, length, take, replicate, Option, Some, None, Vec}
+-- `since_of` those that it might have left since a moment, and `image_from` is the image of a choice; and
+-- which calls are to fail.
+use Rattle.std.specs.Prelude.{◌≡◌, ℕ, ◌+◌, ◌-◌, ◌%◌, ◌≤◌, Bool, false, cond, nat_eq, nat_le, ◌||◌, List, [], ◌∷◌, ◌++◌, length, take, replicate, Option, Some, None, Vec}
 use Rattle.std.specs.Int.{bit_at}
+use Rattle.std.specs.List.{list_any}
 use Rattle.std.specs.declared.alloc.Global.{Global}
 use Rattle.disk_model.specs.Disk.{Torn, overwritten}
 use Rattle.disk_model.specs.declared.memory.Step.{Step}
@@ -64,3 +66,12 @@ abbrev pub image_from : ℕ → ℕ → List ℕ → List ℕ → List Step → 
 image_from choice number file image [] = image
 image_from choice number file image (step ∷ steps) =
     image_from choice (next_number number step) (file_step file step) (image_step choice number file image step) steps
+
+-- whether all calls from some number on fail, and this is one of them
+abbrev pub is_stopped : Option ℕ → ℕ → Bool
+is_stopped None number = false
+is_stopped (Some first) number = nat_le first number
+
+-- whether the call of this number is to fail
+abbrev pub is_to_fail : List ℕ → Option ℕ → ℕ → Bool
+is_to_fail failing stop number = is_stopped stop number || list_any (λ n. nat_eq n number) failing

@@ -1,6 +1,7 @@
 // A file in memory as a disk that may fail.
-ghost use Rattle.std.specs.Prelude.{◌≡◌, true, min, ◌+◌, ◌-◌, ◌^◌, ◌≤◌, OnErr};
+ghost use Rattle.std.specs.Prelude.{◌≡◌, true, min, is_err, ◌+◌, ◌-◌, ◌^◌, ◌≤◌, OnErr};
 ghost use Rattle.disk_model.specs.Disk.{LeavesJust};
+ghost use Rattle.disk_model.specs.Steps.{is_to_fail};
 
 use crate::steps::{copy, sync, write};
 use crate::{Disk, DiskError, DiskFault, MemoryDisk};
@@ -15,6 +16,7 @@ fn call(
     calls: &mut u64,
     faults: &mut u64,
 ) -> Result<(), DiskFault>
+    ensures planned { is_err result ≡ is_to_fail failing.now stop calls.old }
     ensures later { faults.old ≤ faults.new }
     ensures failed { OnErr result (min (faults.old + 1) (2 ^ 64 - 1) ≤ faults.new) }
 {
@@ -40,13 +42,16 @@ fn fault(faults: &mut u64) -> DiskFault
 }
 
 impl MemoryDisk {
-    ghost use Rattle.disk_model.specs.Memory.{disk_view};
+    ghost use Rattle.disk_model.specs.Memory.{disk_view, failing_calls, first_stopped, call_count};
 
     /// A file with these bytes, all of them synced, and no fault yet.
     pub fn new(alloc: Global, bytes: Vec<u8>, failing: Vec<u64>, stop: Option<u64>) -> MemoryDisk
         ensures seen { (disk_view result).seen ≡ bytes.items }
         ensures synced { LeavesJust bytes.items (disk_view result) }
         ensures faults { (disk_view result).faults ≡ 0 }
+        ensures failing { failing_calls result ≡ failing.items }
+        ensures stop { first_stopped result ≡ stop }
+        ensures calls { call_count result ≡ 0 }
     {
         MemoryDisk {
             alloc,

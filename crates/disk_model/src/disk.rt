@@ -1,4 +1,4 @@
-ghost use Rattle.std.specs.Prelude.{◌≡◌, ℕ, ◌+◌, ◌^◌, ◌<◌, ◌≤◌, Bool, List, length, take, drop, IfOk, OnOk, OnErr, IsErrOf, IsTrue};
+ghost use Rattle.std.specs.Prelude.{◌≡◌, ◌+◌, ◌^◌, ◌<◌, ◌≤◌, Bool, length, take, drop, IfOk, OnOk, OnErr, IsErrOf, IsTrue};
 ghost use Rattle.disk_model.specs.declared.disk.DiskError.TheVariants.{Failed};
 ghost use Rattle.disk_model.specs.Disk.{DiskView, overwritten, Torn, IsWritten, LeavesJust, Elapses, IsUntouched, HasCause, Rose, IsClocked};
 

@@ -1,5 +1,5 @@
 // What a crash may leave of a file in memory.
-ghost use Rattle.std.specs.Prelude.{◌≡◌, ◌<◌, ◌+◌, ◌^◌, IfOk, OnOk, length};
+ghost use Rattle.std.specs.Prelude.{◌≡◌, ◌<◌, ◌+◌, ◌^◌, IfOk, OnOk};
 ghost use Rattle.disk_model.specs.Steps.{file_step, image_step, next_number, is_chosen};
 
 use crate::MemoryDisk;

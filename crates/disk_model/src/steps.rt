@@ -1,5 +1,5 @@
 // The steps of a file in memory.
-ghost use Rattle.std.specs.Prelude.{◌≡◌, ℕ, ◌-◌, ◌≤◌, List, [], ◌++◌, ◌∷◌, length, replicate, IfOk, OnOk, OnErr};
+ghost use Rattle.std.specs.Prelude.{◌≡◌, ℕ, ◌-◌, ◌≤◌, List, [], ◌++◌, ◌∷◌, length, IfOk, OnOk, OnErr};
 ghost use Rattle.disk_model.specs.Disk.{overwritten};
 ghost use Rattle.disk_model.specs.Steps.{file_before, placed};
 ghost use Rattle.disk_model.specs.declared.memory.Step.TheVariants.{Wrote, Synced};
