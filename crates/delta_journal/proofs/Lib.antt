@@ -1,0 +1,6 @@
+mod Files
+mod Named
+pub mod Once
+mod Puts
+mod Read
+pub mod Stages

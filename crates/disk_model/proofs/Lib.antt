@@ -1,0 +1,4 @@
+mod Chosen
+pub mod Moments
+mod Pushed
+mod Torn
