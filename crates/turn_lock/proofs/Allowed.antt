@@ -1,5 +1,5 @@
 -- What each step needs: whatever the state is, it keeps the rule, and tells what it is to tell.
-use Rattle.std.proofs.Common.{◌≡◌, ◌≢◌, inl, inr, ℕ, ◌+◌, ◌<◌, ◌≤◌, eqb, List, [], ◌∷◌, ◌++◌, length, get_or, sym, refl, ap, ◌∙◌, subst, arith, Option, Some, None, Bool, true, false, MatchBool, IfSome, IfNone, append-nil, eq-eqb, ne_eqb}
+use Rattle.std.proofs.Common.{◌≡◌, ◌≢◌, inl, inr, ℕ, ◌+◌, ◌<◌, ◌≤◌, eqb, List, [], ◌∷◌, ◌++◌, length, get_or, sym, refl, ap, ◌∙◌, subst, arith, Option, Some, None, Bool, true, false, MatchBool, IfSome, IfNone, append-nil, length-append, eq-eqb, ne_eqb}
 use mathlib.Core.Logic.{dite}
 use mathlib.Core.Option.{none, some, some-injective}
 use mathlib.Core.Option as maybe
@@ -15,6 +15,7 @@ use Rattle.turn_lock.specs.declared.view.Stage.TheVariants.{Out, Waits, Turn, In
 use Rattle.turn_lock.specs.Turns.{turn_limit, InTurn, newcomer, nobody, told, longer_of}
 use Rattle.turn_lock.specs.Tells.{TellsTicket, TellsDraw, TellsServing, TellsHead, TellsTaken, TellsGiven, TellsAdded, TellsPublished, TellsPassed, TellsSettled}
 use Rattle.turn_lock.specs.Kinds.{Stands}
+use Rattle.turn_lock.specs.Passes.{IsOneMore}
 use Rattle.turn_lock.proofs.Beginnings.{prefix_more, longer_begins}
 use Rattle.turn_lock.proofs.Keeping.{fits_as, draws_keep, ticket_looks_keep, serving_looks_keep, head_looks_keep, settling_keeps, takes_keep, gives_keep, gives_new_keep, publishing, passing_keeps, splitting_keeps, joining_keeps, opens, empty_inside}
 
@@ -186,6 +187,49 @@ module _ {T E : Type 0} (entries : T → List E) where
   closes_empty id v ws xs n final word some_word = let s = final.0 in let r = final.1.0 in let k = r.1 in let o = k.order.2 in
       let same : k.away ≡ n = some-injective k.away n (sym (ap (λ l. get_elem? l 3) k.words) ∙ (ap (λ l. get_elem? l 3) final.2 ∙ word)) in
       let not_zero : k.away ≢ 0 = λ e. some_word (sym same ∙ e) in let empty : s.homes ≡ none ∷ [] = k.out (omega arith) in (s, r, final.1.1, empty, empty_inside entries s r empty)
+
+  -- what the seat carries once it wrote the value into the slot
+  pub carries : (m m' : M) (t : ℕ) (x : T) → m.1 ≡ (0, None) ∷ [] → m.0.stage ≡ Inside t → m' ≡ sat m.0 ((0, Some x) ∷ rest m.1) → (m'.0.stage ≡ Inside t) × (m'.1 ≡ (0, Some x) ∷ [])
+  carries m m' t x out is wrote = (ap (λ (z : M). z.0.stage) wrote ∙ is, ap (λ (z : M). z.1) wrote ∙ ap (λ (c : List (ℕ × Option T)). (0, Some x) ∷ rest c) out)
+
+  pub may_give : (slots id : ℕ) (m m' : M) (t : ℕ) (x : T) → m.1 ≡ (0, None) ∷ [] → m.0.stage ≡ Inside t → m' ≡ sat m.0 ((0, Some x) ∷ rest m.1) → entries x ≡ m.0.seen
+      → Allows (InTurn entries) slots id m' 3 (λ _. 0) (λ _. TellsGiven (step slots 3 0 0 none) m' 0)
+  may_give slots id m m' t x out is wrote same = let now = carries m m' t x out is wrote in gives_back slots id m' t x now.0 now.1 (same ∙ ap (λ (z : M). z.0.seen) (sym wrote))
+
+  pub may_give_new : (slots id : ℕ) (m m' : M) (t : ℕ) (x : T) → m.1 ≡ (0, None) ∷ [] → m.0.stage ≡ Inside t → m' ≡ sat m.0 ((0, Some x) ∷ rest m.1) → IsOneMore m.0.seen (entries x)
+      → Allows (InTurn entries) slots id m' 3 (λ _. 0) (λ _. TellsAdded entries (step slots 3 0 0 none) m' 0)
+  may_give_new slots id m m' t x out is wrote more = let now = carries m m' t x out is wrote in
+      gives_new slots id m' t x more.0 now.0 now.1 (more.1 ∙ ap (λ (l : List E). l ++ more.0 ∷ []) (ap (λ (z : M). z.0.seen) (sym wrote)))
+
+  -- what the seat knows once it gave the value back with a new entry
+  pub gave_one_more : (slots : ℕ) (m m' m'' : M) (t : ℕ) (x : T) → m.1 ≡ (0, None) ∷ [] → m.0.stage ≡ Inside t → m' ≡ sat m.0 ((0, Some x) ∷ rest m.1) → TellsAdded entries (step slots 3 0 0 none) m' 0 m''
+      → (e : E) × (m''.0.stage ≡ Fresh t e) × (m''.1 ≡ []) × (m''.0.seen ++ e ∷ [] ≡ entries x) × (m''.0.added ≡ m.0.added + 1) × (m''.0.loads ≡ m.0.loads) × (m''.0.ticket ≡ m.0.ticket)
+  gave_one_more slots m m' m'' t x out is wrote tells = let now = carries m m' t x out is wrote in let told = tells t x now.0 now.1 in let e : E = told.0 in let last : m'' ≡ sat (record m'.0 { added = m'.0.added + 1; stage = Fresh t e }) [] = told.2 in (
+    e,
+    ap (λ (z : M). z.0.stage) last,
+    ap (λ (z : M). z.1) last,
+    ap (λ (z : M). z.0.seen ++ e ∷ []) last ∙ sym told.1,
+    ap (λ (z : M). z.0.added) last ∙ ap (λ (z : M). z.0.added + 1) wrote,
+    ap (λ (z : M). z.0.loads) last ∙ ap (λ (z : M). z.0.loads) wrote,
+    ap (λ (z : M). z.0.ticket) last ∙ ap (λ (z : M). z.0.ticket) wrote,
+  )
+
+  pub may_publish : (slots id : ℕ) (m m' m'' : M) (t now : ℕ) (x : T) → m.1 ≡ (0, None) ∷ [] → m.0.stage ≡ Inside t → m' ≡ sat m.0 ((0, Some x) ∷ rest m.1) → TellsAdded entries (step slots 3 0 0 none) m' 0 m'' → now ≡ length (entries x)
+      → Allows (InTurn entries) slots id m'' 2 (λ _. now) (λ _. TellsPublished (step slots 2 now 0 none) m'' now)
+  may_publish slots id m m' m'' t now x out is wrote tells long = let g = gave_one_more slots m m' m'' t x out is wrote tells in
+      let all : length (m''.0.seen ++ g.0 ∷ []) ≡ length (entries x) = ap length g.3 in publishes slots id m'' t now g.0 g.1 (omega (arith, length-append m''.0.seen (g.0 ∷ [])))
+
+  -- what the seat knows once it published
+  pub gave_new_published : (slots : ℕ) (m m' m'' last : M) (t now : ℕ) (x : T) → m.1 ≡ (0, None) ∷ [] → m.0.stage ≡ Inside t → m' ≡ sat m.0 ((0, Some x) ∷ rest m.1) → TellsAdded entries (step slots 3 0 0 none) m' 0 m'' → TellsPublished (step slots 2 now 0 none) m'' now last
+      → (last.1 ≡ []) × (last.0.stage ≡ Gave t) × (last.0.seen ≡ entries x) × (last.0.added ≡ m.0.added + 1) × (last.0.loads ≡ m.0.loads) × (last.0.ticket ≡ m.0.ticket)
+  gave_new_published slots m m' m'' last t now x out is wrote tells published = let g = gave_one_more slots m m' m'' t x out is wrote tells in let e = published t g.0 g.1 in (
+    ap (λ (z : M). z.1) e ∙ g.2,
+    ap (λ (z : M). z.0.stage) e,
+    ap (λ (z : M). z.0.seen) e ∙ g.3,
+    ap (λ (z : M). z.0.added) e ∙ g.4,
+    ap (λ (z : M). z.0.loads) e ∙ g.5,
+    ap (λ (z : M). z.0.ticket) e ∙ g.6,
+  )
 
   -- what a look at the serving word tells a seat that holds no slot
   pub served_or_waits : (P : Type 0) (b : Bool) (m m' : M) (t : ℕ) → P → m.1 ≡ [] → m.0.stage ≡ Waits t → MatchBool b (m' ≡ sat (record m.0 { stage = Turn t }) m.1) (m' ≡ m)

@@ -223,6 +223,19 @@ module _ {T E : Type 0} (entries : T → List E) where
       (λ out. let b = k.busy (omega arith) in let u = b.0 in let i : ℕ = k.turn k.serving in
       let is = busy_inside k.ticket k.serving k.away log k.fresh k.turn i u.seen u.stage b.2 (k.each i u b.1) out in (i, u, is.0, (b.1, is.1)))
 
+  begins : (ticket serving away : ℕ) (log fresh : List E) (turn : ℕ → ℕ) (seat : ℕ) (seen : List E) (st : Stage E) → Fits ticket serving away log fresh turn seat seen st → st ≢ Joined → IsPrefix seen log
+  begins ticket serving away log fresh turn seat seen Out f not_joined = f
+  begins ticket serving away log fresh turn seat seen (Waits t) f not_joined = f.0
+  begins ticket serving away log fresh turn seat seen (Turn t) f not_joined = f.0
+  begins ticket serving away log fresh turn seat seen (Inside t) f not_joined = subst (IsPrefix seen) f.0 (prefix_self seen)
+  begins ticket serving away log fresh turn seat seen (Fresh t e) f not_joined = subst (IsPrefix seen) f.0 (prefix_self seen)
+  begins ticket serving away log fresh turn seat seen (Gave t) f not_joined = subst (IsPrefix seen) f.0 (prefix_self seen)
+  begins ticket serving away log fresh turn seat seen (Told xs) f not_joined = f.0
+  begins ticket serving away log fresh turn seat seen Joined f not_joined = absurd (not_joined refl)
+
+  pub seen_begins : (log : List E) (s : St) (j : ℕ) (v : View E) → Turned entries log s → get_elem? s.views j ≡ some v → v.stage ≢ Joined → IsPrefix v.seen log
+  seen_begins log s j v k at not_joined = begins k.ticket k.serving k.away log k.fresh k.turn j v.seen v.stage (k.each j v at) not_joined
+
   -- The kinds of step.
 
   pub draws_keep : (log : List E) (id : ℕ) (s s' : St) → Turned entries log s → Draws id s s' → Turned entries log s'

@@ -67,12 +67,19 @@ pub record Turned {T E : Type 0} (entries : T → List E) (log : List E) (s : St
   pub away : ℕ
   pub fresh : List E
   pub turn : ℕ → ℕ
+  -- the head word is the length of the history
   pub words : s.words ≡ ticket ∷ serving ∷ length log ∷ away ∷ []
+  -- serving is at most ticket, and ticket at most the limit
   pub order : (serving ≤ ticket) × (ticket ≤ turn_limit) × (away < 2)
+  -- as many tickets are held as were drawn and not yet passed
   pub drawn : held s.views + serving ≡ ticket
+  -- while the value is home its entries are the history, with the entry that is not yet published
   pub home : away ≡ 0 → (x : T) × (s.homes ≡ some (Some x) ∷ []) × (entries x ≡ log ++ fresh)
+  -- while it is out the slot is empty
   pub out : away ≡ 1 → s.homes ≡ none ∷ []
+  -- the seat whose ticket is served has it out, or has the entry to publish
   pub busy : 0 < away + length fresh → (v : View E) × (get_elem? s.views (turn serving) ≡ some v) × IsBusy serving v.stage
+  -- what each seat knows is so
   pub each : (j : ℕ) (v : View E) → get_elem? s.views j ≡ some v → Fits ticket serving away log fresh turn j v.seen v.stage
 
 -- some history meets the rule

@@ -1,10 +1,11 @@
 //! What the rule says, and what each kind of step makes of the history, as laws of their own.
-ghost use Rattle.std.specs.Prelude.{◌≡◌, ◌↔◌, ℕ, List, [], ◌∷◌, ◌++◌, Option, slice_index};
+ghost use Rattle.std.specs.Prelude.{◌≡◌, ◌≢◌, ◌↔◌, ℕ, List, [], ◌∷◌, ◌++◌, Option, slice_index};
+ghost use mathlib.Core.List.{IsPrefix};
 ghost use mathlib.Core.Option.{some, none};
 ghost use lib.ListN.{get_elem?};
 ghost use Rattle.atomic_table.specs.Table.{State};
 ghost use Rattle.turn_lock.specs.declared.view.View.{View};
-ghost use Rattle.turn_lock.specs.declared.view.Stage.TheVariants.{Inside};
+ghost use Rattle.turn_lock.specs.declared.view.Stage.TheVariants.{Inside, Joined};
 ghost use Rattle.turn_lock.specs.Turns.{InTurn, Turned, HasTicket};
 ghost use Rattle.turn_lock.specs.Kinds.{Stands, Draws, LooksAtTicket, LooksAtServing, LooksAtHead, Settles, Takes, GivesBack, GivesNew, Publishes, PassesOn, SplitsSeat, JoinsSeat};
 
@@ -13,6 +14,11 @@ use crate::Logged;
 /// A state has one history.
 pub fn one_history<T: Logged>()
     ensures { (log other : List T.Entry) (s : State (Option T) (View T.Entry)) → Turned T.entries log s → Turned T.entries other s → log ≡ other }
+{}
+
+/// What a seat has seen begins the history, but for a seat that was joined into another.
+pub fn seen_begins_the_history<T: Logged>()
+    ensures { (log : List T.Entry) (s : State (Option T) (View T.Entry)) (i : ℕ) (v : View T.Entry) → Turned T.entries log s → get_elem? s.views i ≡ some v → v.stage ≢ Joined → IsPrefix v.seen log }
 {}
 
 /// No two seats hold one ticket.

@@ -16,8 +16,8 @@ use std::sync::Wait;
 /// The ticket that is no longer drawn.
 const TURN_LIMIT: u64 = 1 << 63;
 
-/// How often a thread whose ticket is the next one looks before it sleeps.
-const LOOKS: u32 = 100;
+/// How often a thread whose ticket is the next one looks before it sleeps: some microseconds long.
+const LOOKS: u32 = 200;
 
 impl Spent {
     /// The ticket word that was read.
