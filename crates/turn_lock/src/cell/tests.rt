@@ -87,7 +87,6 @@ fn both<R: Threads + Wait + Sync>(
     cell: &TurnCell<Marks>,
     one: Pass<Marks>,
     two: Pass<Marks>,
-    mark: u64,
 ) -> (Pass<Marks>, Pass<Marks>)
     requires { IsOf cell.now one × IsOf cell.now two }
     ensures { IsOf cell.now result.0 × IsOf cell.now result.1 }
@@ -97,11 +96,11 @@ fn both<R: Threads + Wait + Sync>(
         || -> Pass<Marks>
             requires { IsOf cell.now one }
             ensures { IsOf cell.entry.now result }
-        { add_many(rt, cell, one, mark) },
+        { add_many(rt, cell, one, 1) },
         || -> Pass<Marks>
             requires { IsOf cell.now two }
             ensures { IsOf cell.entry.now result }
-        { add_many(rt, cell, two, 0) },
+        { add_many(rt, cell, two, 2) },
     )
 }
 
@@ -118,7 +117,7 @@ fn two_threads_beside_one_that_never_enters(rt: HostRuntime) -> Result<(), Fail>
         || -> (Pass<Marks>, Pass<Marks>)
             requires { IsOf shared.now one × IsOf shared.now two }
             ensures { IsOf shared.entry.now result.0 × IsOf shared.entry.now result.1 }
-        { both(&rt, shared, one, two, 1) },
+        { both(&rt, shared, one, two) },
         || -> bool
             requires { IsOf shared.now three }
         { watch(shared, three) },
@@ -127,30 +126,7 @@ fn two_threads_beside_one_that_never_enters(rt: HostRuntime) -> Result<(), Fail>
     cell.join(&mut pass, two);
     assert!(rt; grows && cell.head(&mut pass) == 2 * TURNS);
     let marks = cell.close(pass).expect(&rt, "the slot was empty");
-    assert!(rt; marks.count(0) == TURNS && marks.count(1) == TURNS);
-    Ok(())
-}
-
-#[test]
-fn four_threads(rt: HostRuntime) -> Result<(), Fail> {
-    let list = Vec::new(rt.alloc());
-    let (cell, mut pass) = TurnCell::new(rt.alloc(), Marks { list })?;
-    let one = cell.split(&mut pass);
-    let two = cell.split(&mut pass);
-    let three = cell.split(&mut pass);
-    let four = cell.split(&mut pass);
-    let shared = &cell;
-    join(
-        &rt,
-        || -> (Pass<Marks>, Pass<Marks>)
-            requires { IsOf shared.now one × IsOf shared.now two }
-        { both(&rt, shared, one, two, 1) },
-        || -> (Pass<Marks>, Pass<Marks>)
-            requires { IsOf shared.now three × IsOf shared.now four }
-        { both(&rt, shared, three, four, 2) },
-    );
-    let marks = cell.close(pass).expect(&rt, "the slot was empty");
-    assert!(rt; marks.count(0) == 2 * TURNS && marks.count(1) == TURNS && marks.count(2) == TURNS);
+    assert!(rt; marks.count(1) == TURNS && marks.count(2) == TURNS);
     Ok(())
 }
 
