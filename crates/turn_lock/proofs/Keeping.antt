@@ -203,7 +203,8 @@ module _ {T E : Type 0} (entries : T → List E) where
       (λ home. let a = k.home home in let a' = k'.home (sym away ∙ home) in
       let boxed : some (Some a.0) ≡ some (Some a'.0) = ap (λ (h : Homes). get_or h 0 none) (sym a.1 ∙ a'.1) in
       let same : Some a.0 ≡ Some a'.0 = some-injective (Some a.0) (Some a'.0) boxed in
-      same_front log other k.fresh k'.fresh (sym a.2 ∙ (ap (λ (o : Option T). elim o [ None ↦ entries a.0 | Some y ↦ entries y ]) same ∙ a'.2)) long)
+      let alike : entries a.0 ≡ entries a'.0 = ap (λ (o : Option T). elim o [ None ↦ entries a.0 | Some y ↦ entries y ]) same in
+      let joined : log ++ k.fresh ≡ other ++ k'.fresh = sym a.2 ∙ (alike ∙ a'.2) in same_front log other k.fresh k'.fresh joined long)
       (λ out. busy_one log other s k k' (omega arith) (omega arith))
 
   pub one_inside : (s : St) (i j t u : ℕ) (v w : View E) → InTurn entries s → Stands s i v (Inside t) → Stands s j w (Inside u) → (i ≡ j) × (t ≡ get_or s.words 1 0)
