@@ -1,0 +1,5 @@
+pub mod Turns
+pub mod Tells
+pub mod Kinds
+pub mod Passes
+pub mod Guards
