@@ -7,18 +7,25 @@ fn text(alloc: Global, text: &str) -> Result<Text, AllocError> {
     Text::from_str(alloc, text)
 }
 
-fn keys(alloc: Global, list: &[&str]) -> Result<Keys, AllocError> {
+// Each character is a key.
+fn keys(alloc: Global, list: &str) -> Result<Keys, AllocError> {
     let mut keys = Vec::new(alloc);
-    for key in list {
-        keys.push(Text::from_str(alloc, key)?)?;
+    for c in list.chars() {
+        keys.push(key(alloc, c)?)?;
     }
     Ok(Keys::from_vec(keys))
 }
 
-fn changes(alloc: Global, list: &[&str]) -> Result<Changes, AllocError> {
+fn key(alloc: Global, c: char) -> Result<Text, AllocError> {
+    let mut string = String::new(alloc);
+    string.push(c)?;
+    text(alloc, string.as_str())
+}
+
+fn changes(alloc: Global, list: &str) -> Result<Changes, AllocError> {
     let mut changes = Vec::new(alloc);
-    for key in list {
-        let key = Text::from_str(alloc, key)?;
+    for c in list.chars() {
+        let key = key(alloc, c)?;
         changes.push(Change {
             key,
             old: None,
@@ -28,7 +35,7 @@ fn changes(alloc: Global, list: &[&str]) -> Result<Changes, AllocError> {
     Ok(Changes::from_vec(changes))
 }
 
-fn boundary(alloc: Global, end: &[&str], change: &[&str]) -> Result<Component, AllocError> {
+fn boundary(alloc: Global, end: &str, change: &str) -> Result<Component, AllocError> {
     Ok(Component::AnnotationBoundary(Boundary {
         end: keys(alloc, end)?,
         change: changes(alloc, change)?,
@@ -52,7 +59,7 @@ fn counts_are_limited(rt: HostRuntime) -> Result<(), Fail> {
     let mut builder = Builder::new(alloc);
     let empty = Component::Characters(text(alloc, "")?);
     assert_eq!(rt; answer(alloc, &mut builder, empty)?.as_str(), "ZeroCount");
-    let update = Component::UpdateAttributes(changes(alloc, &[])?);
+    let update = Component::UpdateAttributes(changes(alloc, "")?);
     assert_eq!(rt; answer(alloc, &mut builder, update)?.as_str(), "ZeroCount");
     let retain = Component::Retain(MAX_COUNT);
     assert_eq!(rt; answer(alloc, &mut builder, retain)?.as_str(), "added");
@@ -69,15 +76,15 @@ fn counts_are_limited(rt: HostRuntime) -> Result<(), Fail> {
 fn the_first_bad_key_is_kept(rt: HostRuntime) -> Result<(), Fail> {
     let alloc = rt.alloc();
     let mut builder = Builder::new(alloc);
-    let cases: [(&[&str], &[&str], &str); 8] = [
-        (&["k"], &[], "k"),
-        (&[], &["a", "b"], "added"),
-        (&["b", "a"], &[], "a"),
-        (&["a"], &["a"], "a"),
-        (&[], &["c", "c"], "c"),
-        (&["a"], &["é", "z"], "z"),
-        (&["a"], &["b"], "added"),
-        (&["a"], &[], "a"),
+    let cases = [
+        ("k", "", "k"),
+        ("", "ab", "added"),
+        ("ba", "", "a"),
+        ("a", "a", "a"),
+        ("", "cc", "c"),
+        ("a", "éz", "z"),
+        ("a", "b", "added"),
+        ("a", "", "a"),
     ];
     for (end, change, want) in cases {
         let component = boundary(alloc, end, change)?;
