@@ -1,5 +1,5 @@
 use crate::{CheckFault, apply, check};
-use doc_items::{Attributes, Boundary, Change, Changes, Content, Document, Keys, Text};
+use doc_items::{Attributes, Boundary, Change, Changes, Content, Document, Item, Keys, Text};
 use doc_op::{Builder, Component, DocOp, OpFault};
 use std::alloc::{AllocError, Global};
 use std::test::Fail;
@@ -151,5 +151,72 @@ fn elements_are_checked_and_changed(rt: HostRuntime) -> Result<(), Fail> {
         Err(CheckFault::WrongLength)
     );
     assert_eq!(rt; shown(alloc, &document)?.as_str(), "<3>");
+    Ok(())
+}
+
+// Each character is a key.
+fn keys(alloc: Global, list: &str) -> Result<Vec<Text>, AllocError> {
+    let mut keys = Vec::new(alloc);
+    for c in list.chars() {
+        let mut key = String::new(alloc);
+        key.push(c)?;
+        keys.push(text(alloc, key.as_str())?)?;
+    }
+    Ok(keys)
+}
+
+// These keys end, and those get a value.
+fn step(alloc: Global, end: &str, change: &str, new: &str) -> Result<Component, AllocError> {
+    let mut changes = Vec::new(alloc);
+    for key in keys(alloc, change)? {
+        let new = value(alloc, new)?;
+        changes.push(Change {
+            key,
+            old: None,
+            new,
+        })?;
+    }
+    Ok(Component::AnnotationBoundary(Boundary {
+        end: Keys::from_vec(keys(alloc, end)?),
+        change: Changes::from_vec(changes),
+    }))
+}
+
+// The annotations of an item, a key's behind the other's.
+fn annotations(alloc: Global, item: &Item) -> Result<String, AllocError> {
+    let mut shown = String::new(alloc);
+    for key in ["a", "b", "c", "d", "e", "é"] {
+        if let Some(value) = item.notes.get(key) {
+            shown.push_str(key)?;
+            shown.push_str(value)?;
+        }
+    }
+    Ok(shown)
+}
+
+#[test]
+fn changes_run_until_they_end(rt: HostRuntime) -> Result<(), Fail> {
+    let alloc = rt.alloc();
+    let mut builder = Builder::new(alloc);
+    let steps = [
+        ("", "bd", "1"),
+        ("", "ace", "2"),
+        ("ad", "b", "3"),
+        ("bce", "é", "4"),
+        ("é", "", ""),
+    ];
+    for (end, change, new) in steps {
+        builder.add(alloc, step(alloc, end, change, new)?)?;
+        builder.add(alloc, Component::Characters(text(alloc, "x")?))?;
+    }
+    let mut document = Document::new(alloc);
+    apply(alloc, &builder.finish(), &mut document)?;
+    let mut shown = String::new(alloc);
+    for item in document.as_slice() {
+        let annotations = annotations(alloc, item)?;
+        shown.push_str(annotations.as_str())?;
+        shown.push(';')?;
+    }
+    assert_eq!(rt; shown.as_str(), "b1d1;a2b1c2d1e2;b3c2e2;é4;;");
     Ok(())
 }
