@@ -1,11 +1,12 @@
-ghost use Rattle.std.specs.Prelude.{◌≡◌, OnOk, OnErr, IfOk};
+ghost use Rattle.std.specs.Prelude.{◌≡◌, map, OnOk, OnErr, IfOk};
 ghost use Rattle.std.specs.Option.{option_copied};
 ghost use Rattle.std.specs.FinMap as finite;
-ghost use Rattle.doc_items.specs.Maps.{set_key, same_values};
+ghost use Rattle.doc_items.specs.Maps.{pair_of, set_key, same_values};
 
 use crate::Memory;
 use std::alloc::Global;
 use std::collections::BTreeMap;
+use std::collections::btree_map::Iter;
 use std::marker::Model;
 
 /// A map from texts to texts, in byte order of its keys.
@@ -87,6 +88,13 @@ impl TextMap {
         let _sorted = self.map.len();
         let _other_sorted = other.map.len();
         self.map == other.map
+    }
+
+    /// The keys with their values, in byte order of the keys.
+    pub fn iter(&self) -> Iter<'_, String, String>
+        ensures { map pair_of result ≡ finite.entries self.now }
+    {
+        self.map.iter()
     }
 
     /// An equal map.

@@ -1,7 +1,6 @@
 pub mod Booleans
 pub mod Cuts
 pub mod Told
-pub mod Members
 pub mod PipeWords
 pub mod Slices
 pub mod Steps

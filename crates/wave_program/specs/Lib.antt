@@ -1,4 +1,3 @@
-pub mod Component
 pub mod Cut
 pub mod Edit
 pub mod Lines

@@ -1,10 +1,9 @@
 //! The program's top call: edits of one document in, one JSON line each, and their answers out.
 //!
-//! A byte goes from the source through `pipe` (a chunk at a time), `cut` (lines), `message` and `component` (JSON),
+//! A byte goes from the source through `pipe` (a chunk at a time), `cut` (lines), `message` (JSON),
 //! `machine` (the document) and `reply` (JSON) to `output` and the sink.
 #![tactic(auto)]
 
-mod component;
 mod cut;
 mod machine;
 mod message;

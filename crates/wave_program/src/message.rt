@@ -1,14 +1,14 @@
 // A line read as a message.
-ghost use Rattle.std.specs.Prelude.{◌≡◌, ◌≤◌, IfOk, IfSome, option_map, option_and_then, codes};
+ghost use Rattle.std.specs.Prelude.{◌≡◌, ◌≤◌, IfOk, IfSome, option_map};
 ghost use Rattle.serde_json.specs.View.{view};
-ghost use Rattle.serde_json.specs.Find.{get, as_str};
+ghost use Rattle.serde_json.specs.Find.{as_str};
 ghost use Rattle.doc_items.specs.Limits.{max_count};
 ghost use Rattle.wave_program.specs.Message.{is_edit_type, version_of, edit_of, edit_of_line};
 ghost use Rattle.wave_program.specs.Edit.{edit_view};
 
-use crate::component::{member_count, operation_of};
 use doc_items::{MAX_COUNT, Memory};
 use doc_op::DocOp;
+use op_json::{JsonFault, from_value, three_members};
 use serde_json::Value;
 use std::alloc::{AllocError, Global};
 
@@ -41,25 +41,27 @@ fn edit_of(alloc: Global, value: &Value) -> Result<Option<Edit>, Memory>
     ensures value { IfOk result (λ edit. option_map edit_view edit ≡ edit_of (view value.now)) }
     ensures bound { IfOk result (λ edit. IfSome edit (λ e. e.version ≤ max_count)) }
 {
-    if member_count(value) != 3 || !is_edit(value) {
+    let Some((operation, kind, version)) = three_members(value, "operation", "type", "version")
+    else {
+        return Ok(None);
+    };
+    if !is_edit(kind) {
         return Ok(None);
     }
-    let Some(version) = version_of(value) else {
+    let Some(version) = version_of(version) else {
         return Ok(None);
     };
-    let Some(list) = value.get("operation").and_then(Value::as_array) else {
-        return Ok(None);
-    };
-    match operation_of(alloc, list)? {
-        Some(operation) => Ok(Some(Edit { version, operation })),
-        None => Ok(None),
+    match from_value(alloc, operation) {
+        Ok(operation) => Ok(Some(Edit { version, operation })),
+        Err(JsonFault::BadField(_)) => Ok(None),
+        Err(JsonFault::Memory) => Err(AllocError),
     }
 }
 
 fn is_edit(value: &Value) -> bool
-    ensures { result ≡ is_edit_type (option_and_then as_str (get (codes "type") (view value.now))) }
+    ensures { result ≡ is_edit_type (as_str (view value.now)) }
 {
-    match value.get("type").and_then(Value::as_str) {
+    match value.as_str() {
         Some(text) => text == "edit",
         None => false,
     }
@@ -67,9 +69,9 @@ fn is_edit(value: &Value) -> bool
 
 fn version_of(value: &Value) -> Option<u64>
     ensures bound { IfSome result (λ n. n ≤ max_count) }
-    ensures value { result ≡ option_and_then version_of (get (codes "version") (view value.now)) }
+    ensures value { result ≡ version_of (view value.now) }
 {
-    match value.get("version").and_then(Value::as_u64) {
+    match value.as_u64() {
         Some(version) if version <= MAX_COUNT => Some(version),
         _ => None,
     }

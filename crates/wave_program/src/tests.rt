@@ -29,7 +29,7 @@ const FIRST: [(&str, &str); 4] = [
     (r#"{}"#, BAD),
 ];
 
-// Lines that are no messages, and after them three that are.
+// Lines that are no messages, or name no operation on the document, and after them three that are applied.
 const HOSTILE: [(&str, &str); 41] = [
     (r#"edit"#, BAD),
     (r#""edit""#, BAD),
@@ -88,7 +88,7 @@ const HOSTILE: [(&str, &str); 41] = [
     ),
     (
         r#"{"type":"edit","version":0,"operation":[{"element_end":true}]}"#,
-        BAD,
+        INVALID,
     ),
     (
         r#"{"type":"edit","version":0,"operation":[{"retain":1}]}"#,
@@ -154,111 +154,126 @@ const SESSION: [(&str, &str); 7] = [
     ),
 ];
 
-// A longer session.
-const LONGER: [(&str, &str); 27] = [
+// A short session with elements and annotations.
+const SHORT: [(&str, &str); 9] = [
+    (r#"{"operation":[],"type":"edit","version":0}"#, ACK),
     (
-        r#"{"type":"edit","version":0,"operation":[{"characters":"\u0001","x":"a"}]}"#,
-        BAD,
-    ),
-    (
-        r#"{"operation":[{"characters":";1"}],"type":"edit","version":0}"#,
-        r#"{"type":"ack","version":1}"#,
-    ),
-    ("\t", BAD),
-    (
-        r#"{"operation":[{"retain_item_count":2}],"type":"edit","version":1}"#,
-        r#"{"type":"ack","version":2}"#,
-    ),
-    (
-        r#"{"type":"edit","version":0.0,"operation":[{"characters":"\u0001}"},{"retain_item_count":2}]}"#,
-        BAD,
-    ),
-    (
-        r#"{"operation":[{"characters":";1"},{"retain_item_count":2}],"type":"edit","version":3}"#,
-        r#"{"head":2,"type":"not_head"}"#,
-    ),
-    (
-        "{\"type\":\"edit\",\"version\":2,\"operation\":[{\"retain_item_count\":1},{\"characters\":\"0\u{7f}😀a{\"},{\"retain_item_count\":0.0},{\"characters\":\"漢\"}]}",
-        BAD,
-    ),
-    (
-        r#"{"operation":[{"retain_item_count":1},{"delete_characters":"1"}],"type":"edit","version":2}"#,
-        r#"{"type":"ack","version":3}"#,
-    ),
-    (
-        "{\"operation\":\r[{\"retain_item_count\":\t1}],\"t\\u0079pe\":\"edit\",\"version\":3 }",
-        r#"{"type":"ack","version":4}"#,
-    ),
-    (
-        r#"{"operation":[{"delete_characters":";"},{"characters":"q"}],"type":"edit","version":4}"#,
-        r#"{"type":"ack","version":5}"#,
-    ),
-    (
-        r#"{"version":"a","type":"edit","version":5,"operation":[{"retain_item_count":1}]}"#,
-        r#"{"type":"ack","version":6}"#,
-    ),
-    (
-        r#"{"type":"edit","version":7,"operation":[{"delete_characters":"q"},1e400]}"#,
-        BAD,
-    ),
-    (
-        r#"{"operation":[{"retain_item_count":1},{"characters":"{b}\u0001<"}],"type":"edit","version":6}"#,
-        r#"{"type":"ack","version":7}"#,
-    ),
-    (
-        r#"{"operation":[{"retain_item_count":9007199254740991},{"retain_item_count":1}],"type":"edit","version":7}"#,
-        BAD,
-    ),
-    (
-        r#"{"operation":[{"retain_item_count":2},{"delete_characters":"b"},{"retain_item_count":1},{"delete_characters":"\u0001"},{"retain_item_count":1}],"type":"edit","version":7}"#,
-        r#"{"type":"ack","version":8}"#,
-    ),
-    (
-        r#"{"operation":[{"retain_item_count":1},{"delete_characters":"{}"},{"retain_item_count":1},{"characters":"<"}],"type":"edit","version":8}"#,
-        r#"{"type":"ack","version":9}"#,
-    ),
-    (
-        r#"{"operation":[{"retain_item_count":2},{"characters":"0😀"},{"delete_characters":"<"}],"type":"edit","version":9}"#,
-        r#"{"type":"ack","version":10}"#,
-    ),
-    (
-        r#"{"operation":[{"retain_item_count":2},{"characters":";"},{"retain_item_count":1},{"delete_characters":"😀"}],"type":"edit","version":10}"#,
-        r#"{"type":"ack","version":11}"#,
-    ),
-    (
-        r#"{"operation":[{"retain_item_count":4}],"type":"edit","version":12}"#,
-        r#"{"head":11,"type":"not_head"}"#,
-    ),
-    (
-        r#"{"operation":[{"retain_item_count":1},{"delete_characters":"<"},{"characters":"a"},{"delete_characters":";"},{"retain_item_count":1},{"characters":" 0"}],"type":"edit","version":11}"#,
-        r#"{"type":"ack","version":12}"#,
-    ),
-    (
-        "{\"type\":\"edit\",\"version\":11,\"operation\":  [{\"retain_item_count\" :2},{\"characters\":\"1\"},{\"retain_i\\u0074em_count\":\r3}]}",
-        r#"{"head":12,"type":"not_head"}"#,
-    ),
-    (
-        r#"{"operation":[{"retain_item_count":1},{"delete_characters":"a"},{"retain_item_count":2},{"delete_characters":"0"}],"type":"edit","version":12}"#,
-        r#"{"type":"ack","version":13}"#,
-    ),
-    (
-        r#"{"operation":[{"characters":"漢😀"},{"retain_item_count":5},{"characters":"a"}],"type":"edit","version":13}"#,
+        r#"{"version":1,"type":"edit","operation":[{"retain_\u0069tem_count":1}]}"#,
         INVALID,
     ),
     (
-        r#"{"operation":[{"retain_item_count":3}],"type":"edit","version":13}"#,
-        r#"{"type":"ack","version":14}"#,
+        r#"{"operation":[{"characters":"{"}],"type":"edit","version":1}"#,
+        r#"{"type":"ack","version":2}"#,
     ),
     (
-        r#"{"operation":[{"retain_item_count":3},{"characters":"\u0001b0} "}],"type":"edit","vers":15}"#,
+        r#"{"type"  :"edit","operation":[{"retain_item_count":1}],"version":2}"#,
+        r#"{"type":"ack","version":3}"#,
+    ),
+    (
+        r#"{"operation":[{"retain_item_count":1}],"type":"edit","version":3}"#,
+        r#"{"type":"ack","version":4}"#,
+    ),
+    (
+        r#"{"operation":[{"characters":"éb{"},{"annotation_boundary":{"change":[{"key":"j","new":"bold","old":null}],"end":[]}},{"characters":"xxz"},{"annotation_boundary":{"change":[],"end":["j"]}},{"delete_characters":"{"},{"element_start":{"attribute":[{"key":"a","value":""}],"type":""}},{"element_end":true}],"type":"edit","version":5}"#,
+        r#"{"head":4,"type":"not_head"}"#,
+    ),
+    (
+        r#"{"operation":[{"retain_item_count":1}],"type":"edit","version":4}"#,
+        r#"{"type":"ack","version":5}"#,
+    ),
+    (
+        "{\"\\u0074ype\":\"\\u0065dit\", \"operation\":[{\"replace_attributes\":{\"new_attribute\":[{\"value\":\"1\",\"key\":\"a\"}],\"old_attribute\":[  {\t\"key\":\"id\",\"va\\u006cue\":\"bold\"\r}\t]}},{\"retain_item_count\":1}], \"ver\\u0073ion\":6}",
+        r#"{"head":5,"type":"not_head"}"#,
+    ),
+    (
+        "{\"type\":\"edi\\u0074\",\"oper\\u0061tion\":[{\"retain_item_count\" :1},{\"annotation_boundary\":{  \"end\":  [],\r\"change\":[{\"new\":\"b\\u006fld\",\"key\":\"k\",\"old\":null\t},{\"key\":\"😀\",\"new\":\"2\",\"old\":null}]}},{\"characters\":\"0\"},{\"annotation_boundary\":{\"end\":[\r\"😀\"],\"change\":[{\"new\":\"2\",\"key\":\"k\",\"old\":null}]}},{\"cha\\u0072acters\"\t:\"0\"},{\"annotation_boundary\"\t:{\"end\":[\"k\"]  ,\"change\"\r:[]  }},{\"cha\\u0072acte\\u0072s\":\"1\"}],\"version\":5}",
+        r#"{"type":"ack","version":6}"#,
+    ),
+];
+
+// A longer one.
+const LONGER: [(&str, &str); 20] = [
+    (r#"{"operation":[],"type":"edit","version":0}"#, ACK),
+    (
+        r#"{"operation":[],"type":"edit","version":1}"#,
+        r#"{"type":"ack","version":2}"#,
+    ),
+    (
+        r#"{"operation":[{"replace_attributes":{"new_attribute":[{"key":"a","value":"1"}],"old_attribute":[{"key":"","value":""}]}}],"type":"edit","version":2}"#,
+        INVALID,
+    ),
+    (
+        "{\"version\":2\r,\"type\":\"e\\u0064it\"\r,\"operation\":[{\"annotation_boundary\":{\"change\":[{\"new\":\"bold\", \"key\":\"\", \"old\":null},{\"ke\\u0079\":\"￮\",\"old\":null,\"new\":\"2\"}],\"end\"  :[]}\t},{ \"element_start\":\t{\"type\":\"\",\"attribute\":[{\"key\":\"id\",\"valu\\u0065\":\"\\u007Bx}\" }\t]}},{\"element_end\":true},{\"annotation_bound\\u0061ry\":{\"change\":[],\"end\":[\"\",\"￮\"  ]}},{\"characters\" :\"zx\"},{\"retain_item_count\":1}\t]}",
+        INVALID,
+    ),
+    (
+        r#"{"type":"edit","version":2,"operation":[{"characters":" "},{"annotation_boundary":{"end":[],"change":"a}},{"characters":"y"},{"annotation_boundary":{"end":["￮"],"change":[]}}]}"#,
         BAD,
     ),
     (
-        "{\"ty\\u0070e\":\"edit\" ,\"operation\":[{\"characters\":\"\\u0001\"\t},{\"retain_item_count\":1},{\"re\\u0074ain_item_count\":1},{\"characters\":\"a😀\"},{\"delete_characters\":\" \"\r}] ,\"version\":14}",
-        r#"{"type":"ack","version":15}"#,
+        "{\"type\":\"edit\",\r\"version\":2,\r\"\\u006fperation\":[{\"d\\u0065lete_element_end\"\r:true}]}",
+        INVALID,
     ),
     (
-        r#"{"operation":[{"delete_characters":"q0"},{"retain_item_count":1},{"characters":"\u0001\u0001"}],"type":"edit","version":15}"#,
+        r#"{"session":"s1","session":"s2","message":{"type":"hello","user":"b@a.com"}}"#,
+        BAD,
+    ),
+    (r#"{"type":"edit","version":2e0,"operation":[]}"#, BAD),
+    (
+        r#"{"\u0076ers\u0069on":2,"type":"edit","operation":[]}"#,
+        r#"{"type":"ack","version":3}"#,
+    ),
+    (
+        r#"{"type":"edit","operation":  [{"characte\u0072s":"0\\z" }],"version":3}"#,
+        r#"{"type":"ack","version":4}"#,
+    ),
+    (
+        "{\"type\":\"edit\"  ,\t\"version\":4  ,\t\"operation\":[{\"retain_item_count\":3}]}",
+        r#"{"type":"ack","version":5}"#,
+    ),
+    (
+        r#"{"operation":[{"retain_item_count":3}],"type":"edit","version":5}"#,
+        r#"{"type":"ack","version":6}"#,
+    ),
+    (
+        r#"{"type":"edit","version":6,"operation":[{"annotation_boundary":{"end":["style/fontWeight"],"change":[]}},{"retain_item_count":3},{},{"characters":" "},{"characters":"=x"},{"characters":"z"}]}"#,
+        BAD,
+    ),
+    (
+        "{\"operation\":[{\"retain_item_count\":3}],\"\\u0074ype\"\r:\"edit\",\"ver\\u0073ion\":6}",
+        r#"{"type":"ack","version":7}"#,
+    ),
+    (
+        r#"{"operation":[{"retain_item_count":3},{"annotation_boundary":{"change":[{"key":"é","new":"1","old":"no"}],"end":[]}},{"characters":"😀q"},{"annotation_boundary":{"change":[],"end":["é"]}},{"element_start":{"attribute":[{"key":"id","value":"bold"}],"type":"body"}},{"element_end":true},{"characters":"xy"}],"type":"edit","version":8}"#,
+        r#"{"head":7,"type":"not_head"}"#,
+    ),
+    (
+        r#"{"session":"é","message":{"type":"hello","user":"a@a.com"}}"#,
+        BAD,
+    ),
+    (r#"{"operation":[],"type":"edit","version":7}"#, INVALID),
+    (
+        r#"{"operation":[{"retain_item_count":3}],"type":"edit","version":7}"#,
+        r#"{"type":"ack","version":8}"#,
+    ),
+    (
+        "{\"version\":8, \"operation\":[{\"retain_ite\\u006D_count\":1},{\"annotation_boundary\":{\"end\":[],\"change\":[{\"old\":null,\"new\":\"{x}\",\"key\":\"\"},{\"new\":null,\"old\":null,\"key\":\"😀\"}]}},{\"retain_item_count\":1},{\"annotation_boundary\":{\"change\": [{\"old\":null,\"key\":\"￮\",\"new\":\"{x}\"}]  ,\"end\":[\"\",\"😀\"]}},{\"element_start\":{\"attribute\":[],\t\"type\":\"q<\"}},{\"element_end\":true},{\"annotation_boundary\":{\"en\\u0064\":[\"￮\"],\"change\":[]}},{\"delete_characters\":\"z\"},{\"characters\":\";\u{7f}\"}], \"type\"\r:\"edit\"}",
+        r#"{"type":"ack","version":9}"#,
+    ),
+    (
+        r#"{"operation":[{"delete_characters":"0\\z"}],"type":"edit","version":8}"#,
+        r#"{"head":9,"type":"not_head"}"#,
+    ),
+];
+
+// A blip with a line and a bold word, and then an element put around it, which an insertion can't.
+const ELEMENTS: [(&str, &str); 2] = [
+    (
+        r#"{"type":"edit","version":0,"operation":[{"element_start":{"type":"body","attribute":[]}},{"element_start":{"type":"line","attribute":[]}},{"element_end":true},{"characters":"Hello "},{"annotation_boundary":{"end":[],"change":[{"key":"style/fontWeight","old":null,"new":"bold"}]}},{"characters":"world"},{"annotation_boundary":{"end":["style/fontWeight"],"change":[]}},{"element_end":true}]}"#,
+        ACK,
+    ),
+    (
+        r#"{"type":"edit","version":1,"operation":[{"element_start":{"type":"p","attribute":[]}},{"retain_item_count":15},{"element_end":true}]}"#,
         INVALID,
     ),
 ];
@@ -295,7 +310,9 @@ fn each_line_is_answered(rt: HostRuntime) -> Result<(), Fail> {
         FIRST.as_slice(),
         HOSTILE.as_slice(),
         SESSION.as_slice(),
+        SHORT.as_slice(),
         LONGER.as_slice(),
+        ELEMENTS.as_slice(),
     ] {
         let mut lines = Vec::new(alloc);
         let mut replies = Vec::new(alloc);

@@ -1,0 +1,3 @@
+pub mod Members
+pub mod Read
+pub mod Write
