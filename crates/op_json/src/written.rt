@@ -1,5 +1,7 @@
 // What the members of components hold, as JSON.
-ghost use Rattle.std.specs.Prelude.{◌≡◌, IfOk};
+ghost use Rattle.std.specs.Prelude.{◌≡◌, Some, IfOk};
+ghost use Rattle.op_json.specs.Back.{IsReadBack, AreReadBack};
+ghost use Rattle.op_json.specs.Read.{text_of, optional_text_of, change_of, boundary_of, element_of};
 ghost use Rattle.serde_json.specs.Data.{string};
 ghost use Rattle.serde_json.specs.View.{view};
 ghost use Rattle.op_json.specs.Write.{text_data, optional_data, entry_data, attributes_data, change_data, list_data, boundary_data, element_data, replaced_data};
@@ -15,13 +17,16 @@ fn string_value(alloc: Global, text: &str) -> Result<Value, Memory>
 }
 
 pub fn text_value(alloc: Global, text: &Text) -> Result<Value, Memory>
-    ensures { IfOk result (λ v. view v ≡ text_data text.now) }
+    ensures value { IfOk result (λ v. view v ≡ text_data text.now) }
+    ensures back { IfOk result (λ v. IsReadBack text_of text_data text.now) }
 {
     string_value(alloc, text.as_str())
 }
 
+#[tactic(auto, using(crate::proofs::Back::optional_back))]
 fn optional_value(alloc: Global, text: &Option<Text>) -> Result<Value, Memory>
-    ensures { IfOk result (λ v. view v ≡ optional_data text.now) }
+    ensures value { IfOk result (λ v. view v ≡ optional_data text.now) }
+    ensures back { IfOk result (λ v. IsReadBack optional_text_of optional_data text.now) }
 {
     match text {
         Some(text) => text_value(alloc, text),
@@ -47,8 +52,10 @@ fn attributes_value(alloc: Global, attributes: &Attributes) -> Result<Value, Mem
     Ok(Value::Array(list))
 }
 
+#[tactic(auto, using(crate::proofs::Back::change_back))]
 fn change_value(alloc: Global, change: &Change) -> Result<Value, Memory>
-    ensures { IfOk result (λ v. view v ≡ change_data change.now) }
+    ensures value { IfOk result (λ v. view v ≡ change_data change.now) }
+    ensures back { IfOk result (λ v. IsReadBack change_of change_data change.now) }
 {
     let key = text_value(alloc, &change.key)?;
     let new = optional_value(alloc, &change.new)?;
@@ -57,7 +64,8 @@ fn change_value(alloc: Global, change: &Change) -> Result<Value, Memory>
 }
 
 pub fn changes_value(alloc: Global, changes: &[Change]) -> Result<Value, Memory>
-    ensures { IfOk result (λ v. view v ≡ list_data change_data changes.now) }
+    ensures value { IfOk result (λ v. view v ≡ list_data change_data changes.now) }
+    ensures back { IfOk result (λ v. AreReadBack change_of change_data changes.now) }
 {
     let mut list = Vec::with_capacity(alloc, changes.len())?;
     for change in changes {
@@ -67,7 +75,8 @@ pub fn changes_value(alloc: Global, changes: &[Change]) -> Result<Value, Memory>
 }
 
 fn keys_value(alloc: Global, keys: &[Text]) -> Result<Value, Memory>
-    ensures { IfOk result (λ v. view v ≡ list_data text_data keys.now) }
+    ensures value { IfOk result (λ v. view v ≡ list_data text_data keys.now) }
+    ensures back { IfOk result (λ v. AreReadBack text_of text_data keys.now) }
 {
     let mut list = Vec::with_capacity(alloc, keys.len())?;
     for key in keys {
@@ -76,16 +85,20 @@ fn keys_value(alloc: Global, keys: &[Text]) -> Result<Value, Memory>
     Ok(Value::Array(list))
 }
 
+#[tactic(auto, using(crate::proofs::Back::boundary_back))]
 pub fn boundary_value(alloc: Global, boundary: &Boundary) -> Result<Value, Memory>
-    ensures { IfOk result (λ v. view v ≡ boundary_data boundary.now) }
+    ensures value { IfOk result (λ v. view v ≡ boundary_data boundary.now) }
+    ensures back { IfOk result (λ v. IsReadBack boundary_of boundary_data boundary.now) }
 {
     let change = changes_value(alloc, boundary.change.as_slice())?;
     let end = keys_value(alloc, boundary.end.as_slice())?;
     json!(in alloc; {"change": change, "end": end})
 }
 
+#[tactic(auto, using(crate::proofs::Back::element_back))]
 pub fn element_value(alloc: Global, kind: &Text, attributes: &Attributes) -> Result<Value, Memory>
-    ensures { IfOk result (λ v. view v ≡ element_data kind.now attributes.now) }
+    ensures value { IfOk result (λ v. view v ≡ element_data kind.now attributes.now) }
+    ensures back { IfOk result (λ v. element_of (element_data kind.now attributes.now) ≡ Some (kind.now, attributes.now)) }
 {
     let attribute = attributes_value(alloc, attributes)?;
     let kind = text_value(alloc, kind)?;
