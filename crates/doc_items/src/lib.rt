@@ -5,11 +5,10 @@
 mod change;
 mod document;
 mod item;
-mod text;
-mod text_map;
-
 #[cfg(test)]
 mod tests;
+mod text;
+mod text_map;
 
 pub use change::{Boundary, Change, Changes, Keys};
 pub use document::Document;
