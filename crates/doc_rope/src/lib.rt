@@ -1,0 +1,15 @@
+//! Documents in pieces: a rope is a list of items of which any stretch is replaced in a time that hardly grows with the
+//! document.
+#![tactic(auto)]
+
+mod ends;
+mod gather;
+mod halves;
+mod rope;
+mod tree;
+mod turns;
+
+#[cfg(test)]
+mod tests;
+
+pub use rope::Rope;
