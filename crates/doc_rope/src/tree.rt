@@ -84,14 +84,14 @@ impl<T: Drop> Tree<T> {
         match self {
             Tree::Empty => None,
             Tree::Fork(node) => {
-                let before = node.left.count();
+                let left = node.left.count();
                 let len = node.piece.len();
-                if place < before {
+                if place < left {
                     node.left.run(place)
-                } else if place - before < len {
-                    Some(piece_run(&node.piece, place - before))
+                } else if place - left < len {
+                    Some(piece_run(&node.piece, place - left))
                 } else {
-                    node.right.run(place - before - len)
+                    node.right.run(place - left - len)
                 }
             }
         }
