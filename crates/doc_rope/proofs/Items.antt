@@ -1,6 +1,6 @@
 -- Where an item, and a run of items, stands in its pieces.
 use Rattle.std.proofs.Common.{◌≡◌, ℕ, zero, suc, ◌+◌, ◌-◌, ◌<◌, ◌≤◌, List, [], ◌∷◌, ◌++◌, length, take, drop, refl, sym, ap, ◌∙◌, append_assoc, arith, slice_get}
-use Rattle.std.proofs.lemmas.List.{take-append-drop, drop-append-le, take_at}
+use Rattle.std.proofs.lemmas.List.{take-append-drop, drop-append-le, take_at, length-drop, length-append}
 use Rattle.std.proofs.Math.Seq.{drop-append-add}
 use Rattle.doc_rope.specs.Pieces.{total, joined}
 use Rattle.doc_rope.proofs.Laws.{joined_append, length_joined}
@@ -56,3 +56,9 @@ run_right ls p rs k r h i e =
     ap (λ w. take (length r) (drop k w)) (joined_append ls (p ∷ rs))
     ∙ ap (take (length r)) (drop_past (joined ls) (p ++ joined rs) k (k - total ls) (omega (arith, n, h)) ∙ drop_past p (joined rs) (k - total ls) (k - total ls - length p) (omega (arith, i)))
     ∙ e
+
+pub run_inside : {T : Type 0} (xs r : List T) (k : ℕ) → take (length r) (drop k xs) ≡ r → 0 < length r → k + length r ≤ length xs
+run_inside xs r k e h =
+    let whole = ap length (sym (take-append-drop (length r) (drop k xs)) ∙ ap (λ w. w ++ drop (length r) (drop k xs)) e) ∙ length-append r (drop (length r) (drop k xs)) in
+    let left = length-drop k xs in
+    omega (arith, whole, left, h)

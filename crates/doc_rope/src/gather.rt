@@ -26,7 +26,11 @@ pub fn spare<T: Drop>(alloc: Global) -> Result<Box<Node<T>>, Memory>
 }
 
 // Moves the last items, as many as fill a piece, to the front of the tree.
-pub fn move_last<T: Drop>(alloc: Global, items: &mut Vec<T>, tree: Tree<T>) -> Result<Tree<T>, Memory>
+pub fn move_last<T: Drop>(
+    alloc: Global,
+    items: &mut Vec<T>,
+    tree: Tree<T>,
+) -> Result<Tree<T>, Memory>
     requires some { 0 < length items.old.items }
     requires sound { IsSound tree }
     requires packed { IsPacked (pieces tree) }

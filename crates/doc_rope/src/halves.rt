@@ -67,7 +67,13 @@ pub fn cut<T: Drop>(tree: Tree<T>, place: usize, spare: Box<Node<T>>) -> Halves<
 }
 
 #[tactic(auto, using(crate::proofs::Laws::total_append, crate::proofs::Laws::length_both, crate::proofs::Laws::total_add_last, crate::proofs::Seams::total_glued, crate::proofs::Seams::cut_joined, crate::proofs::Seams::cut_packed_before, crate::proofs::Seams::cut_packed_after))]
-pub fn cut_piece<T: Drop>(left: Tree<T>, mut node: Box<Node<T>>, right: Tree<T>, within: usize, mut spare: Box<Node<T>>) -> Halves<T>
+pub fn cut_piece<T: Drop>(
+    left: Tree<T>,
+    mut node: Box<Node<T>>,
+    right: Tree<T>,
+    within: usize,
+    mut spare: Box<Node<T>>,
+) -> Halves<T>
     requires left { IsSound left }
     requires right { IsSound right }
     requires packed { IsPacked (pieces left ++ node.value.piece.items ∷ pieces right) }

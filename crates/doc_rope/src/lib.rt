@@ -6,10 +6,9 @@ mod ends;
 mod gather;
 mod halves;
 mod rope;
-mod tree;
-mod turns;
-
 #[cfg(test)]
 mod tests;
+mod tree;
+mod turns;
 
 pub use rope::Rope;

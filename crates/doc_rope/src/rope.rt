@@ -74,10 +74,11 @@ impl Rope {
 
     /// The items from a place on as far as the piece that holds it reaches; None exactly where the place isn't below the
     /// length. The place behind the run is the next to ask for, so all items are read in order without a copy.
-    #[tactic(auto, using(crate::proofs::Laws::length_joined))]
+    #[tactic(auto, using(crate::proofs::Laws::length_joined, crate::proofs::Items::run_inside))]
     pub fn run(&self, place: u64) -> Option<&[Item]>
         ensures front { IfSome result (λ r. take (length r.now) (drop place self.now) ≡ r.now) }
         ensures some { IfSome result (λ r. 0 < length r.now) }
+        ensures inside { IfSome result (λ r. place + length r.now ≤ length self.now) }
         ensures none { IfNone result (length self.now ≤ place) }
     {
         self.tree.run(place as usize)

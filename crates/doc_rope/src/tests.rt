@@ -34,7 +34,13 @@ fn splice(rope: &mut Rope, from: u64, count: u64, items: Document) -> Result<(),
 }
 
 // The same on a plain vector.
-fn splice_plain(alloc: Global, plain: &[char], from: usize, count: usize, items: &[char]) -> Result<Vec<char>, AllocError> {
+fn splice_plain(
+    alloc: Global,
+    plain: &[char],
+    from: usize,
+    count: usize,
+    items: &[char],
+) -> Result<Vec<char>, AllocError> {
     let mut spliced = Vec::new(alloc);
     for (index, letter) in plain.iter().enumerate() {
         if index == from {
@@ -133,7 +139,12 @@ fn splices_are_those_of_a_plain_list(rt: HostRuntime) -> Result<(), Fail> {
         let from = (random >> 8) as usize % (plain.len() + 1);
         let count = (random >> 5) as usize % 700 % (plain.len() - from + 1);
         let more = (random >> 11) % 650;
-        splice(&mut rope, from as u64, count as u64, letters(alloc, 19_968, more)?)?;
+        splice(
+            &mut rope,
+            from as u64,
+            count as u64,
+            letters(alloc, 19_968, more)?,
+        )?;
         let items = plain_letters(alloc, 19_968, more)?;
         plain = splice_plain(alloc, plain.as_slice(), from, count, items.as_slice())?;
         assert!(rt; is_list(alloc, &rope, plain.as_slice())?);

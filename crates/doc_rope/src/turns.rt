@@ -17,7 +17,11 @@ pub fn fork<T: Drop>(left: Tree<T>, mut node: Box<Node<T>>, right: Tree<T>) -> T
 {
     let left_height = left.height();
     let right_height = right.height();
-    let higher = if left_height < right_height { right_height } else { left_height };
+    let higher = if left_height < right_height {
+        right_height
+    } else {
+        left_height
+    };
     node.height = higher.saturating_add(1);
     node.count = left.count() + (node.piece.len() + right.count());
     node.left = left;
@@ -79,7 +83,13 @@ pub fn turn_right<T: Drop>(left: Tree<T>, node: Box<Node<T>>, right: Tree<T>) ->
 }
 
 #[tactic(auto, using(crate::proofs::Laws::total_append, crate::proofs::Laws::append_cons))]
-pub fn turn_inner_right<T: Drop>(outer: Tree<T>, top: Box<Node<T>>, inner: Tree<T>, node: Box<Node<T>>, right: Tree<T>) -> Tree<T>
+pub fn turn_inner_right<T: Drop>(
+    outer: Tree<T>,
+    top: Box<Node<T>>,
+    inner: Tree<T>,
+    node: Box<Node<T>>,
+    right: Tree<T>,
+) -> Tree<T>
     requires outer { IsSound outer }
     requires inner { IsSound inner }
     requires right { IsSound right }

@@ -7,7 +7,7 @@ invariant-loop-alloc g l = record {
   joined : l.items.items ++ joined (pieces l.tree) ≡ l.initial.items.items;
   count : length l.items.items + total (pieces l.tree) ≡ length l.initial.items.items;
   sound : IsSound l.tree;
-  packed : IsPacked (pieces l.tree)
+  packed : IsPacked (pieces l.tree);
 }
 
 abbrev pub decreases-loop-alloc : goal.decreases-loop-alloc

@@ -7,7 +7,7 @@ invariant-loop-from g l = record {
   at_most : l.at ≤ length l.from.items;
   lengths : length l.from.items + length l.to.items ≡ length l.initial.from.items;
   from_room : vec_capacity l.initial.from ≤ vec_capacity l.from;
-  to_room : vec_capacity l.initial.to ≤ vec_capacity l.to
+  to_room : vec_capacity l.initial.to ≤ vec_capacity l.to;
 }
 
 abbrev pub decreases-loop-from : goal.decreases-loop-from

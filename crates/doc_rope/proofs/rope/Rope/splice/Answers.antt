@@ -34,7 +34,7 @@ invariant_of-self c =
     record {
       sound = c.concat.ensures.sound;
       packed = subst (λ (ps : List (List Item)). IsPacked ps) (sym c.concat.ensures.pieces) (packed_glued (pieces c.concat-start.result) (pieces c.cut-inner.result.after) first c.cut-inner.ensures.packed_after);
-      bound = omega (arith, outer, inner, after, middle, start, end, c.cut-inner.ensures.place, c.requires.bound)
+      bound = omega (arith, outer, inner, after, middle, start, end, c.cut-inner.ensures.place, c.requires.bound);
     }
 
 pub returns-clause-ok : goal.returns-clause-ok
