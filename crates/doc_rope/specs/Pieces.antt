@@ -1,0 +1,63 @@
+-- What a tree of pieces means, and which pieces a rope keeps.
+--     pieces       the pieces from left to right
+--     total        how many items stand in some pieces
+--     joined       the items of some pieces, in order
+--     IsSound      each count is right, and each piece has room for 512 items
+--     add_last     one more piece at the end, put into the last one where both fit into one
+--     sized        a piece has 1 to 512 items
+--     apart        a piece and the next one wouldn't fit into one
+--     IsPacked     each piece is sized and apart from the next
+--     glued        two packed lists of pieces as one
+--     InPieces     what holds of each rope: a sound tree of packed pieces with at most max_count items
+use Rattle.std.specs.Prelude.{◌≡◌, ℕ, ◌+◌, ◌≤◌, Bool, true, cond, ◌&&◌, List, [], ◌∷◌, ◌++◌, length, ◌==◌, nat_le, nat_lt, vec_capacity}
+use Rattle.doc_items.specs.Limits.{max_count}
+use Rattle.doc_rope.specs.declared.tree.Tree.{Tree}
+use Rattle.doc_rope.specs.declared.tree.Tree.TheVariants.{Empty, Fork'}
+
+abbrev pub pieces : {T : Type 0} → Tree T → List (List T)
+pieces Empty = []
+pieces (Fork' p left piece right count height) = pieces left ++ piece.items ∷ pieces right
+
+abbrev pub total : {T : Type 0} → List (List T) → ℕ
+total [] = 0
+total (p ∷ ps) = length p + total ps
+
+abbrev pub joined : {T : Type 0} → List (List T) → List T
+joined [] = []
+joined (p ∷ ps) = p ++ joined ps
+
+abbrev pub is_sound : {T : Type 0} → Tree T → Bool
+is_sound Empty = true
+is_sound (Fork' p left piece right count height) = count == total (pieces left ++ piece.items ∷ pieces right) && nat_le 512 (vec_capacity piece) && is_sound left && is_sound right
+
+abbrev pub IsSound : {T : Type 0} → Tree T → Type 0
+IsSound t = is_sound t ≡ true
+
+abbrev pub add_last : {T : Type 0} → List (List T) → List T → List (List T)
+add_last [] q = q ∷ []
+add_last (p ∷ []) q = cond (nat_le (length p + length q) 512) ((p ++ q) ∷ []) (p ∷ q ∷ [])
+add_last (p ∷ r ∷ ps) q = p ∷ add_last (r ∷ ps) q
+
+abbrev pub sized : {T : Type 0} → List T → Bool
+sized p = nat_lt 0 (length p) && nat_le (length p) 512
+
+abbrev pub apart : {T : Type 0} → List T → List (List T) → Bool
+apart p [] = true
+apart p (q ∷ qs) = nat_lt 512 (length p + length q)
+
+abbrev pub packed : {T : Type 0} → List (List T) → Bool
+packed [] = true
+packed (p ∷ ps) = sized p && apart p ps && packed ps
+
+abbrev pub IsPacked : {T : Type 0} → List (List T) → Type 0
+IsPacked ps = packed ps ≡ true
+
+-- the first piece of the second list may go into the last of the first
+abbrev pub glued : {T : Type 0} → List (List T) → List (List T) → List (List T)
+glued xs [] = xs
+glued xs (q ∷ ys) = add_last xs q ++ ys
+
+pub record InPieces {T : Type 0} (t : Tree T) : Type 0 where
+  pub sound : IsSound t
+  pub packed : IsPacked (pieces t)
+  pub bound : total (pieces t) ≤ max_count

@@ -1,0 +1,14 @@
+//! Documents in pieces: a rope is a list of items of which any stretch is replaced in a time that hardly grows with the
+//! document.
+#![tactic(auto)]
+
+mod ends;
+mod gather;
+mod halves;
+mod rope;
+#[cfg(test)]
+mod tests;
+mod tree;
+mod turns;
+
+pub use rope::Rope;

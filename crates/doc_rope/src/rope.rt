@@ -1,0 +1,124 @@
+// A document in pieces.
+ghost use Rattle.std.specs.Prelude.{◌≡◌, ℕ, ◌+◌, ◌<◌, ◌≤◌, ◌++◌, [], List, length, take, drop, IfOk, IfSome, IfNone, OnOk, OnErr, slice_get};
+ghost use Rattle.std.specs.Option.{option_copied};
+ghost use Rattle.doc_items.specs.Limits.{max_count};
+ghost use Rattle.doc_rope.specs.Pieces.{pieces, joined, InPieces};
+
+use crate::ends::concat;
+use crate::gather::{copy_out, copy_tree, gather, spare};
+use crate::halves::cut;
+use crate::tree::Tree;
+use doc_items::{Document, Item, Memory};
+use std::alloc::Global;
+use std::marker::Model;
+use std::mem;
+
+/// A document, seen as its list of items, of which there are at most `MAX_COUNT`. It is kept in pieces of 1 to 512 items,
+/// of which no two neighbours would fit into one, under a tree that counts them.
+#[derive(Drop)]
+pub struct Rope {
+    tree: Tree<Item>,
+    alloc: Global,
+}
+
+impl Model for Rope {
+    ghost use Rattle.std.specs.Prelude.{List};
+    ghost use Rattle.doc_rope.specs.Pieces.{pieces, joined, InPieces};
+    ghost use Rattle.std.specs.Coded.{coded_list};
+    ghost use Rattle.doc_items.specs.declared.item.Item.{Item};
+    ghost use Rattle.doc_items.specs.contracts.item.Item as item_row;
+
+    ghost Value = { List Item };
+
+    ghost coded = { coded_list item_row.the_row.coded };
+
+    ghost view = { λ r. joined (pieces r.tree) };
+
+    ghost invariant = { λ r. InPieces r.tree };
+}
+
+impl Rope {
+    /// The rope without items. It takes no memory until items come.
+    pub fn new(alloc: Global) -> Rope
+        ensures { result ≡ [] }
+    {
+        Rope {
+            tree: Tree::Empty,
+            alloc,
+        }
+    }
+
+    /// The rope of the document's items, which are moved into pieces and not copied.
+    pub fn from_list(alloc: Global, document: Document) -> Result<Rope, Memory>
+        ensures { IfOk result (λ r. r ≡ document) }
+    {
+        let tree = gather(alloc, document.into_vec())?;
+        Ok(Rope { tree, alloc })
+    }
+
+    /// The number of items.
+    #[tactic(auto, using(crate::proofs::Laws::length_joined))]
+    pub fn len(&self) -> u64
+        ensures value { result ≡ length self.now }
+        ensures bound { result ≤ max_count }
+    {
+        self.tree.count() as u64
+    }
+
+    /// The item at a place, counted from 0; None exactly where the place isn't below the length.
+    pub fn item(&self, place: u64) -> Option<&Item>
+        ensures { option_copied result ≡ slice_get self.now place }
+    {
+        self.tree.item(place as usize)
+    }
+
+    /// The items from a place on as far as the piece that holds it reaches; None exactly where the place isn't below the
+    /// length. The place behind the run is the next to ask for, so all items are read in order without a copy.
+    #[tactic(auto, using(crate::proofs::Laws::length_joined, crate::proofs::Items::run_inside))]
+    pub fn run(&self, place: u64) -> Option<&[Item]>
+        ensures front { IfSome result (λ r. take (length r.now) (drop place self.now) ≡ r.now) }
+        ensures some { IfSome result (λ r. 0 < length r.now) }
+        ensures inside { IfSome result (λ r. place + length r.now ≤ length self.now) }
+        ensures none { IfNone result (length self.now ≤ place) }
+    {
+        self.tree.run(place as usize)
+    }
+
+    /// A document of equal items, in order.
+    #[tactic(auto, using(crate::proofs::Laws::length_joined))]
+    pub fn list(&self, alloc: Global) -> Result<Document, Memory>
+        ensures { IfOk result (λ d. d ≡ self.now) }
+    {
+        let mut items = Vec::with_capacity(alloc, self.tree.count())?;
+        copy_out(&self.tree, alloc, &mut items)?;
+        Ok(Document::from_vec(items))
+    }
+
+    /// An equal rope.
+    pub fn copy(&self, alloc: Global) -> Result<Rope, Memory>
+        ensures { IfOk result (λ r. r ≡ self.now) }
+    {
+        let tree = copy_tree(&self.tree, alloc)?;
+        Ok(Rope { tree, alloc })
+    }
+
+    /// Puts the document's items in place of the `count` items from place `from` on; all other items stay, in order.
+    /// After want of memory the rope is as it was. All memory is taken before the rope changes.
+    #[tactic(auto, using(crate::proofs::Laws::length_joined, crate::proofs::Seams::total_glued, crate::proofs::Seams::packed_glued, crate::proofs::Seams::joined_glued, crate::proofs::Laws::spliced))]
+    pub fn splice(&mut self, from: u64, count: u64, items: Document) -> Result<(), Memory>
+        requires inside { from + count ≤ length self.old }
+        requires bound { length self.old + length items ≤ max_count + count }
+        ensures ok { OnOk result (self.new ≡ take from self.old ++ items ++ drop (from + count) self.old) }
+        ensures err { OnErr result (self.new ≡ self.old) }
+    {
+        let middle = gather(self.alloc, items.into_vec())?;
+        let first = spare(self.alloc)?;
+        let second = spare(self.alloc)?;
+        let tree = mem::replace(&mut self.tree, Tree::Empty);
+        let outer = cut(tree, from as usize, first);
+        let inner = cut(outer.after, count as usize, second);
+        let start = concat(outer.before, middle);
+        self.tree = concat(start, inner.after);
+        Ok(())
+    }
+}

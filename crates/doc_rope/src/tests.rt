@@ -1,0 +1,153 @@
+use crate::Rope;
+use doc_items::{Content, Document, Item, Notes};
+use std::alloc::{AllocError, Global};
+use std::test::Fail;
+
+fn letter(number: u32) -> char {
+    match char::from_u32(number) {
+        Some(letter) => letter,
+        None => '?',
+    }
+}
+
+// A document of `count` letters, each the one after the one before it.
+fn letters(alloc: Global, first: u32, count: u32) -> Result<Document, AllocError> {
+    let mut document = Document::new(alloc);
+    for index in 0..count {
+        let content = Content::Character(letter(first.wrapping_add(index)));
+        let notes = Notes::new(alloc);
+        if document.len() < 1_000_000 {
+            document.push(Item { content, notes })?;
+        }
+    }
+    Ok(document)
+}
+
+// A splice that fails where its place isn't in the rope.
+fn splice(rope: &mut Rope, from: u64, count: u64, items: Document) -> Result<(), AllocError> {
+    let len = rope.len();
+    if from > len || count > len - from || len > 1_000_000 || items.len() > 1_000_000 {
+        return Err(AllocError);
+    }
+    rope.splice(from, count, items)?;
+    Ok(())
+}
+
+// The same on a plain vector.
+fn splice_plain(
+    alloc: Global,
+    plain: &[char],
+    from: usize,
+    count: usize,
+    items: &[char],
+) -> Result<Vec<char>, AllocError> {
+    let mut spliced = Vec::new(alloc);
+    for (index, letter) in plain.iter().enumerate() {
+        if index == from {
+            spliced.extend_from_slice(items)?;
+        }
+        if index < from || index - from >= count {
+            spliced.push(*letter)?;
+        }
+    }
+    if from == plain.len() {
+        spliced.extend_from_slice(items)?;
+    }
+    Ok(spliced)
+}
+
+fn plain_letters(alloc: Global, first: u32, count: u32) -> Result<Vec<char>, AllocError> {
+    let mut plain = Vec::new(alloc);
+    for index in 0..count {
+        plain.push(letter(first.wrapping_add(index)))?;
+    }
+    Ok(plain)
+}
+
+fn is_letter(item: &Item, letter: char) -> bool {
+    match &item.content {
+        Content::Character(c) => *c == letter,
+        Content::Start { .. } => false,
+        Content::End => false,
+    }
+}
+
+fn holds(rope: &Rope, place: u64, letter: char) -> bool {
+    match rope.item(place) {
+        Some(item) => is_letter(item, letter),
+        None => false,
+    }
+}
+
+fn run_holds(rope: &Rope, place: u64, letter: char) -> bool {
+    match rope.run(place) {
+        Some(run) => match run.first() {
+            Some(item) => is_letter(item, letter),
+            None => false,
+        },
+        None => false,
+    }
+}
+
+fn are_letters(items: &[Item], letters: &[char]) -> bool {
+    for (item, letter) in items.iter().zip(letters.iter()) {
+        if !is_letter(item, *letter) {
+            return false;
+        }
+    }
+    items.len() == letters.len()
+}
+
+// Whether list, copy, item and run give these letters.
+fn is_list(alloc: Global, rope: &Rope, plain: &[char]) -> Result<bool, AllocError> {
+    let copy = rope.copy(alloc)?;
+    let list = copy.list(alloc)?;
+    for (index, letter) in plain.iter().enumerate() {
+        if !holds(rope, index as u64, *letter) || !run_holds(rope, index as u64, *letter) {
+            return Ok(false);
+        }
+    }
+    let past = plain.len() as u64;
+    Ok(are_letters(list.as_slice(), plain) && rope.item(past).is_none() && rope.run(past).is_none())
+}
+
+#[test]
+fn letters_put_in_front_come_in_reverse(rt: HostRuntime) -> Result<(), Fail> {
+    let alloc = rt.alloc();
+    let mut rope = Rope::new(alloc);
+    for index in 0..1025u32 {
+        splice(&mut rope, 0, 0, letters(alloc, 19_968 + index, 1)?)?;
+    }
+    let mut plain = plain_letters(alloc, 19_968, 1025)?;
+    plain.reverse();
+    assert!(rt; is_list(alloc, &rope, plain.as_slice())?);
+    splice(&mut rope, 511, 2, Document::new(alloc))?;
+    assert_eq!(rt; rope.len(), 1023);
+    assert!(rt; holds(&rope, 510, letter(19_968 + 514)));
+    assert!(rt; holds(&rope, 511, letter(19_968 + 511)));
+    Ok(())
+}
+
+#[test]
+fn splices_are_those_of_a_plain_list(rt: HostRuntime) -> Result<(), Fail> {
+    let alloc = rt.alloc();
+    let mut rope = Rope::from_list(alloc, letters(alloc, 48, 1537)?)?;
+    let mut plain = plain_letters(alloc, 48, 1537)?;
+    let mut random: u32 = 1;
+    for _ in 0..40 {
+        random = random.wrapping_mul(1_664_525).wrapping_add(1_013_904_223);
+        let from = (random >> 8) as usize % (plain.len() + 1);
+        let count = (random >> 5) as usize % 700 % (plain.len() - from + 1);
+        let more = (random >> 11) % 650;
+        splice(
+            &mut rope,
+            from as u64,
+            count as u64,
+            letters(alloc, 19_968, more)?,
+        )?;
+        let items = plain_letters(alloc, 19_968, more)?;
+        plain = splice_plain(alloc, plain.as_slice(), from, count, items.as_slice())?;
+        assert!(rt; is_list(alloc, &rope, plain.as_slice())?);
+    }
+    Ok(())
+}

@@ -1,0 +1,109 @@
+// A tree of pieces with their counts.
+ghost use Rattle.std.specs.Prelude.{◌≡◌, ℕ, ◌+◌, ◌^◌, ◌<◌, ◌≤◌, ◌==◌, ◌∷◌, ◌++◌, [], List, length, vec_capacity, true, false, slice_get, option_copied, take, drop, IfSome, IfNone};
+ghost use Rattle.doc_rope.specs.Pieces.{pieces, IsSound, total, joined};
+
+pub const PIECE: usize = 512;
+
+#[cycle(tree)]
+#[derive(Drop)]
+pub enum Tree<T> {
+    Empty,
+    Fork(Box<Node<T>>),
+}
+
+#[cycle(tree)]
+#[derive(Drop)]
+pub struct Node<T> {
+    pub left: Tree<T>,
+    pub piece: Vec<T>,
+    pub right: Tree<T>,
+    pub count: usize,
+    pub height: usize,
+}
+
+fn piece_item<T: Drop>(piece: &Vec<T>, at: usize) -> Option<&T>
+    ensures { option_copied result ≡ slice_get piece.now.items at }
+{
+    piece.get(at)
+}
+
+fn piece_run<T: Drop>(piece: &Vec<T>, at: usize) -> &[T]
+    requires { at ≤ length piece.now.items }
+    ensures { result.now ≡ drop at piece.now.items }
+{
+    piece.as_slice().split_at(at).1
+}
+
+impl<T: Drop> Tree<T> {
+    pub fn count(&self) -> usize
+        requires { IsSound self.now }
+        ensures { result ≡ total (pieces self.now) }
+    {
+        match self {
+            Tree::Empty => 0,
+            Tree::Fork(node) => node.count,
+        }
+    }
+
+    pub fn height(&self) -> usize {
+        match self {
+            Tree::Empty => 0,
+            Tree::Fork(node) => node.height,
+        }
+    }
+
+    #[tactic(auto, using(crate::proofs::Items::at_left, crate::proofs::Items::at_middle, crate::proofs::Items::at_right))]
+    pub fn item(&self, place: usize) -> Option<&T>
+        requires { IsSound self.now }
+        ensures { option_copied result ≡ slice_get (joined (pieces self.now)) place }
+    {
+        match self {
+            Tree::Empty => None,
+            Tree::Fork(node) => {
+                let before = node.left.count();
+                let len = node.piece.len();
+                if place < before {
+                    node.left.item(place)
+                } else if place - before < len {
+                    piece_item(&node.piece, place - before)
+                } else {
+                    node.right.item(place - before - len)
+                }
+            }
+        }
+    }
+
+    // The items of one piece from the place on; None where there are none.
+    #[tactic(auto, using(crate::proofs::Items::run_left, crate::proofs::Items::run_middle, crate::proofs::Items::run_right, crate::proofs::Laws::past_all))]
+    pub fn run(&self, place: usize) -> Option<&[T]>
+        requires { IsSound self.now }
+        ensures front { IfSome result (λ r. take (length r.now) (drop place (joined (pieces self.now))) ≡ r.now) }
+        ensures some { IfSome result (λ r. 0 < length r.now) }
+        ensures none { IfNone result (total (pieces self.now) ≤ place) }
+    {
+        match self {
+            Tree::Empty => None,
+            Tree::Fork(node) => {
+                let left = node.left.count();
+                let len = node.piece.len();
+                if place < left {
+                    node.left.run(place)
+                } else if place - left < len {
+                    Some(piece_run(&node.piece, place - left))
+                } else {
+                    node.right.run(place - left - len)
+                }
+            }
+        }
+    }
+
+    pub fn is_empty(&self) -> bool
+        ensures none { result ≡ true → pieces self.now ≡ [] }
+        ensures some { result ≡ false → 0 < length (pieces self.now) }
+    {
+        match self {
+            Tree::Empty => true,
+            Tree::Fork(_) => false,
+        }
+    }
+}
