@@ -1,5 +1,5 @@
 -- Laws of lists of pieces.
-use Rattle.std.proofs.Common.{◌≡◌, ℕ, ◌+◌, ◌-◌, ◌<◌, ◌≤◌, Bool, true, false, cond, ◌&&◌, List, [], ◌∷◌, ◌++◌, length, refl, sym, ap, subst, ◌∙◌, add_assoc, append_assoc, append-nil, reverse, take, drop, arith, rules, length-append, nat_le, nat_lt}
+use Rattle.std.proofs.Common.{◌≡◌, ℕ, ◌+◌, ◌-◌, ◌<◌, ◌≤◌, true, false, cond, List, [], ◌∷◌, ◌++◌, length, refl, sym, ap, ◌∙◌, add_assoc, append_assoc, append-nil, reverse, take, drop, arith, length-append, nat_le}
 use Rattle.std.proofs.lemmas.List.{reverse-append, take_at, drop_at, drop-drop}
 use Rattle.std.proofs.lemmas.Bool.{le-leb, lt-leb}
 use Rattle.doc_rope.specs.Pieces.{total, joined, add_last}

@@ -48,7 +48,7 @@ impl Rope {
         }
     }
 
-    /// The rope of the document's items, which are moved into pieces and not copied.
+    /// The rope of the document's items, which are moved into pieces and not copied. The error is want of memory.
     pub fn from_list(alloc: Global, document: Document) -> Result<Rope, Memory>
         ensures { IfOk result (λ r. r ≡ document) }
     {
@@ -84,7 +84,7 @@ impl Rope {
         self.tree.run(place as usize)
     }
 
-    /// A document of equal items, in order.
+    /// A document of equal items, in order. The error is want of memory.
     #[tactic(auto, using(crate::proofs::Laws::length_joined))]
     pub fn list(&self, alloc: Global) -> Result<Document, Memory>
         ensures { IfOk result (λ d. d ≡ self.now) }
@@ -94,7 +94,7 @@ impl Rope {
         Ok(Document::from_vec(items))
     }
 
-    /// An equal rope.
+    /// An equal rope, piece by piece. The error is want of memory.
     pub fn copy(&self, alloc: Global) -> Result<Rope, Memory>
         ensures { IfOk result (λ r. r ≡ self.now) }
     {
@@ -102,7 +102,8 @@ impl Rope {
         Ok(Rope { tree, alloc })
     }
 
-    /// Puts the document's items in place of the `count` items from place `from` on; all other items stay, in order.
+    /// Puts the document's items in place of the `count` items from place `from` on; all other items stay, in order. Those
+    /// `count` items lie in the rope, and at most `MAX_COUNT` items result.
     /// After want of memory the rope is as it was. All memory is taken before the rope changes.
     #[tactic(auto, using(crate::proofs::Laws::length_joined, crate::proofs::Seams::total_glued, crate::proofs::Seams::packed_glued, crate::proofs::Seams::joined_glued, crate::proofs::Laws::spliced))]
     pub fn splice(&mut self, from: u64, count: u64, items: Document) -> Result<(), Memory>

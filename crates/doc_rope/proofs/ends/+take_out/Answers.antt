@@ -1,4 +1,4 @@
-use Rattle.std.proofs.Common.{rules, arith, ◌≡◌, ℕ, ◌+◌, ◌<◌, length}
+use Rattle.std.proofs.Common.{rules, arith}
 use Rattle.doc_rope.proofs.Laws.{total_append, length_cut}
 use Rattle.doc_rope.proofs.ends.+take_out.Goals as goal
 

@@ -1,4 +1,4 @@
-use Rattle.std.proofs.Common.{rules, arith, ◌≡◌, ◌<◌, length}
+use Rattle.std.proofs.Common.{rules}
 use Rattle.doc_rope.specs.Pieces.{pieces}
 use Rattle.doc_rope.proofs.Laws.{fits_again}
 use Rattle.doc_rope.proofs.gather.+copy_tree.Goals as goal

@@ -1,4 +1,4 @@
-use Rattle.std.proofs.Common.{rules, arith, ◌≡◌, ◌≤◌, length}
+use Rattle.std.proofs.Common.{arith}
 use Rattle.doc_rope.specs.Pieces.{pieces}
 use Rattle.doc_rope.proofs.Seams.{middle_at_most, packed_tail}
 use Rattle.doc_rope.proofs.halves.cut_piece.Goals as goal

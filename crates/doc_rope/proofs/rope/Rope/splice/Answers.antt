@@ -1,4 +1,4 @@
-use Rattle.std.proofs.Common.{arith, ◌≡◌, ℕ, ◌+◌, ◌<◌, ◌≤◌, ◌++◌, List, length, take, drop, sym, ap, subst, ◌∙◌}
+use Rattle.std.proofs.Common.{arith, ◌++◌, List, length, sym, ap, subst, ◌∙◌}
 use Rattle.doc_items.specs.declared.item.Item.{Item}
 use Rattle.doc_rope.specs.Pieces.{pieces, joined, total, IsPacked}
 use Rattle.doc_rope.proofs.Laws.{length_joined, spliced, length_halves}
