@@ -13,6 +13,7 @@ import os
 import subprocess
 import sys
 import tempfile
+import time
 
 RUNS = [(1_000, 20_000), (100_000, 2_000)]
 REPEATS = 3
@@ -39,24 +40,35 @@ def lines(letters, edits):
         yield edit(number + 1, *[part for part in parts if part])
 
 
-def run(program, path, edits):
-    """Runs the program on a file, checks that each line was acknowledged, and gives its seconds and its peak in KiB."""
-    with open(path, "rb") as source, tempfile.TemporaryFile() as sink:
-        child = subprocess.Popen([program, "pipe"], stdin=source, stdout=sink)
+def peak_of(child):
+    """The peak memory of a process that still runs, in KiB. What the parent had before the program began doesn't count."""
+    with open("/proc/%d/status" % child.pid) as status:
+        return next(int(line.split()[1]) for line in status if line.startswith("VmHWM:"))
+
+
+def run(program, text, edits):
+    """Runs the program on a text, checks that each line was acknowledged, and gives its seconds and its peak in KiB."""
+    wanted = b"".join(b'{"type":"ack","version":%d}\n' % (n + 1) for n in range(edits + 1))
+    with tempfile.TemporaryFile() as sink:
+        child = subprocess.Popen([program, "pipe"], stdin=subprocess.PIPE, stdout=sink)
+        child.stdin.write(text)
+        child.stdin.flush()
+        while os.fstat(sink.fileno()).st_size < len(wanted) and child.poll() is None:
+            time.sleep(0.01)
+        peak = peak_of(child)
+        child.stdin.close()
         _, status, usage = os.wait4(child.pid, 0)
         sink.seek(0)
-        replies = sink.read().splitlines()
-    if status != 0 or replies != [b'{"type":"ack","version":%d}' % (n + 1) for n in range(edits + 1)]:
+        replies = sink.read()
+    if status != 0 or replies != wanted:
         sys.exit("the program did not acknowledge each edit")
-    return usage.ru_utime + usage.ru_stime, usage.ru_maxrss
+    return usage.ru_utime + usage.ru_stime, peak
 
 
 def measure(program, letters, edits):
     """The least seconds of some runs, and the greatest peak."""
-    with tempfile.NamedTemporaryFile("w", suffix=".jsonl") as file:
-        file.writelines(lines(letters, edits))
-        file.flush()
-        results = [run(program, file.name, edits) for _ in range(REPEATS)]
+    text = "".join(lines(letters, edits)).encode()
+    results = [run(program, text, edits) for _ in range(REPEATS)]
     return min(seconds for seconds, _ in results), max(peak for _, peak in results)
 
 
