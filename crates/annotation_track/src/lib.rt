@@ -2,9 +2,13 @@
 #![tactic(auto)]
 
 mod edit;
+mod meet;
+mod spans;
 mod spot;
 #[cfg(test)]
 mod tests;
 mod track;
 
+pub use meet::meet_tracks;
+pub use spans::{Span, Spans};
 pub use track::Track;

@@ -13,17 +13,20 @@ pub(crate) enum Spot {
     Before(usize),
 }
 
-/// Where the key stands, or would stand.
+/// Where the key stands, or would stand: the list is halved until one place is left.
 pub(crate) fn find(list: &[Change], key: &Text) -> Spot
     requires { IsAscending list.now }
     ensures { IsSpot list.now key.now result }
 {
-    for (index, change) in list.iter().enumerate() {
-        match key.as_str().cmp(change.key.as_str()) {
-            Ordering::Less => return Spot::Before(index),
-            Ordering::Equal => return Spot::Here(index),
-            Ordering::Greater => {}
+    let mut low = 0usize;
+    let mut high = list.len();
+    while low < high {
+        let middle = low + (high - low) / 2;
+        match key.as_str().cmp(list[middle].key.as_str()) {
+            Ordering::Less => high = middle,
+            Ordering::Equal => return Spot::Here(middle),
+            Ordering::Greater => low = middle + 1,
         }
     }
-    Spot::Before(list.len())
+    Spot::Before(low)
 }

@@ -2,6 +2,7 @@
 -- order of a map is byte order; so is the text that a map of texts gives.
 --     Key, Map X                          UTF-8 bytes; a map from them to values of X
 --     same_text, same_value, same_values  tests of ≡ on texts, on optional texts, on maps of texts
+--     is_next last k                      the key is the first of a list, or comes behind the last one in byte order
 --     tabulate ks g                       the map that has g's value at each of the keys ks
 --     each f m                            the map that has f of each of m's values
 --     merge f m n                         the map that has f of m's and n's value at each key
@@ -11,7 +12,7 @@
 --     stored, map_code                    the map of these stored strings to strings, and its code
 use Rattle.std.specs.Prelude.{ℕ, Bool, true, ◌&&◌, List, [], ◌∷◌, ◌++◌, map, nat_eq, Option, None, Some, string_bytes, String}
 use Rattle.std.specs.Option.{option_eq, option_map}
-use Rattle.std.specs.Ordering.{nat_cmp}
+use Rattle.std.specs.Ordering.{nat_cmp, is_lt}
 use Rattle.std.specs.Cmp.Lexicographic.{slice_cmp, pointwise}
 use Rattle.std.specs.Coded.{Coded, coded_ℕ, coded_list}
 use Rattle.std.specs.FinMap.{FinMap, get, keys, from_entries, insert, remove, code}
@@ -28,6 +29,10 @@ same_text a b = pointwise nat_eq a b
 
 abbrev pub same_value : Option Key → Option Key → Bool
 same_value a b = option_eq same_text a b
+
+abbrev pub is_next : Option Key → Key → Bool
+is_next None k = true
+is_next (Some last) k = is_lt (slice_cmp nat_cmp last k)
 
 module _ {X : Type 0} where
   abbrev pub entry : Key → Option X → List (Key × X) → List (Key × X)

@@ -14,7 +14,7 @@ pub use change::{Boundary, Change, Changes, Keys};
 pub use document::Document;
 pub use item::{Content, Item};
 pub use text::Text;
-pub use text_map::{Attributes, Notes, TextMap};
+pub use text_map::{Attributes, Notes, TextMap, is_next};
 
 /// Want of memory.
 pub type Memory = std::alloc::AllocError;

@@ -1,13 +1,23 @@
-ghost use Rattle.std.specs.Prelude.{◌≡◌, map, OnOk, OnErr, IfOk};
+ghost use Rattle.std.specs.Prelude.{◌≡◌, length, map, OnOk, OnErr, IfOk};
 ghost use Rattle.std.specs.Option.{option_copied};
 ghost use Rattle.std.specs.FinMap as finite;
-ghost use Rattle.doc_items.specs.Maps.{pair_of, set_key, same_values};
+ghost use Rattle.doc_items.specs.Maps.{pair_of, set_key, same_values, is_next};
 
 use crate::Memory;
 use std::alloc::Global;
 use std::collections::BTreeMap;
 use std::collections::btree_map::Iter;
 use std::marker::Model;
+
+/// Whether a key is the first of its list, or comes behind the last one in byte order.
+pub fn is_next(last: Option<&str>, key: &str) -> bool
+    ensures { result ≡ is_next (option_copied last.entry) key.now }
+{
+    match last {
+        Some(last) => last < key,
+        None => true,
+    }
+}
 
 /// A map from texts to texts, in byte order of its keys.
 #[derive(Drop)]
@@ -39,6 +49,13 @@ impl TextMap {
         TextMap {
             map: BTreeMap::new(alloc),
         }
+    }
+
+    /// The number of keys.
+    pub fn len(&self) -> usize
+        ensures { result ≡ length (finite.entries self.now) }
+    {
+        self.map.len()
     }
 
     /// The value at a key; None exactly where the key isn't there.

@@ -3,7 +3,7 @@
 --     same_content-is                         the test of contents is a test of ≡
 --     keeps_balance                           a structured operation keeps balance
 --     apply-length                            as many items as the actions give
-use Rattle.std.proofs.Common.{◌≡◌, ℕ, ◌+◌, ◌-◌, ◌<◌, ◌&&◌, Bool, true, false, cond, refl, sym, ap, subst, true≢false, Option, None, Some, is_some, List, [], ◌∷◌, length, arith}
+use Rattle.std.proofs.Common.{◌≡◌, ℕ, ◌+◌, Bool, true, false, cond, refl, sym, ap, subst, true≢false, Option, None, Some, is_some, List, [], ◌∷◌, length, arith}
 use Rattle.std.specs.Option.{option_map, unwrap_or}
 use Rattle.std.specs.Cmp.Lexicographic.{bytes_decides}
 use Rattle.std.proofs.lemmas.Bool.{and_parts, eqb-true}

@@ -3,17 +3,19 @@
 --     built_at               it took each component behind those before
 --     ascending_of_update    the keys of an update that it took ascend
 --     fits_of_boundary       a boundary that it took fits
-use Rattle.std.proofs.Common.{◌≡◌, ℕ, zero, suc, ◌<◌, ◌==◌, ◌&&◌, Bool, true, false, not, if◌then◌else◌, List, [], ◌∷◌, ◌++◌, length, take, get_or, Option, None, Some, refl, sym, subst, ap, ◌∙◌, arith, append_assoc, append-nil, true≢false}
-use Rattle.std.proofs.lemmas.Bool.{and_parts}
-use Rattle.std.specs.FinMap.{contains_key}
-use Rattle.std.specs.Str.{encode_utf8_all}
+--     has_room, taken_on     what it takes
+use Rattle.std.proofs.Common.{◌≡◌, ℕ, zero, suc, ◌<◌, ◌≤◌, ◌==◌, ◌&&◌, ◌||◌, nat_lt, Bool, true, false, not, if◌then◌else◌, List, [], ◌∷◌, ◌++◌, length, take, get_or, Option, None, Some, refl, sym, subst, ap, ◌∙◌, arith, append_assoc, append-nil, true≢false}
+use Rattle.std.proofs.lemmas.Bool.{and_parts, and_from, ne_eqb, le-ltb}
 use Rattle.doc_items.specs.Changes.{ChangeSet, ascends, AscendsFrom, IsAscending, is_named, EndsFit, NoneNamed, Fits}
 use Rattle.doc_items.specs.declared.change.Change.{Change}
 use Rattle.doc_items.specs.declared.change.Boundary.{Boundary}
 use Rattle.doc_op.specs.declared.component.Component.{Component}
-use Rattle.doc_op.specs.declared.component.Component.TheVariants.{UpdateAttributes, AnnotationBoundary}
-use Rattle.doc_op.specs.declared.fault.OpFault.{OpFault}
-use Rattle.doc_op.specs.Actions.{running}
+use Rattle.doc_op.specs.declared.component.Component.TheVariants.{Retain, UpdateAttributes, AnnotationBoundary}
+use Rattle.doc_op.specs.declared.fault.OpFault.TheVariants.{ZeroCount, CountTooLarge}
+use Rattle.doc_items.specs.Limits.{max_count}
+use Rattle.doc_op.specs.Actions.{running, actions}
+use Rattle.doc_op.specs.Cursors.{IsFitAt}
+use Rattle.doc_op.specs.Lengths.{input_len, output_len}
 use Rattle.doc_op.specs.Refusals.{first_of, component_len, zero_fault, key_fault, count_fault, runs, bad_end, bad_change, bad_key, refusal, BuiltFrom, IsBuilt}
 
 from-add : (done cs : List Component) (c : Component) → BuiltFrom done cs → refusal (done ++ cs) c ≡ None → BuiltFrom done (cs ++ c ∷ [])
@@ -33,7 +35,7 @@ built_at cs i c h lt is = from-at [] cs i c h lt is
 
 -- ---- no refusal
 
-none_first : {X : Type 0} (x y : Option X) → first_of x y ≡ None → (x ≡ None) × (y ≡ None)
+pub none_first : {X : Type 0} (x y : Option X) → first_of x y ≡ None → (x ≡ None) × (y ≡ None)
 none_first None y e = (refl, e)
 none_first (Some x) y e = absurd (cc)
 
@@ -75,3 +77,53 @@ fits_of_boundary cs b e =
     let both = none_first (bad_end (running cs) None b.end) (bad_change b.end None b.change) (no_key_fault cs (AnnotationBoundary b) e) in
     let changes = changes_fit b.end None b.change both.1 in
     (ends_fit (running cs) None b.end both.0, changes.0, changes.1)
+
+-- ---- what a builder takes
+
+taken_branch : {X : Type 0} (b : Bool) (x y : X) → b ≡ true → (if b then x else y) ≡ x
+taken_branch true x y e = refl
+taken_branch false x y e = absurd (true≢false (sym e))
+
+other_branch : {X : Type 0} (b : Bool) (x y : X) → b ≡ false → (if b then x else y) ≡ y
+other_branch true x y e = absurd (true≢false e)
+other_branch false x y e = refl
+
+none_of : {X : Type 0} (x y : Option X) → x ≡ None → y ≡ None → first_of x y ≡ None
+none_of None y e f = f
+none_of (Some x) y e f = e
+
+no_bad_end : (u : ChangeSet) (p : Option (List ℕ)) (ks : List (List ℕ)) → EndsFit u p ks → bad_end u p ks ≡ None
+no_bad_end u p [] h = refl
+no_bad_end u p (k ∷ ks) h = taken_branch (ascends p k && runs u k) (bad_end u (Some k) ks) (Some k) (and_from _ _ h.0 h.1) ∙ no_bad_end u (Some k) ks h.2
+
+no_bad_change : (ends : List (List ℕ)) (p : Option (List ℕ)) (cs : List Change) → AscendsFrom p cs → NoneNamed ends cs → bad_change ends p cs ≡ None
+no_bad_change ends p [] h n = refl
+no_bad_change ends p (c ∷ cs) h n =
+    taken_branch (ascends p c.key && not (is_named ends c.key)) (bad_change ends (Some c.key) cs) (Some c.key) (and_from _ _ h.0 (ap not n.0))
+    ∙ no_bad_change ends (Some c.key) cs h.1 n.1
+
+none_named : (cs : List Change) → NoneNamed [] cs
+none_named [] = tt
+none_named (c ∷ cs) = (refl, none_named cs)
+
+no_fault_key : (u : ChangeSet) (c : Component) → IsFitAt u c → bad_key u c ≡ None
+no_fault_key u (UpdateAttributes changes) h = no_bad_change [] None changes h (none_named changes)
+no_fault_key u (AnnotationBoundary b) h = none_of _ _ (no_bad_end u None b.end h.0) (no_bad_change b.end None b.change h.1 h.2)
+no_fault_key u (Retain n) h = refl
+no_fault_key u c h = refl
+
+some_component : (n : ℕ) → 0 < n → zero_fault n ≡ None
+some_component zero h = absurd (omega (arith, h))
+some_component (suc n) h = other_branch (suc n == 0) (Some ZeroCount) None (ne_eqb (suc n) 0 (λ e. absurd (omega (arith, e))))
+
+pub has_room : (cs : List Component) → input_len (actions cs) ≤ max_count → output_len (actions cs) ≤ max_count
+    → (if nat_lt max_count (input_len (actions cs)) || nat_lt max_count (output_len (actions cs)) then Some CountTooLarge else None) ≡ None
+has_room cs i o =
+    ap (λ b. if b || nat_lt max_count (output_len (actions cs)) then Some CountTooLarge else None) (le-ltb max_count (input_len (actions cs)) i)
+    ∙ other_branch (nat_lt max_count (output_len (actions cs))) (Some CountTooLarge) None (le-ltb max_count (output_len (actions cs)) o)
+
+pub taken_on : (cs : List Component) (c : Component) → 0 < component_len c → IsFitAt (running cs) c → input_len (actions (cs ++ c ∷ [])) ≤ max_count → output_len (actions (cs ++ c ∷ [])) ≤ max_count
+    → refusal cs c ≡ None
+taken_on cs c s h i o =
+    none_of (zero_fault (component_len c)) _ (some_component (component_len c) s)
+    (none_of (key_fault (bad_key (running cs) c)) (count_fault (cs ++ c ∷ [])) (ap key_fault (no_fault_key (running cs) c h)) (has_room (cs ++ c ∷ []) i o))

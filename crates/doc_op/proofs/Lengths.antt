@@ -1,8 +1,11 @@
 -- The lengths of operations, component by component.
 --     component_lengths     of one component's actions, whatever runs
 --     added_lengths         of an operation with one more component
+--     input_room, output_room, input_left, output_left     what has room behind other actions
 use Rattle.std.proofs.Common.{◌≡◌, ℕ, zero, suc, ◌+◌, ◌≤◌, List, [], ◌∷◌, ◌++◌, length, map, replicate, refl, ap, sym, ◌∙◌, arith, append_assoc, add-zero}
 use Rattle.doc_items.specs.Changes.{ChangeSet, none_running}
+use Rattle.doc_items.specs.Limits.{max_count}
+use Rattle.doc_items.specs.declared.item.Content.{Content}
 use Rattle.doc_items.specs.declared.item.Content.TheVariants.{Character}
 use Rattle.doc_op.specs.declared.component.Component.{Component}
 use Rattle.doc_op.specs.Actions.{Action, Keep, Ins, Del, AttributeChange, insertion, deletion, component_actions, running_after, running_from, running, actions_from, actions}
@@ -100,3 +103,36 @@ inserted_len-add = with_one inserted_len inserted_len-append refl
 pub ruleset component_lengths = (input_len-kept, output_len-kept, inserted_len-kept, input_len-inserted, output_len-inserted, inserted_len-inserted, input_len-deleted, output_len-deleted, inserted_len-deleted)
 
 pub ruleset added_lengths = (input_len-add, output_len-add, inserted_len-add)
+
+-- ---- runs of any contents
+
+pub input_len-insertions : (u : ChangeSet) (cs : List Content) → input_len (map (insertion u) cs) ≡ 0
+input_len-insertions u [] = refl
+input_len-insertions u (c ∷ cs) = input_len-insertions u cs
+
+pub output_len-insertions : (u : ChangeSet) (cs : List Content) → output_len (map (insertion u) cs) ≡ length cs
+output_len-insertions u [] = refl
+output_len-insertions u (c ∷ cs) = omega (arith, output_len-insertions u cs)
+
+pub input_len-deletions : (u : ChangeSet) (cs : List Content) → input_len (map (deletion u) cs) ≡ length cs
+input_len-deletions u [] = refl
+input_len-deletions u (c ∷ cs) = omega (arith, input_len-deletions u cs)
+
+pub output_len-deletions : (u : ChangeSet) (cs : List Content) → output_len (map (deletion u) cs) ≡ 0
+output_len-deletions u [] = refl
+output_len-deletions u (c ∷ cs) = output_len-deletions u cs
+
+-- ---- behind other actions
+
+pub input_room : (acts before more : List Action) (n : ℕ) → acts ≡ before → input_len more ≡ n → input_len before + n ≤ max_count → input_len (acts ++ more) ≤ max_count
+input_room acts before more n e f h = omega (arith, input_len-append acts more, ap input_len e, f, h)
+
+pub output_room : (acts before more : List Action) (n : ℕ) → acts ≡ before → output_len more ≡ n → output_len before + n ≤ max_count → output_len (acts ++ more) ≤ max_count
+output_room acts before more n e f h = omega (arith, output_len-append acts more, ap output_len e, f, h)
+
+-- and of what is left, the first actions have
+pub input_left : (acts front behind all : List Action) → acts ++ (front ++ behind) ≡ all → input_len all ≤ max_count → input_len acts + input_len front ≤ max_count
+input_left acts front behind all e h = omega (arith, input_len-append acts (front ++ behind), input_len-append front behind, ap input_len e, h)
+
+pub output_left : (acts front behind all : List Action) → acts ++ (front ++ behind) ≡ all → output_len all ≤ max_count → output_len acts + output_len front ≤ max_count
+output_left acts front behind all e h = omega (arith, output_len-append acts (front ++ behind), output_len-append front behind, ap output_len e, h)

@@ -1,5 +1,9 @@
 pub mod Applying
 pub mod Built
+pub mod Cursors
 pub mod Lengths
+pub mod NormalForm
+pub mod Outputs
+pub mod Spelling
 pub mod Structures
 pub mod Switches

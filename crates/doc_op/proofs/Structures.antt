@@ -1,5 +1,5 @@
 -- The depths behind components of one kind, and the structure of an operation without a break.
-use Rattle.std.proofs.Common.{◌≡◌, ℕ, zero, suc, ◌+◌, ◌-◌, ◌<◌, ◌==◌, ◌&&◌, ◌||◌, nat_lt, List, [], ◌∷◌, ◌++◌, length, map, replicate, Bool, true, false, if◌then◌else◌, refl, sym, ap, ◌∙◌, arith, Option, None, Some, option_and_then, add-one, true≢false, get_or, take, drop, drop-cons}
+use Rattle.std.proofs.Common.{◌≡◌, ℕ, zero, suc, ◌+◌, ◌<◌, ◌==◌, ◌&&◌, ◌||◌, List, [], ◌∷◌, ◌++◌, length, map, replicate, Bool, true, false, if◌then◌else◌, refl, sym, ap, ◌∙◌, arith, Option, None, Some, option_and_then, add-one, true≢false, get_or, take, drop, drop-cons}
 use Rattle.std.proofs.Math.Seq.{take-suc}
 use Rattle.doc_op.proofs.Lengths.{running-add}
 use Rattle.std.proofs.lemmas.Bool.{ne_eqb, eqb-true, eq-eqb, ltb-true, lt-ltb, and_parts, and_from}

@@ -1,6 +1,5 @@
 -- What a switch more, or one that is turned, changes of the keys that run.
-use Rattle.std.proofs.Common.{◌≡◌, ℕ, ◌+◌, ◌<◌, Bool, true, false, cond, ◌||◌, List, [], ◌∷◌, ◌++◌, length, take, get_or, refl, sym, ap, subst, ◌∙◌, arith, add-one, true≢false, below_more, Option, None, Some, is_some}
-use Rattle.std.proofs.Math.Seq.{take-suc}
+use Rattle.std.proofs.Common.{◌≡◌, ℕ, ◌+◌, ◌<◌, Bool, true, false, cond, ◌||◌, List, length, get_or, refl, sym, ap, subst, ◌∙◌, true≢false, below_more, Option, None, Some, is_some}
 use Rattle.std.proofs.lemmas.List.{get_or_default}
 use Rattle.std.specs.Str.{encode_utf8_all}
 use Rattle.std.specs.Ordering.{nat_cmp, eq_by_cmp}
@@ -8,7 +7,7 @@ use Rattle.std.specs.Cmp.Lexicographic.{slice_cmp}
 use Rattle.std.proofs.lemmas.Cmp.{nat_list_cmp_total, eq_by_cmp_equiv}
 use Rattle.std.specs.FinMap.{get, contains_key, insert, remove, get-insert, get-remove, get-empty, empty}
 use Rattle.doc_items.specs.Maps.{Key, Map}
-use Rattle.doc_items.specs.Changes.{KeyChange, ChangeSet, key_change, without, with_changes}
+use Rattle.doc_items.specs.Changes.{KeyChange, ChangeSet}
 use Rattle.doc_items.specs.declared.change.Change.{Change}
 use Rattle.doc_items.proofs.Maps.{tie, tied}
 use Rattle.doc_op.specs.Running.{is_on, on_at, IsThere, AreThereBelow, IsSwitched, Follows, SameSwitches, KeepsThere}

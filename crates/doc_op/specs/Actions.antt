@@ -6,10 +6,10 @@
 --     running cs           the changes that run behind these components
 --     component_actions u c      the actions of a component under the running changes u
 --     actions cs           the actions of an operation
-use Rattle.std.specs.Prelude.{ℕ, List, [], ◌∷◌, ◌++◌, map, replicate, Option, None, Some, option_and_then}
+use Rattle.std.specs.Prelude.{List, [], ◌∷◌, ◌++◌, map, replicate, Option, option_and_then}
 use Rattle.std.specs.FinMap.{get, keys}
 use Rattle.doc_items.specs.Maps.{Key, Map, tabulate, each}
-use Rattle.doc_items.specs.Changes.{KeyChange, ChangeSet, none_running, change_set, after_boundary}
+use Rattle.doc_items.specs.Changes.{ChangeSet, none_running, change_set, after_boundary}
 use Rattle.doc_items.specs.declared.item.Content.{Content}
 use Rattle.doc_items.specs.declared.item.Content.TheVariants.{Character, Start, End}
 use Rattle.doc_items.specs.declared.item.Item.{Item}

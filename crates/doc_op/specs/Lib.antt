@@ -4,3 +4,8 @@ pub mod Apply
 pub mod Lengths
 pub mod Refusals
 pub mod Running
+pub mod Codes
+pub mod Runs
+pub mod Cursors
+pub mod Normal
+pub mod Outputs

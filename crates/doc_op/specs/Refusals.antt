@@ -6,7 +6,7 @@
 --     refusal cs c      why a builder with the components cs refuses c, if it does
 --     takes cs c        it doesn't
 --     IsBuilt cs        a builder takes each component in turn
-use Rattle.std.specs.Prelude.{◌≡◌, ℕ, ◌+◌, ◌==◌, ◌&&◌, ◌||◌, nat_lt, nat_le, List, [], ◌∷◌, ◌++◌, length, Bool, true, false, not, if◌then◌else◌, Option, None, Some, is_none}
+use Rattle.std.specs.Prelude.{◌≡◌, ℕ, ◌+◌, ◌==◌, ◌&&◌, ◌||◌, nat_lt, List, [], ◌∷◌, ◌++◌, length, Bool, not, if◌then◌else◌, Option, None, Some, is_none}
 use Rattle.std.specs.Str.{encode_utf8_all}
 use Rattle.std.specs.FinMap.{contains_key}
 use Rattle.doc_items.specs.Limits.{max_count}

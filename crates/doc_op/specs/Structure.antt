@@ -6,7 +6,7 @@
 --     depths_behind d acts   the depths behind some actions, unless one breaks the rules
 --     first_break cs         the index of the first component that breaks the rules, or the number of components where a depth
 --                            isn't 0 at the end
-use Rattle.std.specs.Prelude.{◌≡◌, ℕ, ◌+◌, ◌==◌, ◌&&◌, nat_lt, Bool, true, false, List, [], ◌∷◌, Option, None, Some, if◌then◌else◌, option_and_then}
+use Rattle.std.specs.Prelude.{◌≡◌, ℕ, ◌+◌, ◌==◌, ◌&&◌, nat_lt, Bool, true, List, [], ◌∷◌, Option, None, Some, if◌then◌else◌, option_and_then}
 use Rattle.doc_items.specs.Balance.{level, Closes}
 use Rattle.doc_items.specs.Changes.{ChangeSet, none_running}
 use Rattle.doc_items.specs.declared.item.Content.{Content}

@@ -3,15 +3,26 @@
 
 mod builder;
 mod component;
+mod cursor;
 mod depths;
 mod fault;
 mod keys;
+mod normal;
+mod normal_builder;
+#[cfg(test)]
+mod normal_tests;
 mod op;
+mod open;
+mod run;
 mod running;
 #[cfg(test)]
 mod tests;
 
 pub use builder::Builder;
 pub use component::Component;
+pub use cursor::Cursor;
 pub use fault::OpFault;
+pub use normal::normal_form_holds;
+pub use normal_builder::NormalBuilder;
 pub use op::DocOp;
+pub use run::{AttributePart, ContentRun, Head};

@@ -15,13 +15,13 @@ use Rattle.std.proofs.lemmas.Bool.{and_parts, and_from}
 use Rattle.serde_json.specs.Data.{Data, string}
 use Rattle.serde_json.specs.View.{items_of}
 use Rattle.doc_items.specs.Maps.{Key, Map}
-use Rattle.doc_items.proofs.Maps.{alike, tie, tied}
+use Rattle.doc_items.proofs.Rising.{Rising, entries_rise, rest_rises, next_above, insert_all, all_inserted}
 use Rattle.doc_items.specs.declared.change.Change.{Change}
 use Rattle.doc_items.specs.declared.change.Boundary.{Boundary}
 use Rattle.doc_op.specs.declared.component.Component.{Component}
 use Rattle.doc_op.specs.declared.component.Component.TheVariants.{Characters, DeleteCharacters, ElementStart, DeleteElementStart, ReplaceAttributes, UpdateAttributes, AnnotationBoundary}
 use Rattle.doc_op.specs.Refusals.{refusal, takes, BuiltFrom, IsBuilt}
-use Rattle.op_json.specs.Read.{text_of, optional_text_of, list_from, is_next, entry_of, attributes_from, attributes_of, change_of, changes_of, keys_of, boundary_of, element_of, replaced_of, component_of, if_taken, operation_from, operation_of}
+use Rattle.op_json.specs.Read.{text_of, optional_text_of, list_from, entry_of, attributes_from, attributes_of, change_of, changes_of, keys_of, boundary_of, element_of, replaced_of, component_of, if_taken, operation_from, operation_of}
 use Rattle.op_json.specs.Write.{text_data, optional_data, list_data, entry_data, attributes_data, change_data, boundary_data, element_data, replaced_data, component_data, op_data}
 use Rattle.op_json.specs.Back.{IsReadBack, AreReadBack}
 
@@ -42,76 +42,6 @@ module _ {X : Type 0} (read : Data → Option X) (write : X → Data) where
       ∙ ap Some (append_assoc found (x ∷ []) xs)
 
 -- ---- attributes
-
-abbrev insert_all : Map Key → List (Key × Key) → Map Key
-insert_all m [] = m
-insert_all m (e ∷ es) = insert_all (finite.insert m e.0 e.1) es
-
-abbrev or_else : {X : Type 0} → Option X → Option X → Option X
-or_else None w = w
-or_else (Some x) w = Some x
-
--- a list of entries whose keys strictly rise
-abbrev Rising : List (Key × Key) → Type 0
-Rising es = finite.is_sorted (slice_cmp nat_cmp) es ≡ true
-
-is_true : (b : Bool) → T b → b ≡ true
-is_true true p = refl
-is_true false p = absurd p
-
-entries_rise : (m : Map Key) → Rising (finite.entries m)
-entries_rise m = is_true (finite.is_sorted (slice_cmp nat_cmp) (finite.entries m)) (finite.entries_sorted m)
-
-unlike : (o : Ordering) → is_lt o ≡ true → is_eq o ≡ false
-unlike Less p = refl
-unlike Equal p = absurd (cc)
-unlike Greater p = refl
-
-rest_rises : (e : Key × Key) (es : List (Key × Key)) → Rising (e ∷ es) → Rising es
-rest_rises e es h = (and_parts _ _ h).1
-
-ends_joined : (a b c d : Bool) → ((a && b) && (c && d)) ≡ true → (b && d) ≡ true
-ends_joined true b c d h = let parts = and_parts b (c && d) h in and_from b d parts.0 (and_parts c d parts.1).1
-ends_joined false b c d h = absurd (cc)
-
-abbrev below : Key → List (Key × Key) → Bool
-below k [] = true
-below k (e ∷ es) = is_lt (slice_cmp nat_cmp k e.0) && below k es
-
--- the one behind the next
-skips : (e f : Key × Key) (es : List (Key × Key)) → Rising (e ∷ f ∷ es) → Rising (e ∷ es)
-skips e f es h = ends_joined (is_lt (slice_cmp nat_cmp e.0 f.0)) (below e.0 es) (below f.0 es) (finite.is_sorted (slice_cmp nat_cmp) es) h
-
-next_above : (e f : Key × Key) (es : List (Key × Key)) → Rising (e ∷ f ∷ es) → is_next (Some e.0) f.0 ≡ true
-next_above e f es h = (and_parts _ _ (and_parts _ _ h).0).0
-
-not_found : (e : Key × Key) (es : List (Key × Key)) → Rising (e ∷ es) → finite.find (slice_cmp nat_cmp) e.0 es ≡ None
-not_found e [] h = refl
-not_found e (f ∷ es) h =
-    ap (λ b. cond b (Some f.1) (finite.find (slice_cmp nat_cmp) e.0 es)) (unlike _ (next_above e f es h))
-    ∙ not_found e es (skips e f es h)
-
-get-insert_all : (m : Map Key) (es : List (Key × Key)) (q : Key) → Rising es → finite.get (insert_all m es) q ≡ or_else (finite.find (slice_cmp nat_cmp) q es) (finite.get m q)
-unfolding tie
-get-insert_all m [] q h = refl
-get-insert_all m (e ∷ es) q h =
-    get-insert_all (finite.insert m e.0 e.1) es q (rest_rises e es h)
-    ∙ ap (or_else (finite.find (slice_cmp nat_cmp) q es)) (finite.get-insert nat_list_cmp_total m e.0 e.1 q)
-    ∙ elim (tie q e.0) as (λ b. tie q e.0 ≡ b → or_else (finite.find (slice_cmp nat_cmp) q es) (cond b (Some e.1) (finite.get m q)) ≡ or_else (cond b (Some e.1) (finite.find (slice_cmp nat_cmp) q es)) (finite.get m q)) [
-      | true ↦ λ t. ap (λ w. or_else w (Some e.1)) (ap (λ k. finite.find (slice_cmp nat_cmp) k es) (tied q e.0 t) ∙ not_found e es h)
-      | false ↦ λ t. refl
-    ] refl
-
-or_none : {X : Type 0} (v : Option X) → or_else v None ≡ v
-or_none None = refl
-or_none (Some x) = refl
-
-all_inserted : (m : Map Key) → insert_all finite.empty (finite.entries m) ≡ m
-all_inserted m = alike _ _ (λ q.
-    get-insert_all finite.empty (finite.entries m) q (entries_rise m)
-    ∙ ap (or_else (finite.find (slice_cmp nat_cmp) q (finite.entries m))) (finite.get-empty (slice_cmp nat_cmp) q)
-    ∙ or_none _
-    ∙ sym (finite.get-entries m q))
 
 -- behind this entry
 entries_from : (m : Map Key) (e : Key × Key) (es : List (Key × Key)) → Rising (e ∷ es) → attributes_from m (Some e.0) (items_of (map entry_data es)) ≡ Some (insert_all m es)

@@ -13,7 +13,7 @@ use Rattle.std.specs.Str.{chars, bytes_eq}
 use Rattle.std.specs.FinMap.{empty, insert}
 use Rattle.serde_json.specs.Data.{Data, Items, no_items, item}
 use Rattle.serde_json.specs.Find.{as_null, as_bool, as_number, as_u64, as_str, as_array}
-use Rattle.doc_items.specs.Maps.{Key, Map}
+use Rattle.doc_items.specs.Maps.{Key, Map, is_next}
 use Rattle.doc_items.specs.declared.change.Change.{Change}
 use Rattle.doc_items.specs.declared.change.Boundary.{Boundary}
 use Rattle.doc_op.specs.declared.component.Component.{Component}
@@ -43,11 +43,6 @@ list_from f found (item d ds) = option_and_then (λ x. list_from f (found ++ x �
 
 abbrev pub entry_of : Data → Option (Key × Key)
 entry_of d = option_and_then (λ m. option_and_then (λ k. option_map (λ v. (k, v)) (as_str m.1)) (as_str m.0)) (two_members (codes "key") (codes "value") d)
-
--- the key is the first, or comes behind the last in byte order
-abbrev pub is_next : Option Key → Key → Bool
-is_next None k = true
-is_next (Some last) k = is_lt (slice_cmp nat_cmp last k)
 
 -- the attributes found so far, the last with this key, with those of the items
 abbrev pub attributes_from : Map Key → Option Key → Items → Option (Map Key)

@@ -3,11 +3,11 @@ ghost use Rattle.std.specs.Prelude.{◌≡◌, IfOk, None, option_map};
 ghost use Rattle.std.specs.Option.{option_copied};
 ghost use Rattle.std.specs.FinMap.{empty};
 ghost use Rattle.serde_json.specs.View.{view, items_view};
-ghost use Rattle.op_json.specs.Read.{entry_of, is_next, attributes_from, attributes_of, element_of, replaced_of};
+ghost use Rattle.op_json.specs.Read.{entry_of, attributes_from, attributes_of, element_of, replaced_of};
 
 use crate::members::two_members;
 use crate::scalar::text_of;
-use doc_items::{Attributes, Memory, Text};
+use doc_items::{Attributes, Memory, Text, is_next};
 use serde_json::Value;
 use std::alloc::Global;
 
@@ -19,16 +19,6 @@ fn entry_of(value: &Value) -> Option<(&str, &str)>
     let key = key.as_str()?;
     let text = text.as_str()?;
     Some((key, text))
-}
-
-// Whether the key is the first of its list, or comes behind the last in byte order.
-fn is_next(last: Option<&str>, key: &str) -> bool
-    ensures { result ≡ is_next (option_copied last.entry) key.now }
-{
-    match last {
-        Some(last) => last < key,
-        None => true,
-    }
 }
 
 // The attributes that a value is.

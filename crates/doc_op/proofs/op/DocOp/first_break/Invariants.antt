@@ -1,4 +1,4 @@
-use Rattle.std.proofs.Common.{◌≡◌, ◌≤◌, ◌+◌, take, drop}
+use Rattle.std.proofs.Common.{◌≡◌, ◌≤◌, take, drop}
 use Rattle.doc_op.specs.Actions.{running}
 use Rattle.doc_op.specs.Structure.{first_break, first_break_from}
 use Rattle.doc_op.proofs.op.DocOp.first_break.Given as goal

@@ -1,4 +1,4 @@
-use Rattle.std.proofs.Common.{◌≡◌, ℕ, sym, ◌∙◌, Option, Some, None, rules}
+use Rattle.std.proofs.Common.{◌≡◌, ℕ, sym, ◌∙◌, Some, None, rules}
 use Rattle.doc_op.proofs.Structures.{unbroken_is_structured, structured_is_unbroken}
 use Rattle.doc_op.proofs.op.DocOp.is_structured.Goals as goal
 

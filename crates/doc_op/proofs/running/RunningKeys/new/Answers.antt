@@ -1,5 +1,4 @@
 use Rattle.std.proofs.Common.{◌≡◌, Bool, false, ap, sym, subst}
-use Rattle.std.specs.FinMap as finite
 use Rattle.doc_items.specs.Maps.{Key, Map, strings}
 use Rattle.doc_items.specs.Changes.{none_running}
 use Rattle.doc_op.specs.Running.{Follows, on_at}

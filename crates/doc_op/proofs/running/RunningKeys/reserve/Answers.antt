@@ -1,6 +1,6 @@
 use Rattle.std.proofs.Common.{◌≡◌, false, ap, sym, subst, ◌∙◌, is_some, string_bytes}
 use Rattle.std.specs.FinMap as finite
-use Rattle.doc_items.specs.Maps.{Map, strings}
+use Rattle.doc_items.specs.Maps.{strings}
 use Rattle.doc_items.proofs.Views.{get-strings, put-strings}
 use Rattle.doc_op.specs.Running.{IsThere, SameSwitches, KeepsThere}
 use Rattle.doc_op.proofs.Switches.{same-insert, kept-insert, there-insert}

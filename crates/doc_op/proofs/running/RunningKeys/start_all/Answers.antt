@@ -1,4 +1,4 @@
-use Rattle.std.proofs.Common.{true, get_or, sym, ap, subst, ◌∙◌}
+use Rattle.std.proofs.Common.{true, sym, subst}
 use Rattle.std.specs.Str.{encode_utf8_all}
 use Rattle.doc_items.specs.Changes.{key_change}
 use Rattle.doc_items.specs.declared.change.Change.{Change}

@@ -1,6 +1,4 @@
-use Rattle.std.proofs.Common.{ℕ, List, false, sym, subst}
-use Rattle.doc_items.specs.Maps.{Map}
-use Rattle.doc_items.specs.Changes.{ChangeSet}
+use Rattle.std.proofs.Common.{false, sym, subst}
 use Rattle.doc_op.specs.Running.{IsSwitched, Follows}
 use Rattle.doc_op.proofs.Switches.{follows-stopped, kept-switched}
 use Rattle.doc_items.proofs.ChangeSets.{without_next}

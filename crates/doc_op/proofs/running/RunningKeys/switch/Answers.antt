@@ -2,7 +2,6 @@ use Rattle.std.proofs.Common.{◌≡◌, sym, ap, ◌∙◌, rules, true≢false
 use Rattle.std.specs.FinMap as finite
 use Rattle.doc_items.specs.Maps.{strings}
 use Rattle.doc_items.proofs.Views.{get-strings, put-strings}
-use Rattle.doc_op.specs.Running.{IsSwitched}
 use Rattle.doc_op.proofs.running.RunningKeys.switch.Goals as goal
 
 pub returns : goal.returns

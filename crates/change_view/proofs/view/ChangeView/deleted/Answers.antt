@@ -1,0 +1,8 @@
+use Rattle.change_view.proofs.Views.{viewed, kept, made_deleted}
+use Rattle.change_view.proofs.view.ChangeView.deleted.Goals as goal
+
+pub invariant_of-result : goal.invariant_of-result
+invariant_of-result c = kept _ _ (made_deleted _ _ _ (viewed _ _ _ c.self.invariant c.self.view_is c.as_slice.ensures.value) c.in_ok-list.ensures)
+
+pub returns : goal.returns
+returns c = (made_deleted _ _ _ (viewed _ _ _ c.self.invariant c.self.view_is c.as_slice.ensures.value) c.in_ok-list.ensures).value

@@ -1,0 +1,250 @@
+ghost use Rattle.std.specs.Prelude.{◌≡◌, true, Some, None, IfSome};
+ghost use Rattle.std.specs.Option.{option_copied, option_map};
+ghost use Rattle.change_view.specs.Rules.{combined, passing, one_second, one_second_turned, one_over, one_under, one_then, one_unlike, one_starting, same_old, new_is_old, old_is_there};
+ghost use Rattle.change_view.specs.Lists.{value_of};
+
+use crate::entry::{ChangeRef, same_values};
+
+/// What becomes of a key where two change sets meet at it.
+#[derive(Clone, Copy)]
+pub enum Rule {
+    /// The second's change where it has one, else the first's.
+    Second,
+    /// The second's change turned back where it has one, else the first's.
+    SecondTurned,
+    /// The first's change, from the second's new value where the second has the key.
+    Over,
+    /// The first's change where the second lacks the key.
+    Under,
+    /// From the first's old value to the second's new one; a key of one alone keeps its change.
+    Then,
+    /// The first's change where the second hasn't the very same.
+    Unlike,
+    /// The first's change, from the second's new value, absent where the second lacks the key.
+    Starting,
+}
+
+impl Rule {
+    /// What the rule makes of the two changes of a key.
+    pub(crate) fn combine<'a>(
+        self,
+        key: &'a str,
+        first: Option<ChangeRef<'a>>,
+        second: Option<ChangeRef<'a>>,
+    ) -> Option<ChangeRef<'a>>
+        ensures value { option_map value_of result ≡ combined self (option_map value_of first.entry) (option_map value_of second.entry) }
+        ensures key { IfSome result (λ c. c.key.now ≡ key.entry.now) }
+    {
+        match self {
+            Rule::Second => second_first(key, first, second),
+            Rule::SecondTurned => second_turned_first(key, first, second),
+            Rule::Over => over(key, first, second),
+            Rule::Under => under(key, first, second),
+            Rule::Then => then(key, first, second),
+            Rule::Unlike => unlike(key, first, second),
+            Rule::Starting => starting(key, first, second),
+        }
+    }
+}
+
+fn second_first<'a>(
+    key: &'a str,
+    first: Option<ChangeRef<'a>>,
+    second: Option<ChangeRef<'a>>,
+) -> Option<ChangeRef<'a>>
+    ensures value { option_map value_of result ≡ one_second (option_map value_of first.entry) (option_map value_of second.entry) }
+    ensures key { IfSome result (λ c. c.key.now ≡ key.entry.now) }
+{
+    match second {
+        Some(change) => Some(change.at(key)),
+        None => at(key, first),
+    }
+}
+
+fn second_turned_first<'a>(
+    key: &'a str,
+    first: Option<ChangeRef<'a>>,
+    second: Option<ChangeRef<'a>>,
+) -> Option<ChangeRef<'a>>
+    ensures value { option_map value_of result ≡ one_second_turned (option_map value_of first.entry) (option_map value_of second.entry) }
+    ensures key { IfSome result (λ c. c.key.now ≡ key.entry.now) }
+{
+    match second {
+        Some(change) => Some(change.turned().at(key)),
+        None => at(key, first),
+    }
+}
+
+fn over<'a>(
+    key: &'a str,
+    first: Option<ChangeRef<'a>>,
+    second: Option<ChangeRef<'a>>,
+) -> Option<ChangeRef<'a>>
+    ensures value { option_map value_of result ≡ one_over (option_map value_of first.entry) (option_map value_of second.entry) }
+    ensures key { IfSome result (λ c. c.key.now ≡ key.entry.now) }
+{
+    match first {
+        Some(mine) => match second {
+            Some(theirs) => Some(ChangeRef {
+                key,
+                old: theirs.new,
+                new: mine.new,
+            }),
+            None => Some(mine.at(key)),
+        },
+        None => None,
+    }
+}
+
+fn under<'a>(
+    key: &'a str,
+    first: Option<ChangeRef<'a>>,
+    second: Option<ChangeRef<'a>>,
+) -> Option<ChangeRef<'a>>
+    ensures value { option_map value_of result ≡ one_under (option_map value_of first.entry) (option_map value_of second.entry) }
+    ensures key { IfSome result (λ c. c.key.now ≡ key.entry.now) }
+{
+    match second {
+        Some(_) => None,
+        None => at(key, first),
+    }
+}
+
+fn then<'a>(
+    key: &'a str,
+    first: Option<ChangeRef<'a>>,
+    second: Option<ChangeRef<'a>>,
+) -> Option<ChangeRef<'a>>
+    ensures value { option_map value_of result ≡ one_then (option_map value_of first.entry) (option_map value_of second.entry) }
+    ensures key { IfSome result (λ c. c.key.now ≡ key.entry.now) }
+{
+    match first {
+        Some(before) => match second {
+            Some(behind) => Some(ChangeRef {
+                key,
+                old: before.old,
+                new: behind.new,
+            }),
+            None => Some(before.at(key)),
+        },
+        None => at(key, second),
+    }
+}
+
+fn unlike<'a>(
+    key: &'a str,
+    first: Option<ChangeRef<'a>>,
+    second: Option<ChangeRef<'a>>,
+) -> Option<ChangeRef<'a>>
+    ensures value { option_map value_of result ≡ one_unlike (option_map value_of first.entry) (option_map value_of second.entry) }
+    ensures key { IfSome result (λ c. c.key.now ≡ key.entry.now) }
+{
+    match first {
+        Some(mine) => match second {
+            Some(theirs) => {
+                if mine.same_values(theirs) {
+                    None
+                } else {
+                    Some(mine.at(key))
+                }
+            }
+            None => Some(mine.at(key)),
+        },
+        None => None,
+    }
+}
+
+fn starting<'a>(
+    key: &'a str,
+    first: Option<ChangeRef<'a>>,
+    second: Option<ChangeRef<'a>>,
+) -> Option<ChangeRef<'a>>
+    ensures value { option_map value_of result ≡ one_starting (option_map value_of first.entry) (option_map value_of second.entry) }
+    ensures key { IfSome result (λ c. c.key.now ≡ key.entry.now) }
+{
+    match first {
+        Some(mine) => match second {
+            Some(theirs) => Some(ChangeRef {
+                key,
+                old: theirs.new,
+                new: mine.new,
+            }),
+            None => Some(ChangeRef {
+                key,
+                old: None,
+                new: mine.new,
+            }),
+        },
+        None => None,
+    }
+}
+
+fn at<'a>(key: &'a str, change: Option<ChangeRef<'a>>) -> Option<ChangeRef<'a>>
+    ensures value { option_map value_of result ≡ option_map value_of change.entry }
+    ensures key { IfSome result (λ c. c.key.now ≡ key.entry.now) }
+{
+    match change {
+        Some(change) => Some(change.at(key)),
+        None => None,
+    }
+}
+
+/// What is asked of a key where two change sets meet at it.
+#[derive(Clone, Copy)]
+pub enum Test {
+    /// Where both have the key: their old values are equal.
+    SameOld,
+    /// Where both have the key: the first's new value is the second's old one.
+    NewIsOld,
+    /// Where the second has the key: its old value is the first's new one, absent where the first lacks the key.
+    OldIsThere,
+}
+
+impl Test {
+    /// Whether the two changes of a key pass.
+    pub(crate) fn holds(self, first: Option<ChangeRef<'_>>, second: Option<ChangeRef<'_>>) -> bool
+        ensures { result ≡ passing self (option_map value_of first.entry) (option_map value_of second.entry) }
+    {
+        match self {
+            Test::SameOld => has_same_old(first, second),
+            Test::NewIsOld => has_new_as_old(first, second),
+            Test::OldIsThere => has_old_there(first, second),
+        }
+    }
+}
+
+fn has_same_old(first: Option<ChangeRef<'_>>, second: Option<ChangeRef<'_>>) -> bool
+    ensures { result ≡ same_old (option_map value_of first.entry) (option_map value_of second.entry) }
+{
+    match first {
+        Some(mine) => match second {
+            Some(theirs) => same_values(mine.old, theirs.old),
+            None => true,
+        },
+        None => true,
+    }
+}
+
+fn has_new_as_old(first: Option<ChangeRef<'_>>, second: Option<ChangeRef<'_>>) -> bool
+    ensures { result ≡ new_is_old (option_map value_of first.entry) (option_map value_of second.entry) }
+{
+    match first {
+        Some(mine) => match second {
+            Some(theirs) => same_values(mine.new, theirs.old),
+            None => true,
+        },
+        None => true,
+    }
+}
+
+fn has_old_there(first: Option<ChangeRef<'_>>, second: Option<ChangeRef<'_>>) -> bool
+    ensures { result ≡ old_is_there (option_map value_of first.entry) (option_map value_of second.entry) }
+{
+    match second {
+        Some(theirs) => match first {
+            Some(mine) => same_values(theirs.old, mine.new),
+            None => theirs.old.is_none(),
+        },
+        None => true,
+    }
+}

@@ -1,0 +1,10 @@
+use Rattle.std.proofs.Common.{◌∷◌, [], refl}
+use Rattle.doc_op.specs.Actions.{Keep, Replace}
+use Rattle.doc_op.proofs.Lengths.{input_room, output_room}
+use Rattle.doc_op.proofs.normal_builder.NormalBuilder.replace.Goals as goal
+
+pub put_lone-requires-clause-input : goal.put_lone-requires-clause-input
+put_lone-requires-clause-input c = input_room c.take-builder.result c.args.self.now (Keep c.args.changes.now (Replace c.in_ok-old.old c.in_ok-new.new) ∷ []) 1 c.take-builder.ensures.taken refl c.requires.input
+
+pub put_lone-requires-clause-output : goal.put_lone-requires-clause-output
+put_lone-requires-clause-output c = output_room c.take-builder.result c.args.self.now (Keep c.args.changes.now (Replace c.in_ok-old.old c.in_ok-new.new) ∷ []) 1 c.take-builder.ensures.taken refl c.requires.output

@@ -1,0 +1,9 @@
+use Rattle.std.proofs.Common.{◌≡◌, []}
+use Rattle.op_codec.specs.Reading.{list_of, change_at}
+use Rattle.op_codec.proofs.parts.changes_of.Given as goal
+
+abbrev pub invariant-loop-left : goal.invariant-loop-left
+invariant-loop-left l = list_of change_at [] l.count l.bytes ≡ list_of change_at l.changes.items l.left l.rest
+
+abbrev pub decreases-loop-left : goal.decreases-loop-left
+decreases-loop-left l = l.left

@@ -1,0 +1,37 @@
+ghost use Rattle.std.specs.Prelude.{◌≡◌, ◌<◌, ◌++◌, length, IfOk, OnOk};
+ghost use Rattle.doc_op.specs.Actions.{actions};
+ghost use Rattle.doc_op.specs.Normal.{normal_form};
+ghost use Rattle.op_codec.specs.Spelling.{limit, capped};
+ghost use Rattle.op_codec.specs.Canonical.{canonical, IsSpelling};
+
+use crate::measure::Meter;
+use crate::writing::write_components;
+use doc_items::Memory;
+use doc_op::DocOp;
+use std::alloc::Global;
+
+/// The number of bytes of an operation's spelling, or 4,294,967,296 where there are as many or more.
+pub fn spelling_len(alloc: Global, op: &DocOp) -> Result<u64, Memory>
+    ensures { IfOk result (λ n. n ≡ capped (length (canonical op.now))) }
+{
+    let normal = op.normal(alloc)?;
+    let mut meter = Meter::new();
+    meter.add_components(&normal);
+    Ok(meter.size())
+}
+
+/// Appends the spelling of an operation, which has fewer than 4,294,967,296 bytes. After want of memory a part of it may
+/// stand behind what was there.
+pub fn write(alloc: Global, op: &DocOp, out: &mut Vec<u8>) -> Result<(), Memory>
+    requires { length (canonical op.now) < limit }
+    ensures appended { OnOk result (out.new.items ≡ out.old.items ++ canonical op.now) }
+    ensures spelling { OnOk result (IsSpelling (normal_form (actions op.now))) }
+{
+    let normal = op.normal(alloc)?;
+    let _components = normal.as_slice();
+    let mut meter = Meter::new();
+    meter.add_components(&normal);
+    out.reserve(meter.size() as usize)?;
+    write_components(out, &normal)?;
+    Ok(())
+}

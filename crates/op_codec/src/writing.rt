@@ -1,0 +1,159 @@
+// What is appended for each part of an operation.
+ghost use Rattle.std.specs.Prelude.{◌≡◌, ◌++◌, ◌∷◌, OnOk};
+ghost use Rattle.std.specs.Int.{w32, to_be_bytes};
+ghost use Rattle.op_codec.specs.Spelling.{string, text, optional, listed, attributes, change, boundary, component, spelling};
+
+use doc_items::{Attributes, Boundary, Change, Memory, Text};
+use doc_op::{Component, DocOp};
+
+// The four low bytes of a count.
+fn write_count(out: &mut Vec<u8>, count: usize) -> Result<(), Memory>
+    ensures { OnOk result (out.new.items ≡ out.old.items ++ to_be_bytes w32 count) }
+{
+    let bytes = (count as u64).to_be_bytes();
+    let [_, _, _, _, low @ ..] = bytes.as_slice() else {
+        unreachable!()
+    };
+    out.extend_from_slice(low)?;
+    Ok(())
+}
+
+fn write_string(out: &mut Vec<u8>, value: &str) -> Result<(), Memory>
+    ensures { OnOk result (out.new.items ≡ out.old.items ++ string value.now) }
+{
+    write_count(out, value.len())?;
+    out.extend_from_slice(value.as_bytes())?;
+    Ok(())
+}
+
+fn write_text(out: &mut Vec<u8>, value: &Text) -> Result<(), Memory>
+    ensures { OnOk result (out.new.items ≡ out.old.items ++ text value.now) }
+{
+    write_string(out, value.as_str())
+}
+
+fn write_optional(out: &mut Vec<u8>, value: &Option<Text>) -> Result<(), Memory>
+    ensures { OnOk result (out.new.items ≡ out.old.items ++ optional value.now) }
+{
+    match value {
+        Some(text) => {
+            out.push(1)?;
+            write_text(out, text)
+        }
+        None => {
+            out.push(0)?;
+            Ok(())
+        }
+    }
+}
+
+fn write_attributes(out: &mut Vec<u8>, map: &Attributes) -> Result<(), Memory>
+    ensures { OnOk result (out.new.items ≡ out.old.items ++ attributes map.now) }
+{
+    write_count(out, map.len())?;
+    for (key, value) in map.iter() {
+        write_string(out, key.as_str())?;
+        write_string(out, value.as_str())?;
+    }
+    Ok(())
+}
+
+fn write_change(out: &mut Vec<u8>, value: &Change) -> Result<(), Memory>
+    ensures { OnOk result (out.new.items ≡ out.old.items ++ change value.now) }
+{
+    write_text(out, &value.key)?;
+    write_optional(out, &value.old)?;
+    write_optional(out, &value.new)
+}
+
+fn write_changes(out: &mut Vec<u8>, changes: &[Change]) -> Result<(), Memory>
+    ensures { OnOk result (out.new.items ≡ out.old.items ++ listed change changes.now) }
+{
+    write_count(out, changes.len())?;
+    for change in changes {
+        write_change(out, change)?;
+    }
+    Ok(())
+}
+
+fn write_boundary(out: &mut Vec<u8>, value: &Boundary) -> Result<(), Memory>
+    ensures { OnOk result (out.new.items ≡ out.old.items ++ boundary value.now) }
+{
+    write_keys(out, value.end.as_slice())?;
+    write_changes(out, value.change.as_slice())
+}
+
+fn write_keys(out: &mut Vec<u8>, keys: &[Text]) -> Result<(), Memory>
+    ensures { OnOk result (out.new.items ≡ out.old.items ++ listed text keys.now) }
+{
+    write_count(out, keys.len())?;
+    for key in keys {
+        write_text(out, key)?;
+    }
+    Ok(())
+}
+
+fn write_element(out: &mut Vec<u8>, tag: u8, kind: &Text, map: &Attributes) -> Result<(), Memory>
+    ensures { OnOk result (out.new.items ≡ out.old.items ++ tag ∷ (text kind.now ++ attributes map.now)) }
+{
+    out.push(tag)?;
+    write_text(out, kind)?;
+    write_attributes(out, map)
+}
+
+fn write_component(out: &mut Vec<u8>, value: &Component) -> Result<(), Memory>
+    ensures { OnOk result (out.new.items ≡ out.old.items ++ component value.now) }
+{
+    match value {
+        Component::Retain(count) => {
+            out.push(1)?;
+            out.extend_from_slice(&count.to_be_bytes())?;
+            Ok(())
+        }
+        Component::Characters(text) => {
+            out.push(2)?;
+            write_text(out, text)
+        }
+        Component::ElementStart { kind, attributes } => write_element(out, 3, kind, attributes),
+        Component::ElementEnd => {
+            out.push(4)?;
+            Ok(())
+        }
+        Component::DeleteCharacters(text) => {
+            out.push(5)?;
+            write_text(out, text)
+        }
+        Component::DeleteElementStart { kind, attributes } => {
+            write_element(out, 6, kind, attributes)
+        }
+        Component::DeleteElementEnd => {
+            out.push(7)?;
+            Ok(())
+        }
+        Component::ReplaceAttributes { old, new } => {
+            out.push(8)?;
+            write_attributes(out, old)?;
+            write_attributes(out, new)
+        }
+        Component::UpdateAttributes(changes) => {
+            out.push(9)?;
+            write_changes(out, changes.as_slice())
+        }
+        Component::AnnotationBoundary(boundary) => {
+            out.push(10)?;
+            write_boundary(out, boundary)
+        }
+    }
+}
+
+/// Appends the bytes of an operation as it stands. After want of memory some of them are there.
+pub(crate) fn write_components(out: &mut Vec<u8>, op: &DocOp) -> Result<(), Memory>
+    ensures { OnOk result (out.new.items ≡ out.old.items ++ spelling op.now) }
+{
+    let components = op.as_slice();
+    write_count(out, components.len())?;
+    for component in components {
+        write_component(out, component)?;
+    }
+    Ok(())
+}

@@ -1,0 +1,11 @@
+pub mod Chains
+pub mod Law
+pub mod Depths
+pub mod Fronts
+pub mod Runs
+pub mod Named
+pub mod Rows
+pub mod Rooms
+pub mod Keys
+pub mod Arms
+pub mod Steps

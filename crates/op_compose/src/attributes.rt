@@ -1,0 +1,192 @@
+// Two changes of one element's attributes, one behind the other.
+ghost use Rattle.std.specs.Prelude.{◌≡◌, ◌<◌, length, replicate, ◌&&◌, ◌++◌, ◌∷◌, [], IfOk, OnOk};
+ghost use Rattle.doc_items.specs.Changes.{IsAscending, change_set};
+ghost use Rattle.doc_op.specs.Actions.{Keep, Update};
+ghost use Rattle.doc_op.specs.Runs.{part_change, IsFitPart};
+ghost use Rattle.op_compose.specs.Chains.{follows, attributes_follow, attributes_then};
+ghost use Rattle.op_compose.specs.Ahead.{kept_change, IsFitKept};
+ghost use Rattle.op_compose.specs.Weaves.{HasRoomFor};
+
+use crate::ahead::Kept;
+use crate::contents::{agree, agree_back, put, put_back};
+use change_view::{ChangeView, Rule, Test};
+use doc_items::{Changes, Memory};
+use doc_op::{AttributePart, NormalBuilder};
+use std::alloc::Global;
+
+/// Whether items that stay in the first operation can stay in the second, under the running changes `w` and `u`.
+pub(crate) fn follow(
+    alloc: Global,
+    x: Kept<'_>,
+    w: &ChangeView<'_>,
+    y: Kept<'_>,
+    u: &ChangeView<'_>,
+) -> Result<bool, Memory>
+    requires fit_x { IsFitKept x }
+    requires fit_y { IsFitKept y }
+    ensures { IfOk result (λ t. t ≡ (follows w.now u.now && attributes_follow (kept_change x.entry.part) (kept_change y.entry.part))) }
+{
+    let running = w.passes(u, Test::NewIsOld);
+    let attributes = attributes_follow(alloc, x, y)?;
+    Ok(running && attributes)
+}
+
+fn attributes_follow(alloc: Global, x: Kept<'_>, y: Kept<'_>) -> Result<bool, Memory>
+    requires fit_x { IsFitKept x }
+    requires fit_y { IsFitKept y }
+    ensures { IfOk result (λ t. t ≡ attributes_follow (kept_change x.entry.part) (kept_change y.entry.part)) }
+{
+    match x.part {
+        None => Ok(true),
+        Some(first) => match y.part {
+            None => Ok(true),
+            Some(second) => parts_follow(alloc, first, second),
+        },
+    }
+}
+
+fn parts_follow(
+    alloc: Global,
+    first: AttributePart<'_>,
+    second: AttributePart<'_>,
+) -> Result<bool, Memory>
+    requires fit_first { IsFitPart first }
+    requires fit_second { IsFitPart second }
+    ensures { IfOk result (λ t. t ≡ attributes_follow (part_change first.entry) (part_change second.entry)) }
+{
+    match first {
+        AttributePart::Update(changes) => follows_update(alloc, changes, second),
+        AttributePart::Replace { old: _, new } => Ok(agree(second, new)),
+    }
+}
+
+fn follows_update(
+    alloc: Global,
+    changes: &Changes,
+    second: AttributePart<'_>,
+) -> Result<bool, Memory>
+    requires some { 0 < length changes.now }
+    requires ascending { IsAscending changes.now }
+    requires fit { IsFitPart second }
+    ensures { IfOk result (λ t. t ≡ attributes_follow (Update (change_set changes.now)) (part_change second.entry)) }
+{
+    match second {
+        AttributePart::Update(others) => {
+            let before = ChangeView::of(alloc, changes)?;
+            let behind = ChangeView::of(alloc, others)?;
+            Ok(before.passes(&behind, Test::NewIsOld))
+        }
+        AttributePart::Replace { old, new: _ } => {
+            agree_back(alloc, AttributePart::Update(changes), old)
+        }
+    }
+}
+
+// Writes a change as it is.
+fn write_part(
+    out: &mut NormalBuilder,
+    alloc: Global,
+    running: &ChangeView<'_>,
+    part: AttributePart<'_>,
+) -> Result<(), Memory>
+    requires fit { IsFitPart part }
+    requires room { HasRoomFor out.old 1 }
+    ensures { OnOk result (out.new ≡ out.old ++ Keep running.now (part_change part.entry) ∷ []) }
+{
+    match part {
+        AttributePart::Update(changes) => {
+            let view = ChangeView::of(alloc, changes)?;
+            out.update(alloc, running, &view)
+        }
+        AttributePart::Replace { old, new } => out.replace(alloc, running, old, new),
+    }
+}
+
+// Writes items that stay as one operation has them.
+fn write_kept(
+    out: &mut NormalBuilder,
+    alloc: Global,
+    running: &ChangeView<'_>,
+    kept: Kept<'_>,
+) -> Result<(), Memory>
+    requires fit { IsFitKept kept }
+    requires room { HasRoomFor out.old kept.count }
+    ensures { OnOk result (out.new ≡ out.old ++ replicate kept.entry.count (Keep running.now (kept_change kept.entry.part))) }
+{
+    match kept.part {
+        None => out.keep(alloc, kept.count, running),
+        Some(part) => write_part(out, alloc, running, part),
+    }
+}
+
+/// Writes items that stay in both operations.
+pub(crate) fn write_then<'a>(
+    out: &mut NormalBuilder,
+    alloc: Global,
+    running: &ChangeView<'_>,
+    x: Kept<'a>,
+    y: Kept<'a>,
+) -> Result<(), Memory>
+    requires fit_x { IsFitKept x }
+    requires fit_y { IsFitKept y }
+    requires same { x.count ≡ y.count }
+    requires room { HasRoomFor out.old x.count }
+    ensures { OnOk result (out.new ≡ out.old ++ replicate x.entry.count (Keep running.now (attributes_then (kept_change x.entry.part) (kept_change y.entry.part)))) }
+{
+    match x.part {
+        None => write_kept(out, alloc, running, y),
+        Some(first) => match y.part {
+            None => write_part(out, alloc, running, first),
+            Some(second) => write_parts_then(out, alloc, running, first, second),
+        },
+    }
+}
+
+// Writes two changes as one.
+fn write_parts_then<'a>(
+    out: &mut NormalBuilder,
+    alloc: Global,
+    running: &ChangeView<'_>,
+    first: AttributePart<'a>,
+    second: AttributePart<'a>,
+) -> Result<(), Memory>
+    requires fit_first { IsFitPart first }
+    requires fit_second { IsFitPart second }
+    requires room { HasRoomFor out.old 1 }
+    ensures { OnOk result (out.new ≡ out.old ++ Keep running.now (attributes_then (part_change first.entry) (part_change second.entry)) ∷ []) }
+{
+    match first {
+        AttributePart::Update(changes) => write_update_then(out, alloc, running, changes, second),
+        AttributePart::Replace { old, new } => {
+            let end = put(alloc, second, new)?;
+            out.replace(alloc, running, old, &end)
+        }
+    }
+}
+
+fn write_update_then<'a>(
+    out: &mut NormalBuilder,
+    alloc: Global,
+    running: &ChangeView<'_>,
+    changes: &'a Changes,
+    second: AttributePart<'a>,
+) -> Result<(), Memory>
+    requires some { 0 < length changes.now }
+    requires ascending { IsAscending changes.now }
+    requires fit { IsFitPart second }
+    requires room { HasRoomFor out.old 1 }
+    ensures { OnOk result (out.new ≡ out.old ++ Keep running.now (attributes_then (Update (change_set changes.now)) (part_change second.entry)) ∷ []) }
+{
+    match second {
+        AttributePart::Update(others) => {
+            let before = ChangeView::of(alloc, changes)?;
+            let behind = ChangeView::of(alloc, others)?;
+            let both = before.merged(alloc, &behind, Rule::Then)?;
+            out.update(alloc, running, &both)
+        }
+        AttributePart::Replace { old, new } => {
+            let start = put_back(alloc, AttributePart::Update(changes), old)?;
+            out.replace(alloc, running, &start, new)
+        }
+    }
+}

@@ -1,0 +1,64 @@
+ghost use Rattle.std.specs.Prelude.{◌≡◌, ◌≤◌, ◌<◌, IfOk, IfErr, OnOk, MatchResult, IsTrue, ◌↔◌};
+ghost use Rattle.doc_items.specs.Limits.{max_count};
+ghost use Rattle.doc_op.specs.Actions.{actions};
+ghost use Rattle.doc_op.specs.Normal.{normal_form};
+ghost use Rattle.op_compose.specs.Steps.{together, IsComposition, IsDontFit, IsRefused};
+
+use crate::ComposeFault;
+use crate::step::step;
+use crate::weave::Weave;
+use doc_items::{MAX_COUNT, Memory};
+use doc_op::{Cursor, DocOp};
+use std::alloc::Global;
+
+/// The operation that does what the first and then the second does, in normal form; structured where both are. Refusals, in
+/// this order: `CountTooLarge`, `DontFit`.
+pub fn compose(alloc: Global, first: &DocOp, second: &DocOp) -> Result<DocOp, ComposeFault>
+    ensures ok { IfOk result (λ op. IsComposition first.now second.now op) }
+    ensures fits { OnOk result (together (actions first.now) (actions second.now) ≤ max_count) }
+    ensures refused { IfErr result (λ e. IsRefused e first.now second.now) }
+{
+    if fit_together(first, second) {
+        weave_over(alloc, first, second)
+    } else {
+        Err(ComposeFault::CountTooLarge)
+    }
+}
+
+// Whether the first's input and both counts of inserted items are within the greatest count.
+fn fit_together(first: &DocOp, second: &DocOp) -> bool
+    ensures { IsTrue result ↔ (together (actions first.now) (actions second.now) ≤ max_count) }
+{
+    first.input_len() + (first.inserted() + second.inserted()) <= MAX_COUNT
+}
+
+fn weave_over(alloc: Global, first: &DocOp, second: &DocOp) -> Result<DocOp, ComposeFault>
+    requires { together (actions first.now) (actions second.now) ≤ max_count }
+    ensures { MatchResult result
+        (λ op. IsComposition first.now second.now op)
+        (λ e. IsDontFit e first.now second.now) }
+{
+    let mut done = Weave::new(alloc);
+    let mut f = Cursor::new(alloc, first)?;
+    let mut s = Cursor::new(alloc, second)?;
+    'walk: loop {
+        match step(alloc, &mut done, &mut f, &mut s) {
+            Ok(more) => {
+                if !more {
+                    return Ok(finish(alloc, done)?);
+                }
+            }
+            Err(fault) => return Err(fault),
+        }
+    }
+}
+
+// The operation that came out.
+fn finish(alloc: Global, done: Weave) -> Result<DocOp, Memory>
+    ensures normal { IfOk result (λ op. op ≡ normal_form (actions op)) }
+    ensures actions { IfOk result (λ op. actions op ≡ done.out) }
+{
+    let Weave { out, place: _ } = done;
+    let op = out.finish(alloc)?;
+    Ok(op)
+}

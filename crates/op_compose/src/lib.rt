@@ -1,0 +1,18 @@
+//! The composition of two operations: one that does what the first and then the second does.
+#![tactic(auto)]
+
+mod ahead;
+mod attributes;
+mod composition;
+mod contents;
+mod fault;
+mod laws;
+mod output;
+mod step;
+#[cfg(test)]
+mod tests;
+mod weave;
+
+pub use composition::compose;
+pub use fault::ComposeFault;
+pub use laws::composition_holds;

@@ -1,0 +1,15 @@
+pub mod Arms
+pub mod Changes
+pub mod Fronts
+pub mod Full
+pub mod Items
+pub mod Keys
+pub mod Laws
+pub mod Meeting
+pub mod Named
+pub mod Outcomes
+pub mod Rooms
+pub mod Rows
+pub mod Steps
+pub mod Runs
+pub mod Structures

@@ -1,0 +1,5 @@
+use Rattle.op_transform.proofs.Runs.{text_disagrees}
+use Rattle.op_transform.proofs.side.Side.delete_changed.Goals as goal
+
+pub returns-in-Characters : goal.returns-in-Characters
+returns-in-Characters c = text_disagrees c.args.part c.args.run c.in-Characters.field-0 _ c.in-Characters.is c.requires.one

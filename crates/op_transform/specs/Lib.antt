@@ -1,0 +1,7 @@
+pub mod Crossing
+pub mod Transform
+pub mod Square
+pub mod Walks
+pub mod Taken
+pub mod Steps
+pub mod Results

@@ -1,0 +1,18 @@
+//! The transform of two operations that were made on one document: each for the document that the other gives.
+#![tactic(auto)]
+
+mod attributes;
+mod both;
+mod contents;
+mod fault;
+mod pair;
+mod side;
+mod step;
+mod taken;
+#[cfg(test)]
+mod tests;
+mod walk;
+
+pub use both::transform;
+pub use fault::TransformFault;
+pub use pair::Pair;
