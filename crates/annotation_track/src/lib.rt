@@ -5,8 +5,6 @@ mod edit;
 mod meet;
 mod spans;
 mod spot;
-#[cfg(test)]
-mod tests;
 mod track;
 
 pub use meet::meet_tracks;

@@ -5,8 +5,6 @@ mod entry;
 mod lists;
 mod meet;
 mod rule;
-#[cfg(test)]
-mod tests;
 mod view;
 
 pub use entry::ChangeRef;

@@ -20,5 +20,3 @@ pub use load::{Loaded, Unloaded};
 pub use name::stored_name;
 pub use stored::{Bytes, Stored, StoredRecords};
 
-#[cfg(test)]
-mod tests;

@@ -10,5 +10,3 @@ mod steps;
 pub use disk::{Disk, DiskError, DiskFault};
 pub use memory::MemoryDisk;
 
-#[cfg(test)]
-mod tests;

@@ -5,8 +5,6 @@
 mod change;
 mod document;
 mod item;
-#[cfg(test)]
-mod tests;
 mod text;
 mod text_map;
 

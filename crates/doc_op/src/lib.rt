@@ -9,14 +9,10 @@ mod fault;
 mod keys;
 mod normal;
 mod normal_builder;
-#[cfg(test)]
-mod normal_tests;
 mod op;
 mod open;
 mod run;
 mod running;
-#[cfg(test)]
-mod tests;
 
 pub use builder::Builder;
 pub use component::Component;

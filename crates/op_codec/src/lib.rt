@@ -9,8 +9,6 @@ mod number;
 mod parts;
 mod reading;
 mod spell;
-#[cfg(test)]
-mod tests;
 mod text;
 mod writing;
 

@@ -9,8 +9,6 @@ mod fault;
 mod laws;
 mod output;
 mod step;
-#[cfg(test)]
-mod tests;
 mod weave;
 
 pub use composition::compose;

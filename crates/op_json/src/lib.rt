@@ -16,5 +16,3 @@ pub use members::three_members;
 pub use read::from_value;
 pub use write::to_value;
 
-#[cfg(test)]
-mod tests;

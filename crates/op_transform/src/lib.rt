@@ -9,8 +9,6 @@ mod pair;
 mod side;
 mod step;
 mod taken;
-#[cfg(test)]
-mod tests;
 mod walk;
 
 pub use both::transform;

@@ -8,8 +8,6 @@
 
 mod reading;
 mod showing;
-#[cfg(test)]
-mod tests;
 
 pub use reading::operation;
 pub use showing::{shown, shown_document};

@@ -15,5 +15,3 @@ pub use sink::Sink;
 pub use source::Source;
 pub use streams::{ReaderSource, WriterSink};
 
-#[cfg(test)]
-mod tests;

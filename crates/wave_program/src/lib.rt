@@ -18,5 +18,3 @@ pub use message::MAX_CLIENT;
 pub use reply::Reply;
 pub use top::run;
 
-#[cfg(test)]
-mod tests;

@@ -1,4 +1,4 @@
-use crate::{operation, shown};
+use op_words::{operation, shown};
 use std::test::Fail;
 
 #[test]

@@ -1,4 +1,4 @@
-use crate::{Disk, MemoryDisk};
+use disk_model::{Disk, MemoryDisk};
 use std::test::Fail;
 
 #[test]

@@ -1,7 +1,7 @@
 // Bytes in, and the same bytes out.
-use crate::{CodecFault, ReadOp, read, spelling_len, write};
 use doc_items::{Boundary, Change, Changes, Keys, Memory, Text};
 use doc_op::{Builder, Component, DocOp, OpFault};
+use op_codec::{CodecFault, ReadOp, read, spelling_len, write};
 use std::alloc::Global;
 use std::test::Fail;
 

@@ -1,7 +1,7 @@
-use crate::{Failed, MemorySink, MemorySource, ReaderSource, Sink, Source, WriterSink};
 use std::io;
 use std::io::Write;
 use std::test::Fail;
+use wave_outside::{Failed, MemorySink, MemorySource, ReaderSource, Sink, Source, WriterSink};
 
 // A writer that is full.
 #[derive(Drop)]

@@ -1,7 +1,7 @@
 ghost use Rattle.std.specs.Prelude.{IfOk};
 ghost use Rattle.doc_items.specs.Changes.{IsAscending};
 
-use crate::{ChangeView, Rule, Test};
+use change_view::{ChangeView, Rule, Test};
 use doc_items::{Change, Changes, Memory, Text, TextMap};
 use std::alloc::Global;
 use std::test::Fail;

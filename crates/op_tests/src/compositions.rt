@@ -1,5 +1,5 @@
 // Operations stand here as words of `op_words`.
-use crate::{ComposeFault, compose};
+use op_compose::{ComposeFault, compose};
 use op_words::{operation, shown};
 use std::alloc::Global;
 use std::test::Fail;

@@ -1,8 +1,8 @@
 // Runs over objects in memory. The sessions were answered by programs that know nothing of this one.
-use crate::{MAX_CLIENT, run};
 use std::alloc::{AllocError, Global};
 use std::test::Fail;
 use wave_outside::{MemorySink, MemorySource};
+use wave_program::{MAX_CLIENT, run};
 
 const BAD: &str = r#"{"reason":"NotMessage","type":"bad"}"#;
 

@@ -1,7 +1,7 @@
 // Operations and documents stand here as words of `op_words`.
-use crate::{Pair, TransformFault, transform};
 use doc_items::Document;
 use doc_op::DocOp;
+use op_transform::{Pair, TransformFault, transform};
 use op_validity::apply;
 use op_words::{operation, shown, shown_document};
 use std::alloc::Global;

@@ -1,4 +1,4 @@
-use crate::{Journal, JournalFault, StoredRecords, stored_name};
+use delta_journal::{Journal, JournalFault, StoredRecords, stored_name};
 use disk_model::MemoryDisk;
 use std::alloc::{AllocError, Global};
 use std::test::Fail;

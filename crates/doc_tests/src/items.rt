@@ -1,4 +1,4 @@
-use crate::{Boundary, Change, Changes, Content, Document, Item, Keys, Notes, Text};
+use doc_items::{Boundary, Change, Changes, Content, Document, Item, Keys, Notes, Text};
 use std::alloc::{AllocError, Global};
 use std::test::Fail;
 

@@ -1,7 +1,7 @@
 ghost use Rattle.std.specs.Prelude.{◌≡◌, ◌+◌, IfOk};
 ghost use Rattle.annotation_track.specs.Spans.{total};
 
-use crate::{Span, Spans, Track, meet_tracks};
+use annotation_track::{Span, Spans, Track, meet_tracks};
 use doc_items::{Boundary, Change, Changes, Keys, Memory, Text};
 use std::alloc::Global;
 use std::test::Fail;

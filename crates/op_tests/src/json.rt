@@ -1,5 +1,5 @@
 // JSON in, and the same operation as JSON out.
-use crate::{JsonFault, from_value, to_value};
+use op_json::{JsonFault, from_value, to_value};
 use serde_json::Value;
 use std::alloc::Global;
 use std::test::Fail;

@@ -1,0 +1,13 @@
+//! Tests of documents and of what they are made of: items, change sets, running changes, builders of operations, normal forms.
+#![tactic(auto)]
+
+#[cfg(test)]
+mod builders;
+#[cfg(test)]
+mod items;
+#[cfg(test)]
+mod normal_forms;
+#[cfg(test)]
+mod tracks;
+#[cfg(test)]
+mod views;
