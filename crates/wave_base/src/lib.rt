@@ -3,17 +3,23 @@
 #![tactic(auto)]
 
 mod address;
+mod delta_id;
 mod document_name;
 mod domain;
 mod fault;
 mod grammar;
+mod hashed_version;
 mod scanner;
 mod session_name;
+#[cfg(test)]
+mod tests;
 mod wavelet_name;
 
 pub use address::Address;
+pub use delta_id::DeltaId;
 pub use document_name::DocumentName;
 pub use domain::Domain;
 pub use fault::BaseFault;
+pub use hashed_version::HashedVersion;
 pub use session_name::SessionName;
 pub use wavelet_name::WaveletName;

@@ -46,7 +46,7 @@ pub fn cut(text: &str, separator: char) -> Option<(&str, &str)>
 }
 
 /// What stands before the first `separator`; the whole text where there is none.
-pub fn before(text: &str, separator: char) -> &str
+pub fn text_before(text: &str, separator: char) -> &str
     requires { separator < 128 }
     ensures { result.now ≡ before separator text.now }
 {
@@ -57,7 +57,7 @@ pub fn before(text: &str, separator: char) -> &str
 }
 
 /// What stands behind the first `separator`; nothing where there is none.
-pub fn behind(text: &str, separator: char) -> &str
+pub fn text_behind(text: &str, separator: char) -> &str
     requires { separator < 128 }
     ensures { result.now ≡ behind separator text.now }
 {
