@@ -1,5 +1,5 @@
 -- A text cut at a byte: whether the byte is there, and the parts on both sides of it.
-use Rattle.std.proofs.Common.{◌≡◌, ◌<◌, ◌≤◌, ◌==◌, ◌||◌, ◌&&◌, ◌+◌, ℕ, Bool, true, false, not, cond, ltb, leb, eqb, length, List, [], ◌∷◌, ◌++◌, Option, None, Some, take_all, refl, sym, ap, ◌∙◌, arith, Bor}
+use Rattle.std.proofs.Common.{◌≡◌, ◌<◌, ◌≤◌, ◌==◌, ◌||◌, ◌&&◌, ◌+◌, ℕ, Bool, true, false, not, cond, ltb, leb, eqb, length, List, [], ◌∷◌, Option, None, Some, take_all, sym, ap, ◌∙◌, arith, Bor}
 use Rattle.std.specs.Option.{MatchOption}
 use Rattle.std.specs.List.{list_any, position_or_len, before_first, after_first}
 use Rattle.std.proofs.lemmas.List.{drop_all}

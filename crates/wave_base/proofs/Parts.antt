@@ -1,5 +1,5 @@
 -- What names are made of: their parts, and how long they can be.
-use Rattle.std.proofs.Common.{◌≡◌, ◌<◌, ◌≤◌, ◌==◌, ◌&&◌, ◌+◌, ℕ, Bool, true, false, ltb, leb, eqb, get_or, length, List, [], ◌∷◌, ◌++◌, refl, sym, ap, subst, ◌∙◌, length-append, arith}
+use Rattle.std.proofs.Common.{◌≡◌, ◌<◌, ◌≤◌, ◌==◌, ◌&&◌, ◌+◌, ℕ, Bool, true, leb, length, List, ◌∷◌, ◌++◌, sym, ap, ◌∙◌, length-append, arith}
 use Rattle.std.specs.List.{list_any, list_all, slice_split, position_or_len, before_first, after_first}
 use Rattle.std.proofs.lemmas.Bool.{and_parts}
 use Rattle.std.proofs.lemmas.Bool.Decides.{nat_tests}
@@ -10,6 +10,9 @@ use Rattle.wave_base.proofs.Cuts.{any-first}
 
 pub same_number : (a b : ℕ) → (a == b) ≡ true → a ≡ b
 same_number a b e = grind (arith, nat_tests)
+
+pub own_number : (a : ℕ) → (a == a) ≡ true
+own_number a = grind (arith, nat_tests)
 
 pub split-here : (b : ℕ) (t : List ℕ) → list_any (λ c. c == b) t ≡ true → t ≡ before b t ++ b ∷ behind b t
 unfolding before behind

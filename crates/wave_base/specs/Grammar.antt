@@ -9,7 +9,7 @@
 --     domain_of, host_of           the domain of an address, the wavelet domain of a wavelet name
 use Rattle.std.specs.Prelude.{ℕ, Bool, true, ◌≡◌, ◌&&◌, ◌||◌, ◌==◌, nat_le, List, length, not, codes}
 use Rattle.std.specs.Char.{is_ascii_lowercase, is_ascii_uppercase, is_ascii_digit}
-use Rattle.std.specs.List.{list_any, list_all, slice_split, position_or_len, before_first, after_first}
+use Rattle.std.specs.List.{list_any, list_all, slice_split, before_first, after_first}
 use Rattle.wave_base.specs.declared.scanner.Alphabet.{Alphabet}
 use Rattle.wave_base.specs.declared.scanner.Alphabet.TheVariants.{User, Label, Id}
 

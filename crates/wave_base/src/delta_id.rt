@@ -35,17 +35,6 @@ impl Model for DeltaId {
 }
 
 impl DeltaId {
-    /// The id of these three.
-    pub fn new(author: Address, client: u64, number: u64) -> DeltaId
-        requires client { client ≤ max_count }
-        requires number { number ≤ max_count }
-        ensures author { result.author ≡ author }
-        ensures client { result.client ≡ client }
-        ensures number { result.number ≡ number }
-    {
-        DeltaId { author, client, number }
-    }
-
     /// An equal id.
     pub fn copy(&self, alloc: Global) -> Result<DeltaId, Memory>
         ensures { IfOk result (λ i. i ≡ self.now) }

@@ -29,17 +29,6 @@ impl Model for HashedVersion {
     ghost inverse = { λ v. record { version = v.version; hash = v.hash } };
 }
 
-impl HashedVersion {
-    /// The version with this hash.
-    pub fn new(version: u64, hash: [u8; 32]) -> HashedVersion
-        requires { version ≤ max_count }
-        ensures version { result.version ≡ version }
-        ensures hash { result.hash ≡ hash }
-    {
-        HashedVersion { version, hash }
-    }
-}
-
 impl PartialEq for HashedVersion {
     ghost eq = { same_version };
 

@@ -9,6 +9,7 @@ mod domain;
 mod fault;
 mod grammar;
 mod hashed_version;
+mod laws;
 mod scanner;
 mod session_name;
 #[cfg(test)]
@@ -21,5 +22,6 @@ pub use document_name::DocumentName;
 pub use domain::Domain;
 pub use fault::BaseFault;
 pub use hashed_version::HashedVersion;
+pub use laws::{addresses_have_two_parts, domains_are_labels, wavelet_names_have_four_parts};
 pub use session_name::SessionName;
 pub use wavelet_name::WaveletName;

@@ -25,7 +25,8 @@ impl Alphabet {
         match self {
             Alphabet::User => matches!(byte, b'.' | b'_' | b'+' | b'-'),
             Alphabet::Label => byte == b'-',
-            Alphabet::Id => byte.is_ascii_uppercase() || matches!(byte, b'+' | b'-' | b'.' | b'_' | b'~' | b'*'),
+            Alphabet::Id => byte.is_ascii_uppercase()
+                || matches!(byte, b'+' | b'-' | b'.' | b'_' | b'~' | b'*'),
         }
     }
 }
