@@ -1,0 +1,7 @@
+//! Tests of names and hashes.
+#![tactic(auto)]
+
+#[cfg(test)]
+mod hashes;
+#[cfg(test)]
+mod names;

@@ -1,0 +1,4 @@
+pub mod Cuts
+pub mod Made
+pub mod Parts
+pub mod Same
