@@ -8,9 +8,11 @@
 --     apart        a piece and the next one wouldn't fit into one
 --     IsPacked     each piece is sized and apart from the next
 --     glued        two packed lists of pieces as one
+--     IsSpare      a node without items that has room for 512
 --     InPieces     what holds of each rope: a sound tree of packed pieces with at most max_count items
 use Rattle.std.specs.Prelude.{◌≡◌, ℕ, ◌+◌, ◌≤◌, Bool, true, cond, ◌&&◌, List, [], ◌∷◌, ◌++◌, length, ◌==◌, nat_le, nat_lt, vec_capacity}
 use Rattle.doc_items.specs.Limits.{max_count}
+use Rattle.doc_rope.specs.declared.tree.Node.{Node}
 use Rattle.doc_rope.specs.declared.tree.Tree.{Tree}
 use Rattle.doc_rope.specs.declared.tree.Tree.TheVariants.{Empty, Fork'}
 
@@ -56,6 +58,9 @@ IsPacked ps = packed ps ≡ true
 abbrev pub glued : {T : Type 0} → List (List T) → List (List T) → List (List T)
 glued xs [] = xs
 glued xs (q ∷ ys) = add_last xs q ++ ys
+
+abbrev pub IsSpare : {T : Type 0} → Node T → Type 0
+IsSpare n = (n.piece.items ≡ []) × (512 ≤ vec_capacity n.piece)
 
 pub record InPieces {T : Type 0} (t : Tree T) : Type 0 where
   pub sound : IsSound t
