@@ -6,7 +6,7 @@ use crate::ends::concat;
 use crate::gather::{gather, spare};
 use crate::halves::cut;
 use crate::tree::{Node, Tree};
-use doc_items::{Document, Item, Memory};
+use doc_items::{Item, Memory};
 use std::alloc::Global;
 use std::marker::Model;
 
@@ -21,7 +21,7 @@ pub struct Insertion {
 
 impl Model for Insertion {
     ghost use Rattle.std.specs.Prelude.{List};
-    ghost use Rattle.doc_rope.specs.Pieces.{pieces, joined, InPieces, IsSpare};
+    ghost use Rattle.doc_rope.specs.Pieces.{pieces, joined, IsSound, IsPacked, IsSpare};
     ghost use Rattle.std.specs.Coded.{coded_list};
     ghost use Rattle.doc_items.specs.declared.item.Item.{Item};
     ghost use Rattle.doc_items.specs.contracts.item.Item as item_row;
@@ -32,15 +32,16 @@ impl Model for Insertion {
 
     ghost view = { λ i. joined (pieces i.tree) };
 
-    ghost invariant = { λ i. InPieces i.tree × IsSpare i.first.value × IsSpare i.second.value };
+    ghost invariant = { λ i. IsSound i.tree × IsPacked (pieces i.tree) × IsSpare i.first.value × IsSpare i.second.value };
 }
 
 impl Insertion {
-    /// The document's items, which are moved into pieces and not copied. The error is want of memory.
-    pub(crate) fn new(alloc: Global, document: Document) -> Result<Insertion, Memory>
-        ensures { IfOk result (λ i. i ≡ document) }
+    /// The items, which are moved into pieces and not copied. The error is want of memory.
+    pub fn new(alloc: Global, items: Vec<Item>) -> Result<Insertion, Memory>
+        ensures { IfOk result (λ i. i ≡ items.items) }
     {
-        let tree = gather(alloc, document.into_vec())?;
+        let _count = items.len();
+        let tree = gather(alloc, items)?;
         let first = spare(alloc)?;
         let second = spare(alloc)?;
         Ok(Insertion {

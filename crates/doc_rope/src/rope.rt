@@ -114,7 +114,7 @@ impl Rope {
     pub fn ready(alloc: Global, document: Document) -> Result<Insertion, Memory>
         ensures { IfOk result (λ i. i ≡ document) }
     {
-        Insertion::new(alloc, document)
+        Insertion::new(alloc, document.into_vec())
     }
 
     /// Puts the items in place of the `count` items from place `from` on; all other items stay, in order. Those `count` items
