@@ -13,10 +13,10 @@ use std::marker::Model;
 /// Items with all the memory that it takes to put them into a rope; seen as their list.
 #[derive(Drop)]
 pub struct Insertion {
-    tree: Tree<Item>,
+    tree: Tree,
     // For the pieces that are cut at both ends of what is replaced.
-    first: Box<Node<Item>>,
-    second: Box<Node<Item>>,
+    first: Box<Node>,
+    second: Box<Node>,
 }
 
 impl Model for Insertion {
@@ -53,7 +53,7 @@ impl Insertion {
 
     /// The tree with these items in place of the `count` items from place `from` on.
     #[tactic(auto, using(crate::proofs::Laws::length_joined, crate::proofs::Seams::total_glued, crate::proofs::Seams::packed_glued, crate::proofs::Seams::joined_glued, crate::proofs::Laws::spliced))]
-    pub(crate) fn put_into(self, tree: Tree<Item>, from: usize, count: usize) -> Tree<Item>
+    pub(crate) fn put_into(self, tree: Tree, from: usize, count: usize) -> Tree
         requires sound { IsSound tree }
         requires packed { IsPacked (pieces tree) }
         requires inside { from + count ≤ total (pieces tree) }

@@ -6,9 +6,11 @@ mod ends;
 mod gather;
 mod halves;
 mod insertion;
+mod piece;
 mod reader;
 mod replacement;
 mod rope;
+mod shape;
 #[cfg(test)]
 mod tests;
 mod tree;

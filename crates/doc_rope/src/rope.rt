@@ -1,6 +1,7 @@
 // A document in pieces.
-ghost use Rattle.std.specs.Prelude.{◌≡◌, ℕ, ◌+◌, ◌^◌, ◌<◌, ◌≤◌, ◌++◌, [], List, length, take, drop, IfOk, IfSome, IfNone, OnOk, OnErr, slice_get};
+ghost use Rattle.std.specs.Prelude.{◌≡◌, ◌↔◌, ℕ, ◌+◌, ◌^◌, ◌<◌, ◌≤◌, ◌++◌, [], List, IsTrue, length, take, drop, IfOk, IfSome, IfNone, OnOk, OnErr, slice_get};
 ghost use Rattle.std.specs.Option.{option_copied};
+ghost use Rattle.doc_items.specs.Balance.{Balanced};
 ghost use Rattle.doc_items.specs.Limits.{max_count};
 ghost use Rattle.doc_rope.specs.Pieces.{pieces, joined, total, IsSound, IsPacked, InPieces};
 ghost use Rattle.doc_rope.specs.Replacements.{all_replaced, InOrder, put_in};
@@ -17,7 +18,7 @@ use std::mem;
 /// of which no two neighbours would fit into one, under a tree that counts them.
 #[derive(Drop)]
 pub struct Rope {
-    tree: Tree<Item>,
+    tree: Tree,
     alloc: Global,
 }
 
@@ -63,6 +64,15 @@ impl Rope {
         ensures bound { result ≤ max_count }
     {
         self.tree.count() as u64
+    }
+
+    /// Whether each element's end has its start before it, and each start its end. It is kept, and not counted anew.
+    #[tactic(auto, using(crate::proofs::Shapes::balanced_shape, crate::proofs::Shapes::shape_balanced))]
+    pub fn is_balanced(&self) -> bool
+        ensures { IsTrue result ↔ Balanced self.now }
+    {
+        let shape = self.tree.shape();
+        shape.ends == 0 && shape.starts == 0
     }
 
     /// The item at a place, counted from 0; None exactly where the place isn't below the length.
@@ -156,7 +166,7 @@ impl Rope {
 }
 
 // The tree with each of the replacements made, the last one first.
-fn put_each(mut tree: Tree<Item>, mut replacements: Vec<Replacement>) -> Tree<Item>
+fn put_each(mut tree: Tree, mut replacements: Vec<Replacement>) -> Tree
     requires sound { IsSound tree }
     requires packed { IsPacked (pieces tree) }
     requires inside { InOrder 0 replacements.items (total (pieces tree)) }
