@@ -40,6 +40,7 @@ impl Insertion {
     pub fn new(alloc: Global, items: Vec<Item>) -> Result<Insertion, Memory>
         ensures { IfOk result (λ i. i ≡ items.items) }
     {
+        // A vector's length is a `usize`.
         let _count = items.len();
         let tree = gather(alloc, items)?;
         let first = spare(alloc)?;

@@ -19,11 +19,11 @@ use std::mem;
 /// stay, and aren't looked at.
 #[derive(Drop)]
 pub(crate) struct Edits<'a> {
-    pub rope: &'a Rope,
+    rope: &'a Rope,
     // What is left of the rope, and the items that come in place of those from `from` on up to what is left.
-    pub build: Rebuild<'a>,
-    pub from: u64,
-    pub done: Vec<Replacement>,
+    build: Rebuild<'a>,
+    from: u64,
+    done: Vec<Replacement>,
 }
 
 impl<'a> Edits<'a> {
