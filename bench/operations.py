@@ -1,13 +1,14 @@
 #!/usr/bin/env python3
-"""Prints what reading, writing, composing and transforming operations costs.
+"""Prints what reading, writing, composing, transforming and applying operations costs.
 
     python3 bench/operations.py [PROGRAM]
 
 PROGRAM is crates/bench_operations/out/bench_operations unless it is given (`rt run` in crates/bench_operations builds it). It
-reads two operations as bytes from standard input, so nothing but the work named is in its time and memory.
+reads operations as bytes from standard input, so nothing but the work named is in its time and memory.
 
 A comb is an operation on a document of 1,000,000 items that retains and inserts in turn. The hostile operation has as many
-bytes as a delta may: 17,000 annotations run at once, and at each of 7,000 boundaries one of them ends.
+bytes as a delta may: 17,000 annotations run at once, and at each of 7,000 boundaries one of them ends. An edit inserts or
+deletes one letter in the middle of a document in pieces.
 """
 
 import os
@@ -62,10 +63,10 @@ def hostile():
     return operation(parts)
 
 
-def measure(program, work, first, second, repeats):
+def measure(program, work, first, second, repeats, document=operation([])):
     """The nanoseconds for one time, what came of it, and the peak memory of the program in KiB."""
     with tempfile.TemporaryFile() as source, tempfile.TemporaryFile() as sink:
-        source.write(first + second)
+        source.write(first + second + document)
         source.seek(0)
         child = subprocess.Popen([program, work, str(repeats)], stdin=source, stdout=sink)
         _, status, usage = os.wait4(child.pid, 0)
@@ -82,7 +83,22 @@ def show(name, work, first, second, repeats):
     print("%-28s %-10s %12.1f microseconds %9d KiB at the peak, result %d" % (name, work, each / 1000, peak, size), flush=True)
 
 
+def letters(count):
+    """An operation that makes a document of so many letters."""
+    return operation([b"\x02" + text("abcdefghij" * (count // 10))])
+
+
+def show_edits(count, repeats):
+    before, behind = retain(count // 2), retain(count - count // 2)
+    there = operation([before, b"\x02" + text("x"), behind])
+    back = operation([before, b"\x05" + text("x"), behind])
+    each, size, peak = measure(PROGRAM, "edit", there, back, repeats, letters(count))
+    print("%9d letters, an edit %9.2f microseconds %9d KiB at the peak" % (size, each / 2000, peak), flush=True)
+
+
 def main():
+    for count in (1_000, 100_000, 1_000_000):
+        show_edits(count, 20_000)
     for count in (10, 100, 1_000):
         first, second = comb(count, ITEMS, "a"), comb(count, ITEMS, "b")
         onto = comb(count, ITEMS + count // 2, "c")

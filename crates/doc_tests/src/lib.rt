@@ -1,4 +1,4 @@
-//! Tests of documents and of what they are made of: items, change sets, running changes, builders of operations, normal forms.
+//! Tests of documents and of what they are made of: items, change sets, running changes, builders of operations, normal forms, documents in pieces.
 #![tactic(auto)]
 
 #[cfg(test)]
@@ -7,6 +7,8 @@ mod builders;
 mod items;
 #[cfg(test)]
 mod normal_forms;
+#[cfg(test)]
+mod ropes;
 #[cfg(test)]
 mod tracks;
 #[cfg(test)]

@@ -1,4 +1,4 @@
-//! Tests of what is done with operations: composed, transformed, spelled as bytes, written as JSON and as words.
+//! Tests of what is done with operations: checked, applied, composed, transformed, spelled as bytes, written as JSON and as words.
 #![tactic(auto)]
 
 #[cfg(test)]
@@ -9,5 +9,7 @@ mod json;
 mod spellings;
 #[cfg(test)]
 mod transforms;
+#[cfg(test)]
+mod validity;
 #[cfg(test)]
 mod words;

@@ -2,12 +2,14 @@
 #![tactic(auto)]
 
 mod demand;
+mod edits;
 mod fault;
+mod pieces;
 mod rebuild;
-#[cfg(test)]
-mod tests;
+mod source;
 mod validity;
 mod walk;
 
 pub use fault::CheckFault;
+pub use pieces::{apply_rope, check_rope};
 pub use validity::{apply, check};
