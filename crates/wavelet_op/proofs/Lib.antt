@@ -1,0 +1,7 @@
+pub mod Partial
+pub mod Maps
+pub mod Structures
+pub mod Inserted
+pub mod Squares
+pub mod Grids
+pub mod Compacts
