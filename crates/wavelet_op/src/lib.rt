@@ -2,8 +2,10 @@
 //! made at one state are taken past each other.
 #![tactic(auto)]
 
+mod laws;
 mod op;
 mod role;
 
+pub use laws::{compact_holds, delta_square_holds};
 pub use op::WaveletOp;
 pub use role::Role;
