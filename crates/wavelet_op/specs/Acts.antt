@@ -7,6 +7,7 @@
 --     IsNormal o, AreNormal os    each operation on a document is in normal form
 --     same_role                   the test of ≡ on roles
 use Rattle.std.specs.Prelude.{◌≡◌, ℕ, ◌+◌, Bool, true, false, List, [], ◌∷◌, map}
+use Rattle.std.specs.List.{All}
 use Rattle.doc_items.specs.Maps.{Key}
 use Rattle.doc_op.specs.Actions.{Action, actions}
 use Rattle.doc_op.specs.Lengths.{inserted_len}
@@ -63,8 +64,7 @@ IsStructuredAct (Sets a old new) = Unit {0}
 IsStructuredAct (Mutates d acts) = Structured acts
 
 abbrev pub AreStructuredActs : List Act → Type 0
-AreStructuredActs [] = Unit {0}
-AreStructuredActs (a ∷ more) = IsStructuredAct a × AreStructuredActs more
+AreStructuredActs acts = All IsStructuredAct acts
 
 -- ---- of operations
 
@@ -76,5 +76,4 @@ IsNormal (Mutate document op) = op ≡ normal_form (actions op)
 IsNormal (SetRole address old new) = Unit {0}
 
 abbrev pub AreNormal : List WaveletOp → Type 0
-AreNormal [] = Unit {0}
-AreNormal (o ∷ more) = IsNormal o × AreNormal more
+AreNormal ops = All IsNormal ops

@@ -2,10 +2,20 @@
 //! made at one state are taken past each other.
 #![tactic(auto)]
 
+mod delta;
+mod fault;
 mod laws;
 mod op;
+mod ops;
+mod pair;
 mod role;
+mod verdict;
 
+pub use delta::{AppliedDelta, Submission};
+pub use fault::WaveletFault;
 pub use laws::{compact_holds, delta_square_holds};
 pub use op::WaveletOp;
+pub use ops::{MAX_OPS, Ops};
+pub use pair::{OpPair, OpsPair};
 pub use role::Role;
+pub use verdict::Verdict;

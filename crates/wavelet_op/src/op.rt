@@ -1,5 +1,10 @@
+ghost use Rattle.std.specs.Prelude.{◌≡◌, IfOk};
+ghost use Rattle.wavelet_op.specs.Acts.{meaning, IsNormal};
+
 use crate::Role;
+use doc_items::Memory;
 use doc_op::DocOp;
+use std::alloc::Global;
 use wave_base::{Address, DocumentName};
 
 /// An operation on a wavelet.
@@ -19,4 +24,55 @@ pub enum WaveletOp {
         old: Role,
         new: Role,
     },
+}
+
+impl WaveletOp {
+    /// An equal operation.
+    pub fn copy(&self, alloc: Global) -> Result<WaveletOp, Memory>
+        ensures { IfOk result (λ o. o ≡ self.now) }
+    {
+        match self {
+            WaveletOp::NoOp => Ok(WaveletOp::NoOp),
+            WaveletOp::Add(address) => Ok(WaveletOp::Add(address.copy(alloc)?)),
+            WaveletOp::Remove(address) => Ok(WaveletOp::Remove(address.copy(alloc)?)),
+            WaveletOp::Mutate { document, op } => {
+                let document = document.copy(alloc)?;
+                let op = op.copy(alloc)?;
+                Ok(WaveletOp::Mutate { document, op })
+            }
+            WaveletOp::SetRole { address, old, new } => {
+                let address = address.copy(alloc)?;
+                Ok(WaveletOp::SetRole {
+                    address,
+                    old: *old,
+                    new: *new,
+                })
+            }
+        }
+    }
+
+    /// The operation with the same meaning whose operation on a document is in normal form.
+    pub fn normal(&self, alloc: Global) -> Result<WaveletOp, Memory>
+        ensures same { IfOk result (λ o. meaning o ≡ meaning self.now) }
+        ensures normal { IfOk result IsNormal }
+    {
+        match self {
+            WaveletOp::NoOp => Ok(WaveletOp::NoOp),
+            WaveletOp::Add(address) => Ok(WaveletOp::Add(address.copy(alloc)?)),
+            WaveletOp::Remove(address) => Ok(WaveletOp::Remove(address.copy(alloc)?)),
+            WaveletOp::Mutate { document, op } => {
+                let document = document.copy(alloc)?;
+                let op = op.normal(alloc)?;
+                Ok(WaveletOp::Mutate { document, op })
+            }
+            WaveletOp::SetRole { address, old, new } => {
+                let address = address.copy(alloc)?;
+                Ok(WaveletOp::SetRole {
+                    address,
+                    old: *old,
+                    new: *new,
+                })
+            }
+        }
+    }
 }
