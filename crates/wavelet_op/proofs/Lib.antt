@@ -5,3 +5,4 @@ pub mod Inserted
 pub mod Squares
 pub mod Grids
 pub mod Compacts
+pub mod Crossings

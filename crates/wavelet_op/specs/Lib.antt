@@ -3,6 +3,7 @@ pub mod Compacts
 pub mod Deltas
 pub mod Grids
 pub mod Laws
+pub mod Passing
 pub mod Results
 pub mod States
 pub mod Transform

@@ -2,8 +2,10 @@
 //! made at one state are taken past each other.
 #![tactic(auto)]
 
+mod crossing;
 mod delta;
 mod fault;
+mod held;
 mod laws;
 mod op;
 mod ops;
