@@ -6,3 +6,4 @@ pub mod Squares
 pub mod Grids
 pub mod Compacts
 pub mod Crossings
+pub mod Passes

@@ -49,6 +49,7 @@ impl Crossing {
 
 /// What becomes of a later and an earlier operation. Refusals: `CountTooLarge`, `Conflict` with the index, which is the later
 /// operation's.
+#[tactic(auto, unfolding(crate::specs::Transform::bounded, crate::specs::Transform::exact, crate::specs::Transform::act_transform, crate::specs::Transform::is_within))]
 pub(crate) fn cross(
     alloc: Global,
     index: u32,

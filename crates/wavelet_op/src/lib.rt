@@ -10,6 +10,7 @@ mod laws;
 mod op;
 mod ops;
 mod pair;
+mod pass;
 mod role;
 mod verdict;
 
