@@ -3,7 +3,7 @@
 --     passings       a reading with a test
 --     limited, addresses, names      counts, addresses, names of documents
 use Rattle.std.proofs.Common.{◌≡◌, ℕ, ◌<◌, ◌≤◌, ◌^◌, Bool, true, cond, List, ◌++◌, Option, Some, None, refl, sym, ap, subst, ◌∙◌, arith}
-use Rattle.std.specs.Int.{w64, to_be_bytes}
+use Rattle.std.specs.Prelude.{nat_le}
 use Rattle.std.proofs.lemmas.Bool.{leb-true, le-leb}
 use Rattle.doc_items.specs.Limits.{max_count}
 use Rattle.op_codec.specs.Spelling.{string}
@@ -11,7 +11,7 @@ use Rattle.op_codec.specs.Reading.{Read, number_at, key_at}
 use Rattle.op_codec.proofs.Fields.{IsCodec, Takes, guard_on, some_is, numbers, keys}
 use Rattle.wave_base.specs.Grammar.{is_address, is_id}
 use Rattle.wave_base.proofs.Parts.{address-bound, id-bound}
-use Rattle.wavelet_codec.specs.Spelling.{IsAddressText, IsNameText}
+use Rattle.wavelet_codec.specs.Spelling.{number, IsAddressText, IsNameText}
 use Rattle.wavelet_codec.specs.Reading.{passing, count_at, address_at, document_at}
 
 module _ {X : Type 0} {at : List ℕ → Read X} {spell other : X → List ℕ} {Valid Fine : X → Type 0} where
@@ -39,9 +39,9 @@ module _ {X : Type 0} {at : List ℕ → Read X} {spell : X → List ℕ} {Valid
     again = λ x rest h. ap (passing test) (one.again x rest h.0) ∙ ap (λ b. cond b (Some (x, rest)) None) h.1;
   }
 
-pub limited : IsCodec count_at (to_be_bytes w64) (λ n. n ≤ max_count)
-unfolding count_at
-limited = recast (passings numbers (λ n. Rattle.std.specs.Prelude.nat_le n max_count)) (λ n h. refl) (λ n h. leb-true n max_count h.1) (λ n h. (omega (arith, h), le-leb n max_count h))
+pub limited : IsCodec count_at number (λ n. n ≤ max_count)
+unfolding count_at number
+limited = recast (passings numbers (λ n. nat_le n max_count)) (λ n h. refl) (λ n h. leb-true n max_count h.1) (λ n h. (omega (arith, h), le-leb n max_count h))
 
 pub addresses : IsCodec address_at string IsAddressText
 unfolding address_at

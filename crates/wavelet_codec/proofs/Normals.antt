@@ -3,6 +3,7 @@
 --     found          what op_codec found is what is read
 --     refused        where it found nothing, nothing is read
 use Rattle.std.proofs.Common.{◌≡◌, ℕ, ◌<◌, Bool, true, List, ◌++◌, length, drop, Option, Some, None, Result, Ok, Err, refl, sym, ap, subst, ◌∙◌, arith}
+use Rattle.std.specs.Prelude.{nat_lt}
 use Rattle.std.proofs.lemmas.Bool.{ltb-true, lt-ltb}
 use Rattle.doc_op.specs.declared.component.Component.{Component}
 use Rattle.doc_op.specs.Actions.{actions}
@@ -31,7 +32,7 @@ operations = record {
 spelled : (cs : List Component) → (IsSpelled cs × IsBuilt cs) × (is_spelling cs ≡ true) → IsSpelling cs
 unfolding is_spelling
 spelled cs h =
-    let t = both (same_components (normal_form (actions cs)) cs) (Rattle.std.specs.Prelude.nat_lt (length (spelling cs)) limit) h.1 in
+    let t = both (same_components (normal_form (actions cs)) cs) (nat_lt (length (spelling cs)) limit) h.1 in
     record { built = h.0.1; short = ltb-true (length (spelling cs)) limit t.1; spelled = h.0.0; normal = same_equal (normal_form (actions cs)) cs t.0 }
 
 passes : (cs : List Component) → IsSpelling cs → (IsSpelled cs × IsBuilt cs) × (is_spelling cs ≡ true)

@@ -109,11 +109,15 @@ is_nil bytes = length bytes == 0
 abbrev pub made_delta : List ℕ → IdOf → ℕ → ℕ → List WaveletOp → DeltaOf
 made_delta hash id version time ops = record { id = id; from = record { version = version; hash = hash }; time = time; ops = ops }
 
-unfoldable pub delta_at : List ℕ → List ℕ → Option DeltaOf
-delta_at hash [] = None
-delta_at hash (tag ∷ bytes) = do
+-- the delta with this format byte
+unfoldable pub tagged_delta_at : List ℕ → ℕ → List ℕ → Option DeltaOf
+tagged_delta_at hash tag bytes = do
   id ← id_at bytes
   version ← count_at id.1
   time ← count_at version.1
   ops ← ops_at time.1
   if (tag == format ops.0) && is_nil ops.1 then Some (made_delta hash id.0 version.0 time.0 ops.0) else None
+
+unfoldable pub delta_at : List ℕ → List ℕ → Option DeltaOf
+delta_at hash [] = None
+delta_at hash (tag ∷ bytes) = tagged_delta_at hash tag bytes

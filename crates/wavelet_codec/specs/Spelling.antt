@@ -4,12 +4,14 @@
 --     ops_bytes os            the number of operations as four bytes, and the bytes of each
 --     has_set_role os         whether one of them sets a role
 --     format os               the format byte: 2 exactly where one sets a role, else 1
+--     number n                eight bytes
 --     id_bytes i              author, client and number
 --     delta_bytes d           format, id, the version at which the delta was applied, time and operations; the hash isn't among them
 --     IsAddressText, IsNameText     texts in the grammar of addresses, of names of documents
 --     IsOp o                  the texts are in their grammar, and the operation on a document has a spelling
 --     IsDelta d               the delta has bytes: its operations have, it has 1 to 1,000 of them, and its numbers are at most max_count
 --     IsDeltaBytes bytes      they are those of a delta
+--     IsRefused bytes e       what an error says of the bytes
 --     IsSameDelta a b         equal but for the hashes
 use Rattle.std.specs.Prelude.{◌≡◌, ◌≤◌, ℕ, Bool, true, false, cond, List, [], ◌∷◌, ◌++◌, length}
 use Rattle.std.specs.List.{list_any, AllByRecursion}
@@ -19,6 +21,8 @@ use Rattle.doc_items.specs.Limits.{max_count}
 use Rattle.doc_items.specs.Maps.{Key}
 use Rattle.op_codec.specs.Spelling.{string, listed}
 use Rattle.op_codec.specs.Canonical.{canonical, IsSpelling}
+use Rattle.op_codec.specs.declared.fault.CodecFault.{CodecFault}
+use Rattle.op_codec.specs.declared.fault.CodecFault.TheVariants.{BadBytes, Memory}
 use Rattle.wave_base.specs.Grammar.{is_address, is_id}
 use Rattle.wave_base.specs.Versions.{IdOf, VersionAt}
 use Rattle.wavelet_op.specs.declared.op.WaveletOp.{WaveletOp}
@@ -61,7 +65,7 @@ has_set_role ops = list_any sets_role ops
 abbrev pub format : List WaveletOp → ℕ
 format ops = cond (has_set_role ops) 2 1
 
-abbrev pub number : ℕ → List ℕ
+unfoldable pub number : ℕ → List ℕ
 number n = to_be_bytes w64 n
 
 abbrev pub id_bytes : IdOf → List ℕ
@@ -101,7 +105,11 @@ pub record IsDelta (d : DeltaOf) : Type 0 where
   pub ops : AreOps d.ops
 
 abbrev pub IsDeltaBytes : List ℕ → Type 0
-IsDeltaBytes bytes = (d : DeltaOf) × (IsDelta d × (bytes ≡ delta_bytes d))
+IsDeltaBytes bytes = (d : DeltaOf) × IsDelta d × (bytes ≡ delta_bytes d)
+
+abbrev pub IsRefused : List ℕ → CodecFault → Type 0
+IsRefused bytes BadBytes = ¬ (IsDeltaBytes bytes)
+IsRefused bytes Memory = Unit {0}
 
 pub record IsSameDelta (a b : DeltaOf) : Type 0 where
   pub id : a.id ≡ b.id

@@ -3,5 +3,13 @@
 
 mod format;
 mod front;
+mod laws;
+mod measure;
 mod operation;
+mod reading;
+mod writing;
 
+pub use laws::deltas_differ;
+pub use measure::{applied_len, ops_len};
+pub use reading::read_applied;
+pub use writing::write_applied;
