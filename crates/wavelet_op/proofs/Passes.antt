@@ -35,7 +35,7 @@ refuses_along r s k Memory g h = h
 
 -- ---- one step
 
-split_first : {A : Type 0} (P : A → Type 0) (x : A) (xs : List A) → All P (x ∷ xs) → P x × All P xs
+pub split_first : {A : Type 0} (P : A → Type 0) (x : A) (xs : List A) → All P (x ∷ xs) → P x × All P xs
 split_first P x xs h = let r = recursion_from_All P (x ∷ xs) h in (r.0, All-from_recursion P xs r.1)
 
 fronts_front : {A E : Type 0} (xs : List A) (y : A) (r : Result (A × List A) E) → earlier_fronts xs (earlier_front y r) ≡ earlier_fronts (xs ++ y ∷ []) r
