@@ -95,21 +95,21 @@ from s m t a (b ∷ more) p q =
     let x = and_then_some (apply_act m b) (λ y. run y more) t q in
     elim (neighbours s m x.0 a b p x.1) [
       | stays e ↦
-        let rest = from m x.0 t b more x.1 x.2 in
-        record {
-          fewer = a ∷ rest.fewer;
-          is = ap (go_on a b (λ c. compact_by join c more)) e ∙ ap (act_front a) rest.is;
-          goes = ap (option_and_then (λ y. run y rest.fewer)) p ∙ rest.goes;
-          small = omega (arith, rest.small);
-        }
+          let rest = from m x.0 t b more x.1 x.2 in
+          record {
+            fewer = a ∷ rest.fewer;
+            is = ap (go_on a b (λ c. compact_by join c more)) e ∙ ap (act_front a) rest.is;
+            goes = ap (option_and_then (λ y. run y rest.fewer)) p ∙ rest.goes;
+            small = omega (arith, rest.small);
+          }
       | joins c e g n ↦
-        let rest = from s x.0 t c more g x.2 in
-        record {
-          fewer = rest.fewer;
-          is = ap (go_on a b (λ c. compact_by join c more)) e ∙ rest.is;
-          goes = rest.goes;
-          small = omega (arith, rest.small, n);
-        }
+          let rest = from s x.0 t c more g x.2 in
+          record {
+            fewer = rest.fewer;
+            is = ap (go_on a b (λ c. compact_by join c more)) e ∙ rest.is;
+            goes = rest.goes;
+            small = omega (arith, rest.small, n);
+          }
     ]
 
 pub compact_holds : CompactHolds

@@ -87,9 +87,9 @@ gridding_step ls0 es0 n k done l rest passed theirs op mine finished h same p fi
     let w = pass_structured l (acts_held passed) (act_held mine, acts_held theirs) s.0 h.passed_structured one in
     record {
       is = h.is
-        ∙ ap (λ r. later_fronts (meanings done) (and_next (λ p. later_front p.0 (grid_by bounded (suc k) rest p.1)) (at_index k r))) one
-        ∙ fronts_front (meanings done) (act_held mine) (grid_by bounded (suc k) rest (acts_held theirs))
-        ∙ ap (λ z. later_fronts z (grid_by bounded (suc k) rest (acts_held theirs))) (ap (λ z. meanings done ++ z ∷ []) (sym fin) ∙ sym (meanings_more done finished));
+          ∙ ap (λ r. later_fronts (meanings done) (and_next (λ p. later_front p.0 (grid_by bounded (suc k) rest p.1)) (at_index k r))) one
+          ∙ fronts_front (meanings done) (act_held mine) (grid_by bounded (suc k) rest (acts_held theirs))
+          ∙ ap (λ z. later_fronts z (grid_by bounded (suc k) rest (acts_held theirs))) (ap (λ z. meanings done ++ z ∷ []) (sym fin) ∙ sym (meanings_more done finished));
       rest_structured = s.1;
       passed_structured = w.1;
       passed_settled = p.earlier_settled;
@@ -111,7 +111,7 @@ pub gridding_refused : (ls0 es0 : List Act) (n k : ℕ) (done : List WaveletOp) 
     IsGridding ls0 es0 n done k (l ∷ rest) passed → act_held op ≡ l → Refuses (at_index k (pass_one bounded (act_held op) (acts_held passed))) f → Refuses (grid_by bounded 0 ls0 es0) f
 gridding_refused ls0 es0 n k done l rest passed op f h same r =
     refused_whole (grid_by bounded 0 ls0 es0) (pass_one bounded (act_held op) (acts_held passed)) k f
-      (λ e is. h.is ∙ ap (λ q. later_fronts (meanings done) (and_next (λ p. later_front p.0 (grid_by bounded (suc k) rest p.1)) (at_index k q))) (ap (λ z. pass_one bounded z (acts_held passed)) (sym same) ∙ is)) r
+    (λ e is. h.is ∙ ap (λ q. later_fronts (meanings done) (and_next (λ p. later_front p.0 (grid_by bounded (suc k) rest p.1)) (at_index k q))) (ap (λ z. pass_one bounded z (acts_held passed)) (sym same) ∙ is)) r
 
 pub gridding_end : (later : List WaveletOp) (earlier : List Held) (done : List WaveletOp) (k : ℕ) (passed : List Held) → IsGridding (meanings later) (acts_held earlier) (length earlier) done k [] passed → k ≡ length later → IsGridded later earlier done passed
 gridding_end later earlier done k passed h e = record {
@@ -150,8 +150,8 @@ pub gridding_next : (ls0 es0 : List Act) (n i : ℕ) (later done new : List Wave
     IsGridding ls0 es0 n new (i + 1) (meanings (drop (i + 1) later)) theirs
 gridding_next ls0 es0 n i later done new passed theirs op mine finished h p fin normal e =
     subst (λ x. IsGridding ls0 es0 n x (i + 1) (meanings (drop (i + 1) later)) theirs) (sym e)
-      (subst (λ k. IsGridding ls0 es0 n (done ++ finished ∷ []) k (meanings (drop (i + 1) later)) theirs) (sym (add-one i))
-        (gridding_step ls0 es0 n i done (act_held op) (meanings (drop (i + 1) later)) passed theirs op mine finished h refl p fin normal))
+    (subst (λ k. IsGridding ls0 es0 n (done ++ finished ∷ []) k (meanings (drop (i + 1) later)) theirs) (sym (add-one i))
+    (gridding_step ls0 es0 n i done (act_held op) (meanings (drop (i + 1) later)) passed theirs op mine finished h refl p fin normal))
 
 -- ---- the whole
 

@@ -152,6 +152,6 @@ compacting_refused all done h i next f c l is u =
 pub compacting_end : (all done new : List WaveletOp) (h : Held) (i : ℕ) (last : WaveletOp) → IsCompacting all done h i → length all ≤ i → meaning last ≡ act_held h → IsNormal last → new ≡ done ++ last ∷ [] → IsCompaction all new
 compacting_end all done new h i last c l m n is =
     let ends : bounded_compact (meanings all) ≡ Ok (meanings new) = c.is
-      ∙ ap (λ z. expects done h (meanings z)) (drop_of_length-le all l)
-      ∙ ap Ok (ap (λ z. meanings done ++ z ∷ []) (sym m) ∙ sym (meanings_more done last) ∙ ap meanings (sym is)) in
+    ∙ ap (λ z. expects done h (meanings z)) (drop_of_length-le all l)
+    ∙ ap Ok (ap (λ z. meanings done ++ z ∷ []) (sym m) ∙ sym (meanings_more done last) ∙ ap meanings (sym is)) in
     record { is = ends; normal = subst AreNormal (sym is) (normal_more done last c.normal n); structured = λ s. compact_structured (meanings all) (meanings new) s ends }

@@ -60,9 +60,9 @@ passing_step l0 es0 n l op mine theirs passed rest h c =
     let w = structured_step (act_held l) (act_held op) (act_held mine, act_held theirs) h.later_structured s.0 c.is in
     record {
       is = h.is
-        ∙ ap (λ r. earlier_fronts (acts_held passed) (and_next (λ p. earlier_front p.1 (pass_one bounded p.0 (acts_held rest))) r)) c.is
-        ∙ fronts_front (acts_held passed) (act_held theirs) (pass_one bounded (act_held mine) (acts_held rest))
-        ∙ ap (λ z. earlier_fronts z (pass_one bounded (act_held mine) (acts_held rest))) (sym (acts_more passed theirs));
+          ∙ ap (λ r. earlier_fronts (acts_held passed) (and_next (λ p. earlier_front p.1 (pass_one bounded p.0 (acts_held rest))) r)) c.is
+          ∙ fronts_front (acts_held passed) (act_held theirs) (pass_one bounded (act_held mine) (acts_held rest))
+          ∙ ap (λ z. earlier_fronts z (pass_one bounded (act_held mine) (acts_held rest))) (sym (acts_more passed theirs));
       later_structured = w.0;
       rest_structured = s.1;
       later_settled = c.later_settled;

@@ -74,11 +74,7 @@ pub(crate) fn cross(
 }
 
 #[tactic(auto, unfolding(crate::specs::Transform::bounded, crate::specs::Transform::exact, crate::specs::Transform::act_transform, crate::specs::Transform::is_within))]
-fn cross_add(
-    index: u32,
-    address: &Address,
-    earlier: &WaveletOp,
-) -> Result<Crossing, WaveletFault>
+fn cross_add(index: u32, address: &Address, earlier: &WaveletOp) -> Result<Crossing, WaveletFault>
     ensures { MatchResult result
         (λ c. IsCrossing (Add address.now) earlier.now c)
         (λ f. Refuses (at_index index (bounded (meaning (Add address.now)) (meaning earlier.now))) f) }

@@ -65,10 +65,7 @@ pub(crate) fn lent(alloc: Global, ops: &[WaveletOp]) -> Result<Vec<Held<'_>>, Me
 }
 
 /// Operations in normal form.
-pub(crate) fn finished<'a>(
-    alloc: Global,
-    list: Vec<Held<'a>>,
-) -> Result<Vec<WaveletOp>, Memory>
+pub(crate) fn finished<'a>(alloc: Global, list: Vec<Held<'a>>) -> Result<Vec<WaveletOp>, Memory>
     requires settled { All IsSettled list.items }
     ensures same { IfOk result (λ v. meanings v.items ≡ acts_held list.entry.items) }
     ensures normal { IfOk result (λ v. AreNormal v.items) }

@@ -14,6 +14,8 @@ mod ops;
 mod pair;
 mod pass;
 mod role;
+#[cfg(test)]
+mod tests;
 mod transform;
 mod verdict;
 

@@ -35,11 +35,7 @@ pub fn transform_op(
 /// Takes two lists of operations that were made at one state past each other: each later operation, in order, passes through all
 /// earlier ones, as the later ones before it left them. All results are in normal form and structured. A refusal is that of the
 /// first pass that meets one: `CountTooLarge`, or `Conflict` with the index of the later operation.
-pub fn transform_delta(
-    alloc: Global,
-    later: &Ops,
-    earlier: &Ops,
-) -> Result<OpsPair, WaveletFault>
+pub fn transform_delta(alloc: Global, later: &Ops, earlier: &Ops) -> Result<OpsPair, WaveletFault>
     requires later { AreStructuredActs (meanings later.now) }
     requires earlier { AreStructuredActs (meanings earlier.now) }
     ensures ok { IfOk result (λ p. IsOpsPair later.now earlier.now p) }

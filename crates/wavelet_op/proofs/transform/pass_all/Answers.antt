@@ -10,5 +10,5 @@ pass-requires-clause-later_structured c =
 pub loop-index-preserved : goal.loop-index-preserved
 loop-index-preserved c =
     gridding_next _ _ _ c.loop-index.index c.args.later.now c.loop-index.done.items c.put.new.list.items c.loop-index.passed.items c.in_ok-mine.theirs.items _ c.in_ok-mine.mine c.in_ok-mine-2.mine
-      (gridding_here _ _ _ c.loop-index.index c.args.later.now c.loop-index.done.items c.loop-index.passed.items c.index-later-index.result c.loop-index.invariant c.loop-index-test.true c.index-later-index.is)
-      c.in_ok-mine.ensures c.in_ok-mine-2.ensures.same c.in_ok-mine-2.ensures.normal c.in_ok-put.ensures
+    (gridding_here _ _ _ c.loop-index.index c.args.later.now c.loop-index.done.items c.loop-index.passed.items c.index-later-index.result c.loop-index.invariant c.loop-index-test.true c.index-later-index.is)
+    c.in_ok-mine.ensures c.in_ok-mine-2.ensures.same c.in_ok-mine-2.ensures.normal c.in_ok-put.ensures

@@ -11,4 +11,4 @@ returns-clause-ok c =
     let done = subst (λ (z : List WaveletOp). IsGridded z c.in_ok-passed.passed.items c.in_ok-done.done.items c.in_ok-done.passed.items) c.as_slice-2.ensures.value c.in_ok-done.ensures in
     let pair = lists_pair c.args.later.now c.args.earlier.now c.in_ok-done.done.items c.in_ok-passed-2.passed.items c.in_ok-passed.passed.items c.in_ok-done.passed.items (c.in_ok-passed.ensures.acts ∙ ap meanings c.as_slice.ensures.value) done c.in_ok-passed-2.ensures.same c.in_ok-passed-2.ensures.normal c.requires.later c.requires.earlier in
     subst (λ (z : List WaveletOp). IsOpsPair c.args.later.now c.args.earlier.now (record { later = z; earlier = c.of-earlier.result })) (sym c.of-later.ensures)
-      (subst (λ (z : List WaveletOp). IsOpsPair c.args.later.now c.args.earlier.now (record { later = c.in_ok-done.done.items; earlier = z })) (sym c.of-earlier.ensures) pair)
+    (subst (λ (z : List WaveletOp). IsOpsPair c.args.later.now c.args.earlier.now (record { later = c.in_ok-done.done.items; earlier = z })) (sym c.of-earlier.ensures) pair)
