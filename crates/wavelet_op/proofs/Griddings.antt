@@ -1,7 +1,7 @@
 -- Operations on their way through others, one after the other.
 --     pass_structured, grid_structured      what is structured stays so
 --     IsGridding ..      what is to come, with what is done in front of it, is the whole
-use Rattle.std.proofs.Common.{◌≡◌, ℕ, zero, suc, ◌+◌, ◌<◌, ◌≤◌, List, [], ◌∷◌, ◌++◌, length, map, Option, Some, None, Result, Ok, Err, refl, sym, ap, subst, ◌∙◌, arith, append_assoc, length-append, append-nil, drop, drop-cons, add-one, get_or}
+use Rattle.std.proofs.Common.{◌≡◌, ℕ, suc, ◌+◌, ◌<◌, ◌≤◌, List, [], ◌∷◌, ◌++◌, length, Result, Ok, Err, refl, sym, ap, subst, ◌∙◌, arith, append_assoc, length-append, append-nil, drop, drop-cons, add-one, get_or}
 use Rattle.std.specs.List.{All}
 use Rattle.std.proofs.Math.ListN.{drop_of_length-le}
 use Rattle.std.proofs.lemmas.List.{length-map, map-append}
@@ -10,7 +10,7 @@ use Rattle.wavelet_op.specs.Acts.{Act, meaning, meanings, IsStructuredAct, IsNor
 use Rattle.wavelet_op.specs.Grids.{and_next, earlier_front, later_front, at_index, pass_one, grid_by}
 use Rattle.wavelet_op.specs.Passing.{act_held, acts_held, IsSettled, later_fronts, IsPassed, IsGridded}
 use Rattle.wavelet_op.specs.Results.{Refuses, IsOpsPair}
-use Rattle.wavelet_op.specs.Transform.{Refusal, Clash, TooLarge, bounded}
+use Rattle.wavelet_op.specs.Transform.{Refusal, bounded}
 use Rattle.wavelet_op.specs.declared.fault.WaveletFault.{WaveletFault}
 use Rattle.wavelet_op.specs.declared.fault.WaveletFault.TheVariants.{OpInvalid, CountTooLarge, Conflict, DontFit, Memory}
 use Rattle.wavelet_op.specs.declared.held.Held.{Held}

@@ -1,4 +1,4 @@
-use Rattle.std.proofs.Common.{◌≡◌, List, rules, sym, subst, true≢false}
+use Rattle.std.proofs.Common.{List, rules, sym, subst, true≢false}
 use Rattle.wavelet_op.specs.Acts.{meanings, AreStructuredActs}
 use Rattle.wavelet_op.specs.declared.op.WaveletOp.{WaveletOp}
 use Rattle.wavelet_op.proofs.Griddings.{structured_first, structured_more, structured_none}
