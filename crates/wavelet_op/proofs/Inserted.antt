@@ -1,5 +1,5 @@
 -- Neither the transform nor the composition inserts more items than the operations that they are of.
-use Rattle.std.proofs.Common.{◌≡◌, ℕ, zero, suc, ◌+◌, ◌≤◌, ◌&&◌, Bool, true, false, cond, List, [], ◌∷◌, ◌++◌, Ok, Err, refl, sym, ap, subst, ◌∙◌, arith}
+use Rattle.std.proofs.Common.{◌≡◌, ℕ, zero, suc, ◌+◌, ◌≤◌, ◌&&◌, Bool, cond, List, [], ◌∷◌, Ok, Err, refl, subst, arith}
 use Rattle.doc_items.specs.Balance.{level}
 use Rattle.doc_items.specs.declared.item.Item.{Item}
 use Rattle.doc_op.specs.Actions.{Action, Keep, Ins, Del}
@@ -45,13 +45,13 @@ small_from k b (Keep u a ∷ ls) d (Ins y ∷ es) = earlier_row b y _ (inserted_
 small_from k b (Del c n ∷ ls) d (Ins y ∷ es) = earlier_row b y _ (inserted_len ls) (inserted_len es) (small_from k b (Del c n ∷ ls) d es)
 small_from k b (Keep u a ∷ ls) d (Keep w o ∷ es) =
     behind_test k (cross u w && attributes_cross a o) _ (inserted_len ls) (inserted_len es)
-      (behind_front (Keep (over u w) (attributes_over a o) ∷ []) (Keep (under w u) (attributes_under o a) ∷ []) (transform_from (suc k) b ls d es) (inserted_len ls) (inserted_len es) (inserted_len ls) (inserted_len es) (small_from (suc k) b ls d es) (omega arith) (omega arith))
+    (behind_front (Keep (over u w) (attributes_over a o) ∷ []) (Keep (under w u) (attributes_under o a) ∷ []) (transform_from (suc k) b ls d es) (inserted_len ls) (inserted_len es) (inserted_len ls) (inserted_len es) (small_from (suc k) b ls d es) (omega arith) (omega arith))
 small_from k b (Keep u a ∷ ls) d (Del c n ∷ es) =
     behind_test k (can_follow c n u a) _ (inserted_len ls) (inserted_len es)
-      (behind_front [] (Del (put_content a c) (names_after n u) ∷ []) (transform_from (suc k) b ls (level c d) es) (inserted_len ls) (inserted_len es) (inserted_len ls) (inserted_len es) (small_from (suc k) b ls (level c d) es) (omega arith) (omega arith))
+    (behind_front [] (Del (put_content a c) (names_after n u) ∷ []) (transform_from (suc k) b ls (level c d) es) (inserted_len ls) (inserted_len es) (inserted_len ls) (inserted_len es) (small_from (suc k) b ls (level c d) es) (omega arith) (omega arith))
 small_from k b (Del c n ∷ ls) d (Keep w o ∷ es) =
     behind_test k (can_follow c n w o) _ (inserted_len ls) (inserted_len es)
-      (behind_front (Del (put_content o c) (names_after n w) ∷ []) [] (transform_from (suc k) (level c b) ls d es) (inserted_len ls) (inserted_len es) (inserted_len ls) (inserted_len es) (small_from (suc k) (level c b) ls d es) (omega arith) (omega arith))
+    (behind_front (Del (put_content o c) (names_after n w) ∷ []) [] (transform_from (suc k) (level c b) ls d es) (inserted_len ls) (inserted_len es) (inserted_len ls) (inserted_len es) (small_from (suc k) (level c b) ls d es) (omega arith) (omega arith))
 small_from k b (Del c n ∷ ls) d (Del p m ∷ es) = behind_test k (delete_alike c n p m) _ (inserted_len ls) (inserted_len es) (small_from (suc k) (level c b) ls (level p d) es)
 small_from k b [] d (Keep w o ∷ es) = λ p is. no_ok is
 small_from k b [] d (Del c m ∷ es) = λ p is. no_ok is

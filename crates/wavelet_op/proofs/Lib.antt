@@ -7,3 +7,5 @@ pub mod Grids
 pub mod Compacts
 pub mod Crossings
 pub mod Passes
+pub mod Griddings
+pub mod Joinings

@@ -1,6 +1,6 @@
 -- One operation on its way through others, one step after the other.
 --     IsPassing l0 es0 n l passed rest      what is to come, with what was passed in front of it, is the whole
-use Rattle.std.proofs.Common.{◌≡◌, ℕ, ◌+◌, ◌≤◌, List, [], ◌∷◌, ◌++◌, length, map, Option, Some, None, Result, Ok, Err, refl, sym, ap, subst, ◌∙◌, arith, append_assoc, length-append, append-nil}
+use Rattle.std.proofs.Common.{◌≡◌, ℕ, ◌+◌, List, [], ◌∷◌, ◌++◌, length, Result, Ok, Err, refl, sym, ap, ◌∙◌, arith, append_assoc, length-append, append-nil}
 use Rattle.std.specs.List.{All}
 use Rattle.std.proofs.lemmas.List.Elements.{All-cons, All-nil, All-append, All-from_recursion, recursion_from_All}
 use Rattle.wavelet_op.specs.Acts.{Act, IsStructuredAct}
@@ -10,7 +10,7 @@ use Rattle.wavelet_op.specs.declared.fault.WaveletFault.{WaveletFault}
 use Rattle.wavelet_op.specs.declared.fault.WaveletFault.TheVariants.{OpInvalid, CountTooLarge, Conflict, DontFit, Memory}
 use Rattle.wavelet_op.proofs.Crossings.{structured_step}
 use Rattle.wavelet_op.specs.Passing.{act_held, acts_held, IsSettled, earlier_fronts, IsCrossed, IsPassed}
-use Rattle.wavelet_op.specs.Transform.{Refusal, Clash, TooLarge, bounded}
+use Rattle.wavelet_op.specs.Transform.{Refusal, bounded}
 use Rattle.wavelet_op.specs.declared.held.Held.{Held}
 
 pub record IsPassing (l0 : Act) (es0 : List Act) (n : ℕ) (l : Held) (passed rest : List Held) : Type 0 where
@@ -35,7 +35,7 @@ refuses_along r s k Memory g h = h
 
 -- ---- one step
 
-split_first : {A : Type 0} (P : A → Type 0) (x : A) (xs : List A) → All P (x ∷ xs) → P x × All P xs
+pub split_first : {A : Type 0} (P : A → Type 0) (x : A) (xs : List A) → All P (x ∷ xs) → P x × All P xs
 split_first P x xs h = let r = recursion_from_All P (x ∷ xs) h in (r.0, All-from_recursion P xs r.1)
 
 fronts_front : {A E : Type 0} (xs : List A) (y : A) (r : Result (A × List A) E) → earlier_fronts xs (earlier_front y r) ≡ earlier_fronts (xs ++ y ∷ []) r
@@ -60,9 +60,9 @@ passing_step l0 es0 n l op mine theirs passed rest h c =
     let w = structured_step (act_held l) (act_held op) (act_held mine, act_held theirs) h.later_structured s.0 c.is in
     record {
       is = h.is
-        ∙ ap (λ r. earlier_fronts (acts_held passed) (and_next (λ p. earlier_front p.1 (pass_one bounded p.0 (acts_held rest))) r)) c.is
-        ∙ fronts_front (acts_held passed) (act_held theirs) (pass_one bounded (act_held mine) (acts_held rest))
-        ∙ ap (λ z. earlier_fronts z (pass_one bounded (act_held mine) (acts_held rest))) (sym (acts_more passed theirs));
+          ∙ ap (λ r. earlier_fronts (acts_held passed) (and_next (λ p. earlier_front p.1 (pass_one bounded p.0 (acts_held rest))) r)) c.is
+          ∙ fronts_front (acts_held passed) (act_held theirs) (pass_one bounded (act_held mine) (acts_held rest))
+          ∙ ap (λ z. earlier_fronts z (pass_one bounded (act_held mine) (acts_held rest))) (sym (acts_more passed theirs));
       later_structured = w.0;
       rest_structured = s.1;
       later_settled = c.later_settled;

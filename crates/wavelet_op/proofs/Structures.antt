@@ -2,7 +2,7 @@
 --     is_structured-holds, holds-is_structured     the test
 --     valid_is_mutate        of an operation's components the definition is that of documents
 --     document_square        the square of two mutations
-use Rattle.std.proofs.Common.{◌≡◌, Bool, true, false, cond, refl, sym, ap, subst, ◌∙◌, true≢false, Option, None, Some, Ok, is_none, List, ◌≤◌}
+use Rattle.std.proofs.Common.{◌≡◌, true, false, cond, refl, sym, ap, ◌∙◌, true≢false, Option, None, Some, Ok, is_none, List, ◌≤◌}
 use Rattle.std.specs.Option.{option_map_or}
 use Rattle.std.proofs.lemmas.Bool.{and_parts, eqb-true}
 use Rattle.doc_items.specs.declared.item.Item.{Item}
@@ -34,8 +34,8 @@ none_is (Some x) e = absurd (true≢false (sym e))
 
 pub valid_is_mutate : (cs : List Component) (items : List Item) → valid cs items ≡ mutate (actions cs) items
 valid_is_mutate cs items = ap (λ b. cond b (apply (actions cs) items) None) (same_tests (is_none (first_break cs)) (is_structured (actions cs))
-  (λ e. holds-is_structured (actions cs) (unbroken_is_structured cs (none_is (first_break cs) e)))
-  (λ e. ap is_none (structured_is_unbroken cs (is_structured-holds (actions cs) e))))
+    (λ e. holds-is_structured (actions cs) (unbroken_is_structured cs (none_is (first_break cs) e)))
+    (λ e. ap is_none (structured_is_unbroken cs (is_structured-holds (actions cs) e))))
 
 pub mutates : (acts : List Action) (items out : List Item) → Structured acts → apply acts items ≡ Some out → mutate acts items ≡ Some out
 mutates acts items out h e = ap (λ b. cond b (apply acts items) None) (holds-is_structured acts h) ∙ e

@@ -6,10 +6,12 @@
 --     IsCrossed l e p      both results, held
 --     earlier_fronts xs r  earlier ones that were passed already, in front of what the rest gives
 --     IsPassed l es p      the results of one operation and of those that it passed through
-use Rattle.std.specs.Prelude.{◌≡◌, ℕ, List, [], ◌∷◌, ◌++◌, length, map, Option, Some, None, Result, Ok, Err, IfSome, unwrap_or}
+--     later_fronts xs r    later ones whose pass is done, in front of what the rest gives
+--     IsGridded ls es p    the results of operations and of those that they passed through
+use Rattle.std.specs.Prelude.{◌≡◌, List, ◌++◌, length, map, Option, Result, Ok, Err, IfSome, unwrap_or}
 use Rattle.std.specs.List.{All}
-use Rattle.wavelet_op.specs.Acts.{Act, meaning, IsNormal}
-use Rattle.wavelet_op.specs.Grids.{pass_one}
+use Rattle.wavelet_op.specs.Acts.{Act, meaning, meanings, IsNormal, AreNormal}
+use Rattle.wavelet_op.specs.Grids.{pass_one, grid_by}
 use Rattle.wavelet_op.specs.Transform.{bounded}
 use Rattle.wavelet_op.specs.declared.crossing.Crossing.{Crossing}
 use Rattle.wavelet_op.specs.declared.held.Held.{Held}
@@ -56,3 +58,16 @@ pub record IsPassed (later : Held) (earlier : List Held) (l : Held) (es : List H
   pub later_settled : IsSettled l
   pub earlier_settled : All IsSettled es
   pub long : length es ≡ length earlier
+
+-- ---- many operations and many
+
+abbrev pub later_fronts : {A E : Type 0} → List A → Result (List A × List A) E → Result (List A × List A) E
+later_fronts xs (Ok p) = Ok (xs ++ p.0, p.1)
+later_fronts xs (Err e) = Err e
+
+pub record IsGridded (later : List WaveletOp) (earlier : List Held) (ls : List WaveletOp) (es : List Held) : Type 0 where
+  pub is : grid_by bounded 0 (meanings later) (acts_held earlier) ≡ Ok (meanings ls, acts_held es)
+  pub later_normal : AreNormal ls
+  pub earlier_settled : All IsSettled es
+  pub later_long : length ls ≡ length later
+  pub earlier_long : length es ≡ length earlier

@@ -1,6 +1,7 @@
 ghost use Rattle.std.specs.Prelude.{◌≡◌};
-ghost use Rattle.wavelet_op.specs.Results.{fault_of};
+ghost use Rattle.wavelet_op.specs.Results.{fault_of, fault_of_compose};
 
+use op_compose::ComposeFault;
 use op_transform::TransformFault;
 use thiserror::Error;
 
@@ -45,6 +46,17 @@ impl WaveletFault {
             TransformFault::CountTooLarge => WaveletFault::CountTooLarge,
             TransformFault::Conflict(_) => WaveletFault::Conflict(index),
             TransformFault::Memory => WaveletFault::Memory,
+        }
+    }
+
+    /// The fault where operations on a document have no composition.
+    pub(crate) fn of_compose(fault: ComposeFault) -> WaveletFault
+        ensures { result ≡ fault_of_compose fault }
+    {
+        match fault {
+            ComposeFault::CountTooLarge => WaveletFault::CountTooLarge,
+            ComposeFault::DontFit(place) => WaveletFault::DontFit(place),
+            ComposeFault::Memory => WaveletFault::Memory,
         }
     }
 }

@@ -1,7 +1,8 @@
 // Operations on their way through others.
 ghost use Rattle.std.specs.Prelude.{◌≡◌, IfOk, IfSome};
-ghost use Rattle.wavelet_op.specs.Acts.{meaning, IsNormal};
-ghost use Rattle.wavelet_op.specs.Passing.{held, act_held, IsSettled, after};
+ghost use Rattle.std.specs.List.{All};
+ghost use Rattle.wavelet_op.specs.Acts.{meaning, meanings, IsNormal, AreNormal};
+ghost use Rattle.wavelet_op.specs.Passing.{held, act_held, acts_held, IsSettled, after};
 
 use crate::WaveletOp;
 use doc_items::Memory;
@@ -49,4 +50,30 @@ impl<'a> Held<'a> {
             Held::Made(op) => Ok(op),
         }
     }
+}
+
+/// Operations as they are lent.
+pub(crate) fn lent(alloc: Global, ops: &[WaveletOp]) -> Result<Vec<Held<'_>>, Memory>
+    ensures acts { IfOk result (λ v. acts_held v.items ≡ meanings ops.now) }
+    ensures settled { IfOk result (λ v. All IsSettled v.items) }
+{
+    let mut list = Vec::with_capacity(alloc, ops.len())?;
+    for op in ops {
+        list.push(Held::Lent(op))?;
+    }
+    Ok(list)
+}
+
+/// Operations in normal form.
+pub(crate) fn finished<'a>(alloc: Global, list: Vec<Held<'a>>) -> Result<Vec<WaveletOp>, Memory>
+    requires settled { All IsSettled list.items }
+    ensures same { IfOk result (λ v. meanings v.items ≡ acts_held list.entry.items) }
+    ensures normal { IfOk result (λ v. AreNormal v.items) }
+{
+    let mut ops = Vec::with_capacity(alloc, list.len())?;
+    for op in list {
+        let op = op.finish(alloc)?;
+        ops.push(op)?;
+    }
+    Ok(ops)
 }

@@ -1,5 +1,5 @@
-ghost use Rattle.std.specs.Prelude.{◌≡◌, IfOk};
-ghost use Rattle.wavelet_op.specs.Acts.{meaning, IsNormal};
+ghost use Rattle.std.specs.Prelude.{◌≡◌, ◌↔◌, IfOk, IsTrue};
+ghost use Rattle.wavelet_op.specs.Acts.{meaning, IsNormal, IsStructuredAct};
 
 use crate::Role;
 use doc_items::Memory;
@@ -17,7 +17,10 @@ pub enum WaveletOp {
     /// A participant is no more.
     Remove(Address),
     /// An operation on a document; one that was never mutated is empty.
-    Mutate { document: DocumentName, op: DocOp },
+    Mutate {
+        document: DocumentName,
+        op: DocOp,
+    },
     /// A participant with the old role gets the new one.
     SetRole {
         address: Address,
@@ -27,6 +30,19 @@ pub enum WaveletOp {
 }
 
 impl WaveletOp {
+    /// Whether an operation on a document is structured; every other one is.
+    pub fn is_structured(&self) -> bool
+        ensures { IsTrue result ↔ IsStructuredAct (meaning self.now) }
+    {
+        match self {
+            WaveletOp::NoOp => true,
+            WaveletOp::Add(_) => true,
+            WaveletOp::Remove(_) => true,
+            WaveletOp::Mutate { op, .. } => op.is_structured(),
+            WaveletOp::SetRole { .. } => true,
+        }
+    }
+
     /// An equal operation.
     pub fn copy(&self, alloc: Global) -> Result<WaveletOp, Memory>
         ensures { IfOk result (λ o. o ≡ self.now) }

@@ -1,5 +1,5 @@
-ghost use Rattle.std.specs.Prelude.{◌≡◌, ◌<◌, ◌≤◌, cond, length, Some, None, IfOk};
-ghost use Rattle.wavelet_op.specs.Acts.{meanings, AreNormal};
+ghost use Rattle.std.specs.Prelude.{◌≡◌, ◌<◌, ◌≤◌, ◌↔◌, cond, length, Some, None, IfOk, IsTrue};
+ghost use Rattle.wavelet_op.specs.Acts.{meanings, AreNormal, AreStructuredActs};
 ghost use Rattle.wavelet_op.specs.Deltas.{is_count};
 
 use crate::WaveletOp;
@@ -67,6 +67,18 @@ impl Ops {
         ensures bound { result ≤ 1000 }
     {
         self.list.len() as u64
+    }
+
+    /// Whether each operation on a document is structured.
+    pub fn is_structured(&self) -> bool
+        ensures { IsTrue result ↔ AreStructuredActs (meanings self.now) }
+    {
+        for op in self.as_slice() {
+            if !op.is_structured() {
+                return false;
+            }
+        }
+        true
     }
 
     /// Equal operations.

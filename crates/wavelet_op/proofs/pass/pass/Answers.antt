@@ -11,7 +11,7 @@ loop-op-preserved c =
     let steps : into_iter_items c.loop-op.op-iterator ≡ c.in-Some.op ∷ into_iter_items c.next.new.self = c.in-Some.ensures.steps.0 in
     let here = subst (λ (r : List Held). IsPassing (act_held c.args.later) (acts_held c.args.earlier.items) (length c.args.earlier.items) c.loop-op.later c.loop-op.passed.items r) steps c.loop-op.invariant in
     subst (λ (p : List Held). IsPassing (act_held c.args.later) (acts_held c.args.earlier.items) (length c.args.earlier.items) c.in_ok-mine.mine p (into_iter_items c.next.new.self)) (sym c.in_ok-put.ensures)
-      (passing_step _ _ _ c.loop-op.later c.in-Some.op c.in_ok-mine.mine c.in_ok-mine.theirs c.loop-op.passed.items (into_iter_items c.next.new.self) here c.in_ok-mine.ensures)
+    (passing_step _ _ _ c.loop-op.later c.in-Some.op c.in_ok-mine.mine c.in_ok-mine.theirs c.loop-op.passed.items (into_iter_items c.next.new.self) here c.in_ok-mine.ensures)
 
 pub returns-in_err-mine : goal.returns-in_err-mine
 returns-in_err-mine c =
