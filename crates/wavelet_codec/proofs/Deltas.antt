@@ -181,6 +181,9 @@ record IsRead (hash bytes : List ℕ) (d : DeltaOf) : Type 0 where
   spelled : bytes ≡ delta_bytes d
   known : d.from.hash ≡ hash
 
+at_end : (bytes front rest : List ℕ) → bytes ≡ front ++ rest → rest ≡ [] → bytes ≡ front
+at_end bytes front rest e none = e ∙ ap (λ (w : List ℕ). front ++ w) none ∙ append-nil front
+
 no_more : (bytes : List ℕ) → is_nil bytes ≡ true → bytes ≡ []
 no_more [] e = refl
 no_more (b ∷ bytes) e = absurd (omega (arith, eqb-true (length (b ∷ bytes)) 0 e))
@@ -202,9 +205,8 @@ tagged_delta_takes hash tag bytes d fits e =
     let e23 = Takes-then b.0.1 (number c.0.0) c.0.1 (ops_bytes o.0.0) o.0.1 t2.0 t3.0 in
     let e13 = Takes-then a.0.1 (number b.0.0) b.0.1 (number c.0.0 ++ ops_bytes o.0.0) o.0.1 t1.0 e23 in
     let e03 = Takes-then bytes (id_bytes a.0.0) a.0.1 (number b.0.0 ++ (number c.0.0 ++ ops_bytes o.0.0)) o.0.1 t0.0 e13 in
-    let behind : bytes ≡ id_bytes a.0.0 ++ (number b.0.0 ++ (number c.0.0 ++ ops_bytes o.0.0)) =
-        e03.parts ∙ ap (λ (w : List ℕ). (id_bytes a.0.0 ++ (number b.0.0 ++ (number c.0.0 ++ ops_bytes o.0.0))) ++ w) (no_more o.0.1 tests.1) ∙ append-nil _ in
-    subst (λ (x : DeltaOf). IsRead hash (tag ∷ bytes) x) (some_is (made_delta hash a.0.0 b.0.0 c.0.0 o.0.0) d g.1) (record {
+    let behind : bytes ≡ id_bytes a.0.0 ++ (number b.0.0 ++ (number c.0.0 ++ ops_bytes o.0.0)) = at_end bytes _ o.0.1 e03.parts (no_more o.0.1 tests.1) in
+    subst (λ (x : DeltaOf). IsRead hash (tag ∷ bytes) x) {x = made_delta hash a.0.0 b.0.0 c.0.0 o.0.0} (some_is (made_delta hash a.0.0 b.0.0 c.0.0 o.0.0) d g.1) (record {
       is = record { id = t0.1; version = t1.1; time = t2.1; ops = t3.1 };
       spelled = λ i. eqb-true tag (format o.0.0) tests.0 i ∷ behind i;
       known = refl;

@@ -1,0 +1,5 @@
+//! Tests of deltas: their bytes.
+#![tactic(auto)]
+
+#[cfg(test)]
+mod deltas;
