@@ -1,0 +1,4 @@
+pub mod Alike
+pub mod Names
+pub mod Normals
+pub mod Deltas

@@ -1,0 +1,10 @@
+pub mod Acts
+pub mod Compacts
+pub mod Deltas
+pub mod Grids
+pub mod Joining
+pub mod Laws
+pub mod Passing
+pub mod Results
+pub mod States
+pub mod Transform

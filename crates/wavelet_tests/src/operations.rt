@@ -1,0 +1,244 @@
+// Operations on wavelets stand here as words: `noop`, `add ADDRESS`, `remove ADDRESS`, `role ADDRESS OLD NEW`, and
+// `DOCUMENT: WORDS` with words of `op_words`. Of several, `; ` stands between each two.
+use doc_items::Memory;
+use op_words::{operation, shown};
+use std::alloc::Global;
+use std::process::Abort;
+use std::test::Fail;
+use wave_base::{Address, DocumentName};
+use wavelet_op::{
+    Ops, OpsPair, Role, WaveletFault, WaveletOp, compact, transform_delta, transform_op,
+};
+
+fn role(word: &str) -> Role {
+    if word == "full" {
+        Role::Full
+    } else {
+        Role::ReadOnly
+    }
+}
+
+fn role_op(alloc: Global, words: &str) -> Result<WaveletOp, Fail> {
+    let (address, roles) = words.split_once(' ').unwrap_or((words, ""));
+    let (old, new) = roles.split_once(' ').unwrap_or((roles, ""));
+    Ok(WaveletOp::SetRole {
+        address: Address::parse(alloc, address)?,
+        old: role(old),
+        new: role(new),
+    })
+}
+
+fn op(alloc: Global, words: &str) -> Result<WaveletOp, Fail> {
+    if let Some((document, words)) = words.split_once(": ") {
+        return Ok(WaveletOp::Mutate {
+            document: DocumentName::parse(alloc, document)?,
+            op: operation(alloc, words)?,
+        });
+    }
+    if let Some(address) = words.strip_prefix("add ") {
+        return Ok(WaveletOp::Add(Address::parse(alloc, address)?));
+    }
+    if let Some(address) = words.strip_prefix("remove ") {
+        return Ok(WaveletOp::Remove(Address::parse(alloc, address)?));
+    }
+    if let Some(words) = words.strip_prefix("role ") {
+        return role_op(alloc, words);
+    }
+    Ok(WaveletOp::NoOp)
+}
+
+fn ops(rt: &impl Abort, alloc: Global, words: &str) -> Result<Ops, Fail> {
+    let mut list = Vec::new(alloc);
+    for word in words.split("; ") {
+        list.push(op(alloc, word)?)?;
+    }
+    Ok(Ops::new(list).expect(rt, "1 to 1,000 operations"))
+}
+
+fn role_word(role: Role) -> &'static str {
+    match role {
+        Role::Full => "full",
+        Role::ReadOnly => "read",
+    }
+}
+
+fn show(alloc: Global, op: &WaveletOp) -> Result<String, Memory> {
+    match op {
+        WaveletOp::NoOp => format!(in alloc; "noop"),
+        WaveletOp::Add(address) => format!(in alloc; "add {}", address.text()),
+        WaveletOp::Remove(address) => format!(in alloc; "remove {}", address.text()),
+        WaveletOp::Mutate { document, op } => {
+            let words = shown(alloc, op)?;
+            format!(in alloc; "{}: {}", document.text(), words.as_str())
+        }
+        WaveletOp::SetRole { address, old, new } => {
+            format!(in alloc;
+                "role {} {} {}",
+                address.text(),
+                role_word(*old),
+                role_word(*new)
+            )
+        }
+    }
+}
+
+fn show_all(alloc: Global, ops: &Ops) -> Result<String, Memory> {
+    let mut out = String::new(alloc);
+    for op in ops.as_slice() {
+        if !out.is_empty() {
+            out.push_str("; ")?;
+        }
+        out.push_str(show(alloc, op)?.as_str())?;
+    }
+    Ok(out)
+}
+
+// Both results of operations that have to be structured.
+fn transformed(
+    rt: &impl Abort,
+    alloc: Global,
+    later: &Ops,
+    earlier: &Ops,
+) -> Result<OpsPair, WaveletFault> {
+    assert!(rt; later.is_structured());
+    assert!(rt; earlier.is_structured());
+    transform_delta(alloc, later, earlier)
+}
+
+// The later and the earlier operations, and both results.
+#[test]
+fn lists_past_each_other(rt: HostRuntime) -> Result<(), Fail> {
+    let alloc = rt.alloc();
+    let rows = [
+        ("add carol@a.com", "add carol@a.com", "noop", "noop"),
+        (
+            "b+1: 1 +X 1; b+2: +y",
+            "b+1: 1 +Y 1; add bob@a.com",
+            "b+1: 1 +X 2; b+2: +y",
+            "b+1: 2 +Y 1; add bob@a.com",
+        ),
+        (
+            "b+1: +X 2; b+1: 3 +Y",
+            "b+1: 1 -b; b+1: -a",
+            "b+1: +X; b+1: 1 +Y",
+            "b+1: 2 -b 1; b+1: 1 -a 1",
+        ),
+        (
+            "role bob@a.com full read; remove carol@a.com",
+            "remove bob@a.com; role carol@a.com full read",
+            "noop; remove carol@a.com",
+            "remove bob@a.com; noop",
+        ),
+        (
+            "role bob@a.com full full",
+            "role bob@a.com full read",
+            "role bob@a.com read full",
+            "noop",
+        ),
+        ("b+1: 1 1 +a", "noop", "b+1: 2 +a", "noop"),
+    ];
+    for (later, earlier, later_want, earlier_want) in rows {
+        let later = ops(&rt, alloc, later)?;
+        let earlier = ops(&rt, alloc, earlier)?;
+        let pair = transformed(&rt, alloc, &later, &earlier)?;
+        assert_eq!(rt; show_all(alloc, &pair.later)?.as_str(), later_want);
+        assert_eq!(rt; show_all(alloc, &pair.earlier)?.as_str(), earlier_want);
+    }
+    Ok(())
+}
+
+// The later and the earlier operations, and why they have no transform.
+#[test]
+fn refused_transforms(rt: HostRuntime) -> Result<(), Fail> {
+    let alloc = rt.alloc();
+    let rows = [
+        (
+            "noop; add bob@a.com",
+            "remove bob@a.com",
+            WaveletFault::Conflict(1),
+        ),
+        (
+            "role bob@a.com full read",
+            "add bob@a.com",
+            WaveletFault::Conflict(0),
+        ),
+        (
+            "role bob@a.com full read",
+            "role bob@a.com read full",
+            WaveletFault::Conflict(0),
+        ),
+        ("noop; b+2: 1; b+1: 1", "b+1: 2", WaveletFault::Conflict(2)),
+        (
+            "b+1: 9007199254740990 +a",
+            "b+1: 9007199254740990 +b",
+            WaveletFault::CountTooLarge,
+        ),
+    ];
+    for (later, earlier, want) in rows {
+        let later = ops(&rt, alloc, later)?;
+        let earlier = ops(&rt, alloc, earlier)?;
+        match transformed(&rt, alloc, &later, &earlier) {
+            Ok(_) => assert!(rt; false),
+            Err(fault) => assert!(rt; fault == want),
+        }
+    }
+    Ok(())
+}
+
+#[test]
+fn one_past_another(rt: HostRuntime) -> Result<(), Fail> {
+    let alloc = rt.alloc();
+    let later = op(alloc, "b+1: -<p ->")?;
+    let earlier = op(alloc, "b+1: 1 +x 1")?;
+    assert!(rt; later.is_structured());
+    assert!(rt; earlier.is_structured());
+    let pair = transform_op(alloc, &later, &earlier)?;
+    assert_eq!(rt; show(alloc, &pair.later)?.as_str(), "b+1: -<p -x ->");
+    assert_eq!(rt; show(alloc, &pair.earlier)?.as_str(), "b+1: ");
+    Ok(())
+}
+
+// Operations, and what they are when neighbours are composed.
+#[test]
+fn neighbours_are_composed(rt: HostRuntime) -> Result<(), Fail> {
+    let alloc = rt.alloc();
+    let rows = [
+        (
+            "b+1: +a; b+1: 1 +b; b+2: +x; b+1: 2 +c; b+1: -abc",
+            "b+1: +ab; b+2: +x; b+1: -ab",
+        ),
+        ("b+1: 1 1; noop; b+1: 2", "b+1: 2; noop; b+1: 2"),
+        (
+            "add bob@a.com; remove bob@a.com",
+            "add bob@a.com; remove bob@a.com",
+        ),
+    ];
+    for (words, want) in rows {
+        let fewer = compact(alloc, &ops(&rt, alloc, words)?)?;
+        assert_eq!(rt; show_all(alloc, &fewer)?.as_str(), want);
+    }
+    let unfit = ops(&rt, alloc, "noop; b+1: 1 +b; b+1: 1 -c")?;
+    match compact(alloc, &unfit) {
+        Ok(_) => assert!(rt; false),
+        Err(fault) => assert!(rt; fault == WaveletFault::DontFit(1)),
+    }
+    Ok(())
+}
+
+#[test]
+fn a_delta_has_one_to_a_thousand_operations(rt: HostRuntime) -> Result<(), Fail> {
+    let alloc = rt.alloc();
+    assert!(rt; Ops::new(Vec::new(alloc)).is_none());
+    let mut most = Vec::new(alloc);
+    for _ in 0..1000 {
+        most.push(WaveletOp::NoOp)?;
+    }
+    let copy = Ops::new(most).expect(&rt, "1,000 operations").copy(alloc)?;
+    assert_eq!(rt; copy.len(), 1000);
+    let mut more = Vec::new(alloc);
+    for _ in 0..1001 {
+        more.push(WaveletOp::NoOp)?;
+    }
+    assert!(rt; Ops::new(more).is_none());
+    Ok(())
+}
