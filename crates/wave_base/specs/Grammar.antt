@@ -1,12 +1,16 @@
--- The grammar of names, over the bytes of a text. All of them are ASCII, so that bytes are characters.
---     has alphabet b               the byte is of the alphabet
---     is_word alphabet t           one byte or more, each of the alphabet
---     is_user, is_id               words of at most 64 and 128 bytes; an id is also the name of a document or a session
---     is_domain                    labels with a dot between each two, at most 255 bytes in all
---     joined b p q t               what p takes, the byte b, and what q takes; b is the first in t
---     is_address                   user @ domain
---     is_wavelet_name              wave domain / wave id / wavelet domain / wavelet id
---     domain_of, host_of           the domain of an address, the wavelet domain of a wavelet name
+-- The grammar of names, as tests over the bytes of a text. A name has ASCII alone, so its bytes are its characters.
+--     dot, slash, at_sign                    the bytes that separate parts
+--     is_among marks b, has alphabet b       the byte is one of the marks; it is of the alphabet
+--     is_word alphabet t                     one byte or more, each of the alphabet
+--     is_user, is_id                         words of at most 64 and 128 bytes; a document or a session is named by an id
+--     is_domain                              labels with a dot between each two, at most 255 bytes in all
+--     before b t, behind b t, IsCut          what stands on the two sides of the first byte b
+--     joined b p q t                         what p takes, then the first byte b, then what q takes
+--     is_address                             user @ domain
+--     is_wavelet_part                        wavelet domain / wavelet id
+--     is_behind_wave_domain                  wave id / wavelet domain / wavelet id
+--     is_wavelet_name                        wave domain / wave id / wavelet domain / wavelet id
+--     domain_of, host_of                     the domain of an address, the wavelet domain of a wavelet name
 use Rattle.std.specs.Prelude.{ℕ, Bool, true, ◌≡◌, ◌&&◌, ◌||◌, ◌==◌, nat_le, List, length, not, codes}
 use Rattle.std.specs.Char.{is_ascii_lowercase, is_ascii_uppercase, is_ascii_digit}
 use Rattle.std.specs.List.{list_any, list_all, slice_split, before_first, after_first}
@@ -42,14 +46,12 @@ is_id t = nat_le (length t) 128 && is_word Id t
 unfoldable pub is_domain : List ℕ → Bool
 is_domain t = nat_le (length t) 255 && list_all (is_word Label) (slice_split (λ b. b == dot) t)
 
--- what stands before and behind the first byte b
 unfoldable pub before : ℕ → List ℕ → List ℕ
 before b t = before_first (λ c. c == b) t
 
 unfoldable pub behind : ℕ → List ℕ → List ℕ
 behind b t = after_first (λ c. c == b) t
 
--- the first byte b of t stands between front and back
 abbrev pub IsCut : ℕ → List ℕ → List ℕ → List ℕ → Type 0
 IsCut b t front back = (list_any (λ c. c == b) t ≡ true) × (front ≡ before b t) × (back ≡ behind b t)
 
@@ -59,11 +61,9 @@ joined b p q t = list_any (λ c. c == b) t && p (before b t) && q (behind b t)
 unfoldable pub is_address : List ℕ → Bool
 is_address t = joined at_sign is_user is_domain t
 
--- wavelet domain / wavelet id
 unfoldable pub is_wavelet_part : List ℕ → Bool
 is_wavelet_part t = joined slash is_domain is_id t
 
--- wave id / wavelet domain / wavelet id
 unfoldable pub is_behind_wave_domain : List ℕ → Bool
 is_behind_wave_domain t = joined slash is_id is_wavelet_part t
 

@@ -1,12 +1,15 @@
 ghost use Rattle.std.specs.Prelude.{◌≡◌, ◌≤◌, IfOk};
+ghost use Rattle.std.specs.Cmp.{partial_order_from_own_ties};
 ghost use Rattle.std.specs.Cmp.Rules.{comparing};
+ghost use Rattle.std.specs.Ordering.{as_partial_cmp};
 ghost use Rattle.std.proofs.Common.{rules};
 ghost use Rattle.doc_items.specs.Limits.{max_count};
-ghost use Rattle.wave_base.specs.Versions.{same_id};
+ghost use Rattle.wave_base.specs.Versions.{same_id, id_cmp};
 
 use crate::Address;
 use doc_items::Memory;
 use std::alloc::Global;
+use std::cmp::Ordering;
 use std::marker::Model;
 
 /// By what a delta is known: no two deltas of a history have the same.
@@ -60,4 +63,31 @@ impl PartialEq for DeltaId {
 
 impl Eq for DeltaId {
     ghost laws = { Prim.search (comparing, rules) };
+}
+
+impl Ord for DeltaId {
+    ghost cmp = { id_cmp };
+
+    ghost total = { Prim.search (comparing, rules) };
+
+    ghost matches_partial_cmp = { Prim.search (comparing, rules) };
+
+    ghost matches_eq = { Prim.search (comparing, rules) };
+
+    fn cmp(&self, other: &DeltaId) -> Ordering {
+        self.author
+            .cmp(&other.author)
+            .then(self.client.cmp(&other.client))
+            .then(self.number.cmp(&other.number))
+    }
+}
+
+impl PartialOrd for DeltaId {
+    ghost partial_cmp = { as_partial_cmp id_cmp };
+
+    ghost laws = { partial_order_from_own_ties (Prim.search (comparing, rules)) (Prim.search (comparing, rules)) };
+
+    fn partial_cmp(&self, other: &DeltaId) -> Option<Ordering> {
+        Some(self.cmp(other))
+    }
 }

@@ -154,6 +154,7 @@ fn ids_of_deltas_and_versions_are_compared(rt: HostRuntime) -> Result<(), Fail> 
     assert!(rt; first != id(alloc, "alice@a.com", 2, 2)?);
     assert!(rt; first != id(alloc, "alice@a.com", 1, 1)?);
     assert!(rt; first != id(alloc, "alice@b.com", 1, 2)?);
+    assert_eq!(rt; first.cmp(&id(alloc, "alice@a.com", 2, 1)?), Ordering::Less);
     assert!(rt; at(3, 7) == at(3, 7));
     assert!(rt; at(3, 7) != at(3, 8));
     assert!(rt; at(3, 7) != at(4, 7));
