@@ -5,7 +5,7 @@
 --     ActSquare               so it is of any two acts
 --     IsGrid, DeltaSquare     so it is of any two lists of acts, and the lengths are kept
 --     IsCompact, CompactHolds what is valid at a state is compacted, leads to the same end, and inserts no more
---     BoundedIsExact          with the bound on counts there is no other result than without it
+--     BoundedIsExact, BoundedCompactIsExact     with the bound on counts there is no other result than without it
 --     IsWhole s, StatesHold   every document is balanced and none that is kept is empty; lists that are valid keep that
 --     PassAppends             acts pass through lists in a row as through the first and then through the others
 use Rattle.std.specs.Prelude.{◌≡◌, ◌≤◌, List, ◌++◌, length, Some, Ok, option_and_then}
