@@ -65,9 +65,12 @@ mutations_join s m t d c f g p q = go (same_text d c) refl
         let is : d ≡ c = same_text_is d c b in
         let x = and_then_some (mutate f (document_of s d)) (λ items. Some (with_document s d items)) m p in
         let second : apply_act (with_document s d x.0) (Mutates d g) ≡ Some t = subst (λ z. apply_act z (Mutates d g) ≡ Some t) (sym (same_Some x.2)) (subst (λ n. apply_act m (Mutates n g) ≡ Some t) (sym is) q) in
-        let y = and_then_some (mutate g x.0) (λ items. Some (with_document s d items)) t (sym (mutated_again s d x.0 g) ∙ second) in
+        let again : option_and_then (λ items. Some (with_document s d items)) (mutate g x.0) ≡ Some t = sym (mutated_again s d x.0 g) ∙ second in
+        let y = and_then_some (mutate g x.0) (λ items. Some (with_document s d items)) t again in
         let one = one_of f g (document_of s d) x.0 y.0 x.1 y.1 in
-        joins (Mutates d one.acts) (ap joined b ∙ ap (λ r. Some (mutation d r)) one.is) (ap (option_and_then (λ items. Some (with_document s d items))) one.goes ∙ y.2) one.small
+        let is_joined : join (Mutates d f) (Mutates c g) ≡ Some (Ok (Mutates d one.acts)) = ap joined b ∙ ap (λ r. Some (mutation d r)) one.is in
+        let goes : apply_act s (Mutates d one.acts) ≡ Some t = ap (option_and_then (λ items. Some (with_document s d items))) one.goes ∙ y.2 in
+        joins (Mutates d one.acts) is_joined goes one.small
 
 neighbours : (s m t : State) (a b : Act) → apply_act s a ≡ Some m → apply_act m b ≡ Some t → IsJoined s a b t
 unfolding join

@@ -9,3 +9,4 @@ pub mod Crossings
 pub mod Passes
 pub mod Griddings
 pub mod Joinings
+pub mod Wholes

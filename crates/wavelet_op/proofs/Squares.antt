@@ -35,10 +35,10 @@ kept_is : (x : List Item) → unwrap_or (kept x) [] ≡ x
 kept_is [] = refl
 kept_is (i ∷ x) = refl
 
-document_there : (s : State) (d : Key) (x : List Item) → document_of (with_document s d x) d ≡ x
+pub document_there : (s : State) (d : Key) (x : List Item) → document_of (with_document s d x) d ≡ x
 document_there s d x = ap (λ m. unwrap_or m []) (set_same s.documents d (kept x)) ∙ kept_is x
 
-document_elsewhere : (s : State) (c d : Key) (x : List Item) → (d ≡ c → ⊥) → document_of (with_document s c x) d ≡ document_of s d
+pub document_elsewhere : (s : State) (c d : Key) (x : List Item) → (d ≡ c → ⊥) → document_of (with_document s c x) d ≡ document_of s d
 document_elsewhere s c d x h = ap (λ m. unwrap_or m []) (set_other s.documents c d (kept x) h)
 
 pub document_again : (s : State) (d : Key) (x y : List Item) → with_document (with_document s d x) d y ≡ with_document s d y

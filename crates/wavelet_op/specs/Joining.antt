@@ -1,7 +1,9 @@
 -- Neighbouring operations that become one.
 --     IsJoint a b o         the operation for both, in normal form; None for two that stay apart
+--     joint o               its act, as `bounded_join` answers it
 --     Unjoins r f           the fault f tells why no act takes the place of two
 --     act_fronts xs r       acts in front of what the rest gives
+--     expects done h rest   what is done, in front of what becomes of the one that is held and of those to come
 --     IsStep done h o ..    one operation further: either it joins the one that is held, or it is held now and that one is done
 use Rattle.std.specs.Prelude.{◌≡◌, ◌+◌, ◌≤◌, List, ◌∷◌, ◌++◌, length, Option, Some, None, Result, Ok, Err, IfSome}
 use Rattle.wavelet_op.specs.Acts.{Act, meaning, meanings, IsNormal, AreNormal}

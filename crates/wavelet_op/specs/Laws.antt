@@ -5,11 +5,15 @@
 --     ActSquare               so it is of any two acts
 --     IsGrid, DeltaSquare     so it is of any two lists of acts, and the lengths are kept
 --     IsCompact, CompactHolds what is valid at a state is compacted, leads to the same end, and inserts no more
---     BoundedIsExact          with the bound on counts there is no other result than without it
+--     BoundedIsExact, BoundedCompactIsExact     with the bound on counts there is no other result than without it
+--     IsWhole s, StatesHold   every document is balanced and none that is kept is empty; lists that are valid keep that
 --     PassAppends             acts pass through lists in a row as through the first and then through the others
 use Rattle.std.specs.Prelude.{◌≡◌, ◌≤◌, List, ◌++◌, length, Some, Ok, option_and_then}
+use Rattle.std.specs.FinMap.{get}
+use Rattle.doc_items.specs.Balance.{Balanced}
+use Rattle.doc_items.specs.Maps.{Key}
 use Rattle.wavelet_op.specs.Acts.{Act, inserted_act, inserted}
-use Rattle.wavelet_op.specs.States.{State, apply_act, run}
+use Rattle.wavelet_op.specs.States.{State, document_of, kept, apply_act, run}
 use Rattle.wavelet_op.specs.Transform.{act_transform}
 use Rattle.wavelet_op.specs.Grids.{Lists, grid, bounded_grid, pass}
 use Rattle.wavelet_op.specs.Compacts.{compact, bounded_compact}
@@ -41,6 +45,13 @@ pub record IsGrid (later earlier : List Act) (t u : State) : Type 0 where
 
 abbrev pub DeltaSquare : Type 0
 DeltaSquare = (s t u : State) (later earlier : List Act) → run s earlier ≡ Some t → run s later ≡ Some u → IsGrid later earlier t u
+
+pub record IsWhole (s : State) : Type 0 where
+  pub balanced : (d : Key) → Balanced (document_of s d)
+  pub some_items : (d : Key) → get s.documents d ≡ kept (document_of s d)
+
+abbrev pub StatesHold : Type 0
+StatesHold = (s t : State) (acts : List Act) → IsWhole s → run s acts ≡ Some t → IsWhole t
 
 pub record IsCompact (acts : List Act) (s t : State) : Type 0 where
   pub fewer : List Act

@@ -7,7 +7,9 @@
 --     with_document s d items     the state with these items in a document; an empty document is taken away
 --     is_structured acts      the test of `Structured`
 --     mutate acts items       the items afterwards, where the actions are structured and apply
+--     kept items              what the map has of a document
 --     added, removed, role_set    what becomes of an address's role, where the act applies to it
+--     on_role s a m           the state with what becomes of the role
 --     apply_act s a           the state afterwards, where the act applies
 --     run s as                the state after acts in turn, where each applies
 --     first_invalid s as      how many of the acts apply in turn

@@ -1,6 +1,9 @@
 -- The transform of a later and an earlier act that were made at one state.
 --     Both                    the later act's result and the earlier one's
 --     role_transform l e      of two acts on the role of one address
+--     role_key a              the address whose role an act is on
+--     by_role l e j k         of two acts on roles, by their addresses
+--     mutations d c r         of two mutations of one document
 --     act_transform l e       the results, where they are defined; acts on different addresses and documents stay
 --     Refusal                 two mutations of one document are over too many items together; or no transform is defined
 --     is_within l e           mutations of one document aren't over too many items together
