@@ -1,15 +1,14 @@
 -- Acts keep every document balanced, and none that is empty.
-use Rattle.std.proofs.Common.{◌≡◌, Bool, true, false, List, Option, None, Some, [], ◌∷◌, refl, sym, ap, subst, ◌∙◌, unwrap_or}
+use Rattle.std.proofs.Common.{◌≡◌, Bool, true, false, List, Option, None, Some, [], ◌∷◌, refl, sym, ap, subst, ◌∙◌}
 use Rattle.std.specs.FinMap.{get}
 use Rattle.doc_items.specs.Balance.{Balanced}
 use Rattle.doc_items.specs.Maps.{Key, same_text}
 use Rattle.doc_items.specs.declared.item.Item.{Item}
-use Rattle.doc_op.specs.Actions.{Action}
 use Rattle.doc_op.specs.Apply.{apply}
 use Rattle.doc_op.proofs.Applying.{no_value, same_Some, passed, keeps_balance}
 use Rattle.wavelet_op.specs.Acts.{Act, Idle, Adds, Removes, Sets, Mutates}
 use Rattle.wavelet_op.specs.Laws.{IsWhole, StatesHold}
-use Rattle.wavelet_op.specs.States.{State, role_of, with_role, on_role, added, removed, role_set, document_of, kept, with_document, is_structured, mutate, apply_act, run}
+use Rattle.wavelet_op.specs.States.{State, role_of, on_role, added, removed, role_set, document_of, kept, with_document, is_structured, mutate, apply_act, run}
 use Rattle.wavelet_op.specs.declared.role.Role.{Role}
 use Rattle.wavelet_op.proofs.Maps.{same_text_is, different, set_same, set_other}
 use Rattle.wavelet_op.proofs.Partial.{and_then_some}
