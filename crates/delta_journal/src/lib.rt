@@ -19,4 +19,3 @@ pub use laws::{file_means_once, file_named_once};
 pub use load::{Loaded, Unloaded};
 pub use name::stored_name;
 pub use stored::{Bytes, Stored, StoredRecords};
-

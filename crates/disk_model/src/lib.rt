@@ -9,4 +9,3 @@ mod steps;
 
 pub use disk::{Disk, DiskError, DiskFault};
 pub use memory::MemoryDisk;
-

@@ -15,4 +15,3 @@ pub use fault::JsonFault;
 pub use members::three_members;
 pub use read::from_value;
 pub use write::to_value;
-

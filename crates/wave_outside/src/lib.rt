@@ -14,4 +14,3 @@ pub use memory::{MemorySink, MemorySource};
 pub use sink::Sink;
 pub use source::Source;
 pub use streams::{ReaderSource, WriterSink};
-

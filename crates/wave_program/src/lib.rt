@@ -17,4 +17,3 @@ pub use machine::Machine;
 pub use message::MAX_CLIENT;
 pub use reply::Reply;
 pub use top::run;
-
