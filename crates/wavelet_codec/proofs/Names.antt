@@ -2,12 +2,12 @@
 --     recast         the same reading, for what is valid and spelled alike
 --     passings       a reading with a test
 --     limited, addresses, names      counts, addresses, names of documents
-use Rattle.std.proofs.Common.{◌≡◌, ℕ, ◌<◌, ◌≤◌, ◌^◌, Bool, true, cond, List, ◌++◌, Option, Some, None, refl, sym, ap, subst, ◌∙◌, arith}
+use Rattle.std.proofs.Common.{◌≡◌, ℕ, ◌≤◌, Bool, true, cond, List, ◌++◌, Some, None, refl, sym, ap, subst, ◌∙◌, arith}
 use Rattle.std.specs.Prelude.{nat_le}
 use Rattle.std.proofs.lemmas.Bool.{leb-true, le-leb}
 use Rattle.doc_items.specs.Limits.{max_count}
 use Rattle.op_codec.specs.Spelling.{string}
-use Rattle.op_codec.specs.Reading.{Read, number_at, key_at}
+use Rattle.op_codec.specs.Reading.{Read}
 use Rattle.op_codec.proofs.Fields.{IsCodec, Takes, guard_on, some_is, numbers, keys}
 use Rattle.wave_base.specs.Grammar.{is_address, is_id}
 use Rattle.wave_base.proofs.Parts.{address-bound, id-bound}

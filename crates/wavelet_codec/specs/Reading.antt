@@ -4,7 +4,7 @@
 --     normal_at                 an operation on a document, in normal form
 --     role_at, op_at, ops_at, id_at     what Spelling says
 --     delta_at hash bytes       the delta that all of the bytes are, with the hash at its version
-use Rattle.std.specs.Prelude.{◌≡◌, ℕ, zero, suc, ◌==◌, ◌&&◌, nat_lt, nat_le, List, [], ◌∷◌, length, Bool, if◌then◌else◌, Option, Some, None}
+use Rattle.std.specs.Prelude.{ℕ, zero, suc, ◌==◌, ◌&&◌, nat_lt, nat_le, List, [], ◌∷◌, length, Bool, if◌then◌else◌, Option, Some, None}
 use Rattle.std.specs.Int.{w32, w64}
 use Rattle.doc_items.specs.Limits.{max_count}
 use Rattle.doc_items.specs.Maps.{Key}
@@ -14,7 +14,7 @@ use Rattle.doc_op.specs.Normal.{normal_form}
 use Rattle.op_codec.specs.Spelling.{spelling, limit}
 use Rattle.op_codec.specs.Reading.{Read, ◌>>=◌, number_at, key_at, list_of, operation_at}
 use Rattle.wave_base.specs.Grammar.{is_address, is_id}
-use Rattle.wave_base.specs.Versions.{IdOf, VersionAt}
+use Rattle.wave_base.specs.Versions.{IdOf}
 use Rattle.wavelet_op.specs.declared.op.WaveletOp.{WaveletOp}
 use Rattle.wavelet_op.specs.declared.op.WaveletOp.TheVariants.{NoOp, Add, Remove, Mutate, SetRole}
 use Rattle.wavelet_op.specs.declared.role.Role.{Role}

@@ -24,7 +24,7 @@ use Rattle.op_codec.specs.Canonical.{canonical, IsSpelling}
 use Rattle.op_codec.specs.declared.fault.CodecFault.{CodecFault}
 use Rattle.op_codec.specs.declared.fault.CodecFault.TheVariants.{BadBytes, Memory}
 use Rattle.wave_base.specs.Grammar.{is_address, is_id}
-use Rattle.wave_base.specs.Versions.{IdOf, VersionAt}
+use Rattle.wave_base.specs.Versions.{IdOf}
 use Rattle.wavelet_op.specs.declared.op.WaveletOp.{WaveletOp}
 use Rattle.wavelet_op.specs.declared.op.WaveletOp.TheVariants.{NoOp, Add, Remove, Mutate, SetRole}
 use Rattle.wavelet_op.specs.declared.role.Role.{Role}
