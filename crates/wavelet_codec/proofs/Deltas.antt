@@ -15,13 +15,14 @@ use Rattle.op_codec.specs.Canonical.{canonical, IsSpelling}
 use Rattle.op_codec.specs.Reading.{Read, ◌>>=◌, Gives, number_at, list_of, list_at}
 use Rattle.op_codec.proofs.Fields.{IsBytes, IsBytes-rest, bind_some, guard_on, some_is, Takes, Takes-then, IsCodec, counts, pairs}
 use Rattle.op_codec.proofs.Lists.{lists}
+use Rattle.wave_base.specs.Grammar.{is_address, is_id}
 use Rattle.wave_base.specs.Versions.{IdOf}
 use Rattle.wavelet_op.specs.declared.op.WaveletOp.{WaveletOp}
 use Rattle.wavelet_op.specs.declared.op.WaveletOp.TheVariants.{NoOp, Add, Remove, Mutate, SetRole}
 use Rattle.wavelet_op.specs.declared.role.Role.{Role}
 use Rattle.wavelet_op.specs.declared.role.Role.TheVariants.{Full, ReadOnly}
 use Rattle.wavelet_op.specs.Deltas.{DeltaOf, is_count}
-use Rattle.wavelet_codec.specs.Spelling.{role_byte, roles, op_bytes, ops_bytes, format, number, id_bytes, delta_bytes, IsAddressText, IsNameText, IsOp, AreOps, IsId, IsDelta, IsRefused, IsSameDelta}
+use Rattle.wavelet_codec.specs.Spelling.{role_byte, roles, op_bytes, ops_bytes, format, number, id_bytes, delta_bytes, IsOp, AreOps, IsId, IsDelta, IsRefused, IsSameDelta}
 use Rattle.wavelet_codec.specs.Reading.{count_at, address_at, role_at, roles_at, role_change_at, mutation_at, made, tagged_at, op_at, ops_at, made_id, id_at, is_nil, made_delta, tagged_delta_at, delta_at}
 use Rattle.wavelet_codec.proofs.Alike.{both}
 use Rattle.wavelet_codec.proofs.Names.{limited, addresses, names}
@@ -53,11 +54,11 @@ two_roles : IsCodec roles_at roles (λ r. IsAny r.0 × IsAny r.1)
 unfolding roles_at
 two_roles = pairs one_role one_role
 
-role_changes : IsCodec role_change_at (λ p. string p.0 ++ roles p.1) (λ p. IsAddressText p.0 × (IsAny p.1.0 × IsAny p.1.1))
+role_changes : IsCodec role_change_at (λ p. string p.0 ++ roles p.1) (λ p. (is_address p.0 ≡ true) × (IsAny p.1.0 × IsAny p.1.1))
 unfolding role_change_at
 role_changes = pairs addresses two_roles
 
-mutations : IsCodec mutation_at (λ p. string p.0 ++ canonical p.1) (λ p. IsNameText p.0 × IsSpelling p.1)
+mutations : IsCodec mutation_at (λ p. string p.0 ++ canonical p.1) (λ p. (is_id p.0 ≡ true) × IsSpelling p.1)
 unfolding mutation_at
 mutations = pairs names normals
 
