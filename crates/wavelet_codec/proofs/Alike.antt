@@ -1,5 +1,5 @@
 -- The test of ≡ on components holds exactly where they are equal.
-use Rattle.std.proofs.Common.{◌≡◌, Bool, true, false, ◌&&◌, nat_eq, List, refl, ap, arith}
+use Rattle.std.proofs.Common.{◌≡◌, Bool, true, false, ◌&&◌, List, refl, ap}
 use base.Stored.{Gv, gnil, gnum, gcons}
 use Rattle.std.proofs.lemmas.Bool.{eqb-true, eq-eqb}
 use Rattle.doc_op.specs.declared.component.Component.{Component}

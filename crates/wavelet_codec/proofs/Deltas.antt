@@ -3,30 +3,29 @@
 --     delta_takes, delta_again     a delta
 --     alike          the bytes of a delta are those of no other
 --     is_delta, has_bytes, has_hash, read_again, is_refused      what a reading says of a delta
-use Rattle.std.proofs.Common.{◌≡◌, ℕ, zero, suc, ◌+◌, ◌^◌, ◌<◌, ◌≤◌, Bool, true, false, cond, ◌&&◌, List, [], ◌∷◌, ◌++◌, length, Option, Some, None, Result, Ok, Err, IfOk, IfErr, MatchResult, refl, sym, ap, subst, ◌∙◌, append_assoc, append-nil, arith, eqb}
+use Rattle.std.proofs.Common.{◌≡◌, ℕ, zero, suc, ◌^◌, ◌<◌, ◌≤◌, Bool, true, false, cond, ◌&&◌, List, [], ◌∷◌, ◌++◌, length, Option, Some, None, Result, Ok, Err, IfOk, IfErr, MatchResult, refl, sym, ap, subst, ◌∙◌, append_assoc, append-nil, arith, eqb}
 use Rattle.std.specs.Prelude.{nat_le}
-use Rattle.std.specs.List.{flat_map, AllByRecursion}
+use Rattle.std.specs.List.{flat_map}
 use Rattle.std.specs.Int.{w32, to_be_bytes}
 use Rattle.std.proofs.lemmas.Bool.{eqb-true, eq-eqb, leb-true}
-use Rattle.doc_items.specs.Maps.{Key}
-use Rattle.doc_op.specs.declared.component.Component.{Component}
 use Rattle.op_codec.specs.declared.fault.CodecFault.{CodecFault}
 use Rattle.op_codec.specs.declared.fault.CodecFault.TheVariants.{BadBytes, Memory}
-use Rattle.op_codec.specs.Spelling.{string, listed, AreAll}
+use Rattle.op_codec.specs.Spelling.{string, listed}
 use Rattle.op_codec.specs.Canonical.{canonical, IsSpelling}
-use Rattle.op_codec.specs.Reading.{Read, ◌>>=◌, Gives, Fails, number_at, list_of, list_at}
+use Rattle.op_codec.specs.Reading.{Read, ◌>>=◌, Gives, number_at, list_of, list_at}
 use Rattle.op_codec.proofs.Fields.{IsBytes, IsBytes-rest, bind_some, guard_on, some_is, Takes, Takes-then, IsCodec, counts, pairs}
 use Rattle.op_codec.proofs.Lists.{lists}
+use Rattle.wave_base.specs.Grammar.{is_address, is_id}
 use Rattle.wave_base.specs.Versions.{IdOf}
 use Rattle.wavelet_op.specs.declared.op.WaveletOp.{WaveletOp}
 use Rattle.wavelet_op.specs.declared.op.WaveletOp.TheVariants.{NoOp, Add, Remove, Mutate, SetRole}
 use Rattle.wavelet_op.specs.declared.role.Role.{Role}
 use Rattle.wavelet_op.specs.declared.role.Role.TheVariants.{Full, ReadOnly}
 use Rattle.wavelet_op.specs.Deltas.{DeltaOf, is_count}
-use Rattle.wavelet_codec.specs.Spelling.{role_byte, roles, op_bytes, ops_bytes, format, number, id_bytes, delta_bytes, IsAddressText, IsNameText, IsOp, AreOps, IsId, IsDelta, IsDeltaBytes, IsRefused, IsSameDelta}
-use Rattle.wavelet_codec.specs.Reading.{count_at, address_at, document_at, normal_at, role_at, roles_at, role_change_at, mutation_at, made, tagged_at, op_at, ops_at, made_id, id_at, is_nil, made_delta, tagged_delta_at, delta_at}
+use Rattle.wavelet_codec.specs.Spelling.{role_byte, roles, op_bytes, ops_bytes, format, number, id_bytes, delta_bytes, IsOp, AreOps, IsId, IsDelta, IsRefused, IsSameDelta}
+use Rattle.wavelet_codec.specs.Reading.{count_at, address_at, role_at, roles_at, role_change_at, mutation_at, made, tagged_at, op_at, ops_at, made_id, id_at, is_nil, made_delta, tagged_delta_at, delta_at}
 use Rattle.wavelet_codec.proofs.Alike.{both}
-use Rattle.wavelet_codec.proofs.Names.{recast, limited, addresses, names}
+use Rattle.wavelet_codec.proofs.Names.{limited, addresses, names}
 use Rattle.wavelet_codec.proofs.Normals.{normals}
 
 -- ---- an operation
@@ -55,11 +54,11 @@ two_roles : IsCodec roles_at roles (λ r. IsAny r.0 × IsAny r.1)
 unfolding roles_at
 two_roles = pairs one_role one_role
 
-role_changes : IsCodec role_change_at (λ p. string p.0 ++ roles p.1) (λ p. IsAddressText p.0 × (IsAny p.1.0 × IsAny p.1.1))
+role_changes : IsCodec role_change_at (λ p. string p.0 ++ roles p.1) (λ p. (is_address p.0 ≡ true) × (IsAny p.1.0 × IsAny p.1.1))
 unfolding role_change_at
 role_changes = pairs addresses two_roles
 
-mutations : IsCodec mutation_at (λ p. string p.0 ++ canonical p.1) (λ p. IsNameText p.0 × IsSpelling p.1)
+mutations : IsCodec mutation_at (λ p. string p.0 ++ canonical p.1) (λ p. (is_id p.0 ≡ true) × IsSpelling p.1)
 unfolding mutation_at
 mutations = pairs names normals
 
@@ -133,7 +132,7 @@ ops_take bytes r fits e =
     let whole : list_at op_at bytes ≡ Some r = ap (λ x. x >>= λ n. list_of op_at [] n.0 n.1) a.1 ∙ g.1 in
     let t = (lists one_op).takes bytes r fits whole in
     let counted : number_at w32 bytes ≡ Some (length r.0, flat_map op_bytes r.0 ++ r.1) =
-        ap (number_at w32) (t.0.parts ∙ append_assoc (to_be_bytes w32 (length r.0)) (flat_map op_bytes r.0) r.1) ∙ counts.again (length r.0) (flat_map op_bytes r.0 ++ r.1) t.1.0 in
+    ap (number_at w32) (t.0.parts ∙ append_assoc (to_be_bytes w32 (length r.0)) (flat_map op_bytes r.0) r.1) ∙ counts.again (length r.0) (flat_map op_bytes r.0 ++ r.1) t.1.0 in
     let same : a.0.0 ≡ length r.0 = ap (λ (p : ℕ × List ℕ). p.0) (some_is _ _ (sym a.1 ∙ counted)) in
     (t.0, record { count = subst (λ (n : ℕ). is_count n ≡ true) same g.0; each = t.1.1 })
 
@@ -141,7 +140,7 @@ ops_again : (os : List WaveletOp) (rest : List ℕ) → AreOps os → ops_at (op
 unfolding ops_at ops_bytes list_at
 ops_again os rest h =
     let counted : number_at w32 (listed op_bytes os ++ rest) ≡ Some (length os, flat_map op_bytes os ++ rest) =
-        ap (number_at w32) (append_assoc (to_be_bytes w32 (length os)) (flat_map op_bytes os) rest) ∙ counts.again (length os) (flat_map op_bytes os ++ rest) (few (length os) h.count) in
+    ap (number_at w32) (append_assoc (to_be_bytes w32 (length os)) (flat_map op_bytes os) rest) ∙ counts.again (length os) (flat_map op_bytes os ++ rest) (few (length os) h.count) in
     let whole = (lists one_op).again os rest (few (length os) h.count, h.each) in
     ap (λ x. x >>= λ n. cond (is_count n.0) (list_of op_at [] n.0 n.1) None) counted
     ∙ ap (λ b. cond b (list_of op_at [] (length os) (flat_map op_bytes os ++ rest)) None) h.count

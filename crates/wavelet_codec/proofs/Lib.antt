@@ -1,4 +1,5 @@
 pub mod Alike
+pub mod Ascii
 pub mod Names
 pub mod Normals
 pub mod Deltas

@@ -2,16 +2,17 @@
 --     recast         the same reading, for what is valid and spelled alike
 --     passings       a reading with a test
 --     limited, addresses, names      counts, addresses, names of documents
-use Rattle.std.proofs.Common.{◌≡◌, ℕ, ◌<◌, ◌≤◌, ◌^◌, Bool, true, cond, List, ◌++◌, Option, Some, None, refl, sym, ap, subst, ◌∙◌, arith}
+use Rattle.std.proofs.Common.{◌≡◌, ℕ, ◌≤◌, Bool, true, cond, List, ◌++◌, Some, None, refl, sym, ap, subst, ◌∙◌, arith}
 use Rattle.std.specs.Prelude.{nat_le}
 use Rattle.std.proofs.lemmas.Bool.{leb-true, le-leb}
 use Rattle.doc_items.specs.Limits.{max_count}
 use Rattle.op_codec.specs.Spelling.{string}
-use Rattle.op_codec.specs.Reading.{Read, number_at, key_at}
+use Rattle.op_codec.specs.Reading.{Read}
 use Rattle.op_codec.proofs.Fields.{IsCodec, Takes, guard_on, some_is, numbers, keys}
 use Rattle.wave_base.specs.Grammar.{is_address, is_id}
 use Rattle.wave_base.proofs.Parts.{address-bound, id-bound}
-use Rattle.wavelet_codec.specs.Spelling.{number, IsAddressText, IsNameText}
+use Rattle.wavelet_codec.specs.Spelling.{number}
+use Rattle.wavelet_codec.proofs.Ascii.{address-text, id-text}
 use Rattle.wavelet_codec.specs.Reading.{passing, count_at, address_at, document_at}
 
 module _ {X : Type 0} {at : List ℕ → Read X} {spell other : X → List ℕ} {Valid Fine : X → Type 0} where
@@ -43,10 +44,10 @@ pub limited : IsCodec count_at number (λ n. n ≤ max_count)
 unfolding count_at number
 limited = recast (passings numbers (λ n. nat_le n max_count)) (λ n h. refl) (λ n h. leb-true n max_count h.1) (λ n h. (omega (arith, h), le-leb n max_count h))
 
-pub addresses : IsCodec address_at string IsAddressText
+pub addresses : IsCodec address_at string (λ k. is_address k ≡ true)
 unfolding address_at
-addresses = recast (passings keys is_address) (λ k h. refl) (λ k h. (h.0.0, h.1)) (λ k h. ((h.0, omega (arith, address-bound k h.1)), h.1))
+addresses = recast (passings keys is_address) (λ k h. refl) (λ k h. h.1) (λ k h. ((address-text k h, omega (arith, address-bound k h)), h))
 
-pub names : IsCodec document_at string IsNameText
+pub names : IsCodec document_at string (λ k. is_id k ≡ true)
 unfolding document_at
-names = recast (passings keys is_id) (λ k h. refl) (λ k h. (h.0.0, h.1)) (λ k h. ((h.0, omega (arith, id-bound k h.1)), h.1))
+names = recast (passings keys is_id) (λ k h. refl) (λ k h. h.1) (λ k h. ((id-text k h, omega (arith, id-bound k h)), h))

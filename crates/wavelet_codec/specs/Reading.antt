@@ -1,10 +1,11 @@
 -- Deltas read from left to right: what stands at the front of bytes, and the bytes behind it; None where nothing of the kind does.
+--     passing test r            what was read, where it passes a test
 --     count_at                  a number of at most max_count
 --     address_at, document_at   texts in their grammar
---     normal_at                 an operation on a document, in normal form
---     role_at, op_at, ops_at, id_at     what Spelling says
+--     is_spelling, normal_at    an operation on a document, in normal form
+--     role_at, roles_at, role_change_at, mutation_at, tagged_at, op_at, ops_at, id_at     what Spelling says
 --     delta_at hash bytes       the delta that all of the bytes are, with the hash at its version
-use Rattle.std.specs.Prelude.{◌≡◌, ℕ, zero, suc, ◌==◌, ◌&&◌, nat_lt, nat_le, List, [], ◌∷◌, length, Bool, if◌then◌else◌, Option, Some, None}
+use Rattle.std.specs.Prelude.{ℕ, zero, suc, ◌==◌, ◌&&◌, nat_lt, nat_le, List, [], ◌∷◌, length, Bool, if◌then◌else◌, Option, Some, None}
 use Rattle.std.specs.Int.{w32, w64}
 use Rattle.doc_items.specs.Limits.{max_count}
 use Rattle.doc_items.specs.Maps.{Key}
@@ -14,7 +15,7 @@ use Rattle.doc_op.specs.Normal.{normal_form}
 use Rattle.op_codec.specs.Spelling.{spelling, limit}
 use Rattle.op_codec.specs.Reading.{Read, ◌>>=◌, number_at, key_at, list_of, operation_at}
 use Rattle.wave_base.specs.Grammar.{is_address, is_id}
-use Rattle.wave_base.specs.Versions.{IdOf, VersionAt}
+use Rattle.wave_base.specs.Versions.{IdOf}
 use Rattle.wavelet_op.specs.declared.op.WaveletOp.{WaveletOp}
 use Rattle.wavelet_op.specs.declared.op.WaveletOp.TheVariants.{NoOp, Add, Remove, Mutate, SetRole}
 use Rattle.wavelet_op.specs.declared.role.Role.{Role}
@@ -23,7 +24,6 @@ use Rattle.wavelet_op.specs.Deltas.{DeltaOf, is_count}
 use Rattle.wavelet_codec.specs.Spelling.{format}
 use Rattle.wavelet_codec.specs.Same.{same_components}
 
--- what was read, where it passes a test
 abbrev pub passing : {X : Type 0} → (X → Bool) → Read X → Read X
 passing test None = None
 passing test (Some x) = if test x.0 then Some x else None

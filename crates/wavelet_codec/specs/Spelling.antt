@@ -1,30 +1,28 @@
 -- The bytes of a delta of a history. Numbers have their highest byte first.
---     role_byte r             0 is full, 1 is read only
+--     role_byte r, roles p    0 is full, 1 is read only; an old role and a new one
 --     op_bytes o              the tag of an operation on a wavelet, and what it holds; one on a document as its normal form
 --     ops_bytes os            the number of operations as four bytes, and the bytes of each
---     has_set_role os         whether one of them sets a role
+--     sets_role o, has_set_role os     whether it, or one of them, sets a role
 --     format os               the format byte: 2 exactly where one sets a role, else 1
 --     number n                eight bytes
 --     id_bytes i              author, client and number
 --     delta_bytes d           format, id, the version at which the delta was applied, time and operations; the hash isn't among them
---     IsAddressText, IsNameText     texts in the grammar of addresses, of names of documents
 --     IsOp o                  the texts are in their grammar, and the operation on a document has a spelling
---     IsDelta d               the delta has bytes: its operations have, it has 1 to 1,000 of them, and its numbers are at most max_count
+--     AreOps os, IsId i       1 to 1,000 such operations; the author is an address, and the numbers are at most max_count
+--     IsDelta d               such an id and such operations, at a version and a time of at most max_count: the delta has bytes
 --     IsDeltaBytes bytes      they are those of a delta
 --     IsRefused bytes e       what an error says of the bytes
 --     IsSameDelta a b         equal but for the hashes
 use Rattle.std.specs.Prelude.{◌≡◌, ◌≤◌, ℕ, Bool, true, false, cond, List, [], ◌∷◌, ◌++◌, length}
 use Rattle.std.specs.List.{list_any, AllByRecursion}
 use Rattle.std.specs.Int.{w64, to_be_bytes}
-use Rattle.std.specs.Str.{IsUtf8}
 use Rattle.doc_items.specs.Limits.{max_count}
-use Rattle.doc_items.specs.Maps.{Key}
 use Rattle.op_codec.specs.Spelling.{string, listed}
 use Rattle.op_codec.specs.Canonical.{canonical, IsSpelling}
 use Rattle.op_codec.specs.declared.fault.CodecFault.{CodecFault}
 use Rattle.op_codec.specs.declared.fault.CodecFault.TheVariants.{BadBytes, Memory}
 use Rattle.wave_base.specs.Grammar.{is_address, is_id}
-use Rattle.wave_base.specs.Versions.{IdOf, VersionAt}
+use Rattle.wave_base.specs.Versions.{IdOf}
 use Rattle.wavelet_op.specs.declared.op.WaveletOp.{WaveletOp}
 use Rattle.wavelet_op.specs.declared.op.WaveletOp.TheVariants.{NoOp, Add, Remove, Mutate, SetRole}
 use Rattle.wavelet_op.specs.declared.role.Role.{Role}
@@ -76,25 +74,19 @@ delta_bytes d = format d.ops ∷ (id_bytes d.id ++ (number d.from.version ++ (nu
 
 -- ---- what has bytes
 
-abbrev pub IsAddressText : Key → Type 0
-IsAddressText k = IsUtf8 k × (is_address k ≡ true)
-
-abbrev pub IsNameText : Key → Type 0
-IsNameText k = IsUtf8 k × (is_id k ≡ true)
-
 abbrev pub IsOp : WaveletOp → Type 0
 IsOp NoOp = Unit {0}
-IsOp (Add address) = IsAddressText address
-IsOp (Remove address) = IsAddressText address
-IsOp (Mutate document op) = IsNameText document × IsSpelling op
-IsOp (SetRole address old new) = IsAddressText address
+IsOp (Add address) = is_address address ≡ true
+IsOp (Remove address) = is_address address ≡ true
+IsOp (Mutate document op) = (is_id document ≡ true) × IsSpelling op
+IsOp (SetRole address old new) = is_address address ≡ true
 
 pub record AreOps (ops : List WaveletOp) : Type 0 where
   pub count : is_count (length ops) ≡ true
   pub each : AllByRecursion IsOp ops
 
 pub record IsId (i : IdOf) : Type 0 where
-  pub author : IsAddressText i.author
+  pub author : is_address i.author ≡ true
   pub client : i.client ≤ max_count
   pub number : i.number ≤ max_count
 

@@ -73,10 +73,7 @@ fn key_at(bytes: &[u8]) -> Result<(&str, &[u8]), CodecFault>
 
 /// A text in the grammar of addresses.
 #[tactic(auto, unfolding(crate::specs::Reading::address_at))]
-pub(crate) fn address_at(
-    alloc: Global,
-    bytes: &[u8],
-) -> Result<(Address, &[u8]), CodecFault>
+pub(crate) fn address_at(alloc: Global, bytes: &[u8]) -> Result<(Address, &[u8]), CodecFault>
     ensures { Gives (λ r. (r.0, r.1.now)) result (address_at bytes.now) }
 {
     let (text, rest) = key_at(bytes)?;
@@ -90,10 +87,7 @@ pub(crate) fn address_at(
 
 /// A text in the grammar of names of documents.
 #[tactic(auto, unfolding(crate::specs::Reading::document_at))]
-pub(crate) fn document_at(
-    alloc: Global,
-    bytes: &[u8],
-) -> Result<(DocumentName, &[u8]), CodecFault>
+pub(crate) fn document_at(alloc: Global, bytes: &[u8]) -> Result<(DocumentName, &[u8]), CodecFault>
     ensures { Gives (λ r. (r.0, r.1.now)) result (document_at bytes.now) }
 {
     let (text, rest) = key_at(bytes)?;

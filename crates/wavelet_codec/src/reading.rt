@@ -58,11 +58,7 @@ fn tagged_delta_at(
 }
 
 #[tactic(auto, unfolding(crate::specs::Reading::delta_at))]
-fn delta_at(
-    alloc: Global,
-    bytes: &[u8],
-    hash: &[u8; 32],
-) -> Result<AppliedDelta, CodecFault>
+fn delta_at(alloc: Global, bytes: &[u8], hash: &[u8; 32]) -> Result<AppliedDelta, CodecFault>
     ensures { Gives (λ d. d) result (delta_at hash.now bytes.now) }
 {
     match bytes {

@@ -111,11 +111,7 @@ fn write_id(id: &DeltaId, out: &mut Vec<u8>) -> Result<(), Memory>
 /// Appends the bytes of a delta, which are fewer than 4,294,967,296. After want of memory a part of them may stand behind what
 /// was there.
 #[tactic(auto, unfolding(crate::specs::Spelling::delta_bytes))]
-pub fn write_applied(
-    alloc: Global,
-    delta: &AppliedDelta,
-    out: &mut Vec<u8>,
-) -> Result<(), Memory>
+pub fn write_applied(alloc: Global, delta: &AppliedDelta, out: &mut Vec<u8>) -> Result<(), Memory>
     requires { length (delta_bytes delta.now) < limit }
     ensures appended { OnOk result (out.new.items ≡ out.old.items ++ delta_bytes delta.now) }
     ensures is { OnOk result (IsDelta delta.now) }

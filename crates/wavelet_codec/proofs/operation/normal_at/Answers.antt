@@ -1,4 +1,4 @@
-use Rattle.std.proofs.Common.{◌≡◌, ◌∙◌, ℕ, List, Some, ap, sym, arith}
+use Rattle.std.proofs.Common.{◌∙◌, ℕ, List, Some, ap, sym, arith}
 use Rattle.std.proofs.lemmas.Result.{err_from_is_err_and}
 use Rattle.op_codec.proofs.Fields.{IsBytes}
 use Rattle.wavelet_codec.proofs.Normals.{found, refused}
