@@ -1,8 +1,8 @@
 use Rattle.std.proofs.Common.{◌≡◌, ◌+◌, ◌≤◌, ◌++◌, length, vec_capacity, reverse}
-use Rattle.doc_rope.proofs.halves.move_tail.Given as goal
+use Rattle.doc_rope.proofs.piece.move_tail.Given as goal
 
 abbrev pub invariant-loop-from : goal.invariant-loop-from
-invariant-loop-from g l = record {
+invariant-loop-from l = record {
   same : l.from.items ++ reverse l.to.items ≡ l.initial.from.items;
   at_most : l.at ≤ length l.from.items;
   lengths : length l.from.items + length l.to.items ≡ length l.initial.from.items;
@@ -11,4 +11,4 @@ invariant-loop-from g l = record {
 }
 
 abbrev pub decreases-loop-from : goal.decreases-loop-from
-decreases-loop-from g l = length l.from.items
+decreases-loop-from l = length l.from.items

@@ -1,5 +1,5 @@
 use Rattle.std.proofs.Common.{◌≡◌, ◌≤◌, ◌++◌, take, vec_capacity}
-use Rattle.doc_rope.proofs.gather.copy_items.Given as goal
+use Rattle.doc_rope.proofs.piece.copy_items.Given as goal
 
 abbrev pub invariant-loop-item : goal.invariant-loop-item
 invariant-loop-item l = record {
