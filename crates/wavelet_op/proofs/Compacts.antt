@@ -1,5 +1,5 @@
 -- The laws of `compact`.
-use Rattle.std.proofs.Common.{◌≡◌, ℕ, ◌+◌, ◌≤◌, Bool, true, false, cond, nat_le, List, [], ◌∷◌, Option, Some, None, Result, Ok, Err, refl, sym, ap, subst, ◌∙◌, arith, le_refl, option_and_then}
+use Rattle.std.proofs.Common.{◌≡◌, ◌+◌, ◌≤◌, Bool, true, false, cond, nat_le, List, [], ◌∷◌, Option, Some, None, Result, Ok, Err, refl, sym, ap, subst, ◌∙◌, arith, le_refl, option_and_then}
 use Rattle.std.specs.Result.{result_ok}
 use Rattle.doc_items.specs.Maps.{Key, same_text}
 use Rattle.doc_items.specs.declared.item.Item.{Item}
@@ -15,8 +15,8 @@ use Rattle.op_compose.proofs.Depths.{composed_structured}
 use Rattle.op_compose.proofs.Law.{composition_law}
 use Rattle.wavelet_op.specs.Acts.{Act, Idle, Adds, Removes, Sets, Mutates, inserted_act, inserted}
 use Rattle.wavelet_op.specs.States.{State, document_of, with_document, is_structured, mutate, apply_act, run}
-use Rattle.wavelet_op.specs.Compacts.{Unfit, Misfit, OverLimit, mutation, join, bounded_join, act_front, go_on, compact_by, all_compact_by, compact, bounded_compact}
-use Rattle.wavelet_op.specs.Laws.{IsCompact, CompactHolds, BoundedCompactIsExact}
+use Rattle.wavelet_op.specs.Compacts.{Unfit, OverLimit, mutation, join, bounded_join, act_front, go_on, compact_by}
+use Rattle.wavelet_op.specs.Laws.{CompactHolds, BoundedCompactIsExact}
 use Rattle.wavelet_op.proofs.Inserted.{composed_small}
 use Rattle.wavelet_op.proofs.Maps.{same_text_is}
 use Rattle.wavelet_op.proofs.Partial.{and_then_some}

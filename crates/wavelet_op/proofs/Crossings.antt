@@ -1,7 +1,7 @@
 -- What becomes of two operations, and that what is structured stays so.
 --     mutations_cross, mutations_refused       two operations on one document
 --     structured_step      of both results
-use Rattle.std.proofs.Common.{◌≡◌, ℕ, ◌<◌, ◌≤◌, Bool, true, false, cond, not, ◌||◌, nat_le, List, Option, Some, None, Result, Ok, Err, refl, sym, ap, subst, ◌∙◌, arith}
+use Rattle.std.proofs.Common.{◌≡◌, ℕ, ◌<◌, ◌≤◌, Bool, true, false, cond, not, ◌||◌, nat_le, List, Option, Some, None, Ok, Err, refl, sym, ap, subst, ◌∙◌, arith}
 use Rattle.std.specs.Option.{ok_or}
 use Rattle.std.proofs.lemmas.Bool.Decides.{nat_tests}
 use Rattle.doc_items.specs.Limits.{max_count}
@@ -11,14 +11,14 @@ use Rattle.doc_op.specs.Actions.{Action, actions}
 use Rattle.doc_op.specs.Structure.{Structured}
 use Rattle.doc_op.proofs.Applying.{no_value, same_Some, passed}
 use Rattle.op_transform.proofs.Laws.{are_structured}
-use Rattle.op_transform.specs.Results.{together, IsTransform, IsRefused}
+use Rattle.op_transform.specs.Results.{together, IsRefused}
 use Rattle.op_transform.specs.Transform.{Outcome, transform}
 use Rattle.op_transform.specs.declared.fault.TransformFault.{TransformFault}
 use Rattle.op_transform.specs.declared.fault.TransformFault.TheVariants as of_transform
 use Rattle.wavelet_op.specs.Acts.{Act, Idle, Adds, Removes, Sets, Mutates, same_role, IsStructuredAct}
 use Rattle.wavelet_op.specs.Grids.{at_index}
 use Rattle.wavelet_op.specs.Results.{fault_of, Refuses}
-use Rattle.wavelet_op.specs.Transform.{Both, Refusal, TooLarge, Clash, mutations, role_transform, role_key, by_role, is_within, act_transform, exact, bounded}
+use Rattle.wavelet_op.specs.Transform.{Both, TooLarge, Clash, mutations, role_transform, role_key, by_role, is_within, act_transform, exact, bounded}
 
 fits : (n : ℕ) → n ≤ max_count → nat_le n max_count ≡ true
 fits n h = grind (arith, nat_tests)

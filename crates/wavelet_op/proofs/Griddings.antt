@@ -1,15 +1,16 @@
 -- Operations on their way through others, one after the other.
 --     pass_structured, grid_structured      what is structured stays so
 --     IsGridding ..      what is to come, with what is done in front of it, is the whole
-use Rattle.std.proofs.Common.{◌≡◌, ℕ, zero, suc, ◌+◌, ◌<◌, ◌≤◌, List, [], ◌∷◌, ◌++◌, length, map, Option, Some, None, Result, Ok, Err, refl, sym, ap, subst, ◌∙◌, arith, append_assoc, length-append, append-nil, drop, drop-cons, add-one, get_or}
+use Rattle.std.proofs.Common.{◌≡◌, ℕ, suc, ◌+◌, ◌<◌, ◌≤◌, List, [], ◌∷◌, ◌++◌, length, Result, Ok, Err, refl, sym, ap, subst, ◌∙◌, arith, append_assoc, length-append, append-nil, drop, drop-cons, add-one, get_or}
 use Rattle.std.specs.List.{All}
+use Rattle.std.proofs.Math.ListN.{drop_of_length-le}
 use Rattle.std.proofs.lemmas.List.{length-map, map-append}
 use Rattle.std.proofs.lemmas.List.Elements.{All-cons, All-nil, All-append}
 use Rattle.wavelet_op.specs.Acts.{Act, meaning, meanings, IsStructuredAct, IsNormal, AreNormal}
 use Rattle.wavelet_op.specs.Grids.{and_next, earlier_front, later_front, at_index, pass_one, grid_by}
 use Rattle.wavelet_op.specs.Passing.{act_held, acts_held, IsSettled, later_fronts, IsPassed, IsGridded}
 use Rattle.wavelet_op.specs.Results.{Refuses, IsOpsPair}
-use Rattle.wavelet_op.specs.Transform.{Refusal, Clash, TooLarge, bounded}
+use Rattle.wavelet_op.specs.Transform.{Refusal, bounded}
 use Rattle.wavelet_op.specs.declared.fault.WaveletFault.{WaveletFault}
 use Rattle.wavelet_op.specs.declared.fault.WaveletFault.TheVariants.{OpInvalid, CountTooLarge, Conflict, DontFit, Memory}
 use Rattle.wavelet_op.specs.declared.held.Held.{Held}
@@ -168,3 +169,14 @@ lists_pair later earlier ls es passed0 passed begins h ends normal s t =
       later_structured = w.0;
       earlier_structured = w.1;
     }
+
+-- ---- the test of structure along a slice
+
+pub structured_first : (xs : List WaveletOp) (i : ℕ) (op : WaveletOp) → i < length xs → op ≡ get_or xs i op → All IsStructuredAct (meanings (drop i xs)) → IsStructuredAct (meaning op) × All IsStructuredAct (meanings (drop (i + 1) xs))
+structured_first xs i op l is h = split_first IsStructuredAct (meaning op) (meanings (drop (i + 1) xs)) (subst (All IsStructuredAct) (rest_from xs i op l is) h)
+
+pub structured_more : (xs : List WaveletOp) (i : ℕ) (op : WaveletOp) → i < length xs → op ≡ get_or xs i op → IsStructuredAct (meaning op) → All IsStructuredAct (meanings (drop (i + 1) xs)) → All IsStructuredAct (meanings (drop i xs))
+structured_more xs i op l is s h = subst (All IsStructuredAct) (sym (rest_from xs i op l is)) (All-cons IsStructuredAct (meaning op) (meanings (drop (i + 1) xs)) s h)
+
+pub structured_none : (xs : List WaveletOp) (i : ℕ) → length xs ≤ i → All IsStructuredAct (meanings (drop i xs))
+structured_none xs i h = subst (λ z. All IsStructuredAct (meanings z)) (sym (drop_of_length-le xs h)) (All-nil IsStructuredAct)

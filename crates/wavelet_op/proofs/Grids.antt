@@ -4,15 +4,15 @@
 --     run_append, inserted_append, pass_appends      lists in a row
 --     grid_refines        what a stricter step gives, a looser one gives
 --     bounded_is_exact
-use Rattle.std.proofs.Common.{◌≡◌, ℕ, zero, suc, ◌+◌, ◌≤◌, Bool, true, false, cond, List, [], ◌∷◌, ◌++◌, length, Option, Some, None, Result, Ok, Err, refl, sym, ap, subst, ◌∙◌, arith, le_refl, option_and_then}
+use Rattle.std.proofs.Common.{◌≡◌, ℕ, suc, ◌+◌, ◌≤◌, Bool, true, false, cond, List, [], ◌∷◌, ◌++◌, length, Some, Result, Ok, Err, refl, sym, ap, subst, ◌∙◌, arith, le_refl, option_and_then}
 use Rattle.std.specs.Option.{ok_or}
 use Rattle.std.specs.Result.{result_ok}
 use Rattle.doc_op.proofs.Applying.{same_Some}
 use Rattle.wavelet_op.specs.Acts.{Act, inserted_act, inserted}
 use Rattle.wavelet_op.specs.States.{State, apply_act, run}
 use Rattle.wavelet_op.specs.Transform.{Both, Refusal, Clash, TooLarge, act_transform, is_within, exact, bounded}
-use Rattle.wavelet_op.specs.Grids.{and_next, earlier_front, later_front, at_index, pass_one, grid_by, Lists, grid, bounded_grid, pass}
-use Rattle.wavelet_op.specs.Laws.{IsSquare, IsGrid, DeltaSquare, BoundedIsExact, PassAppends}
+use Rattle.wavelet_op.specs.Grids.{and_next, earlier_front, later_front, at_index, pass_one, grid_by, grid, pass}
+use Rattle.wavelet_op.specs.Laws.{DeltaSquare, BoundedIsExact, PassAppends}
 use Rattle.wavelet_op.proofs.Partial.{and_then_some, and_then_same, and_then_twice, next_ok}
 use Rattle.wavelet_op.proofs.Squares.{act_square}
 

@@ -1,5 +1,5 @@
 -- Neither the transform nor the composition inserts more items than the operations that they are of.
-use Rattle.std.proofs.Common.{◌≡◌, ℕ, zero, suc, ◌+◌, ◌≤◌, ◌&&◌, Bool, true, false, cond, List, [], ◌∷◌, ◌++◌, Ok, Err, refl, sym, ap, subst, ◌∙◌, arith}
+use Rattle.std.proofs.Common.{◌≡◌, ℕ, zero, suc, ◌+◌, ◌≤◌, ◌&&◌, Bool, cond, List, [], ◌∷◌, Ok, Err, refl, subst, arith}
 use Rattle.doc_items.specs.Balance.{level}
 use Rattle.doc_items.specs.declared.item.Item.{Item}
 use Rattle.doc_op.specs.Actions.{Action, Keep, Ins, Del}

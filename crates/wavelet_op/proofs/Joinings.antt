@@ -2,10 +2,10 @@
 --     mutations_join, mutations_unjoined      two operations on one document
 --     compact_structured                      what is structured stays so
 --     IsCompacting ..                         what is to come, with what is done in front of it, is the whole
-use Rattle.std.proofs.Common.{◌≡◌, ℕ, zero, suc, ◌+◌, ◌<◌, ◌≤◌, Bool, true, false, cond, nat_le, List, [], ◌∷◌, ◌++◌, length, map, Option, Some, None, Result, Ok, Err, refl, sym, ap, subst, ◌∙◌, arith, append_assoc, length-append, drop, drop-cons, add-one, get_or}
+use Rattle.std.proofs.Common.{◌≡◌, ℕ, ◌+◌, ◌<◌, ◌≤◌, Bool, true, false, cond, nat_le, List, [], ◌∷◌, ◌++◌, length, Option, Some, None, Result, Ok, Err, refl, sym, ap, subst, ◌∙◌, arith, append_assoc, drop, drop-cons, add-one, get_or}
 use Rattle.std.specs.List.{All}
 use Rattle.std.proofs.Math.ListN.{drop_of_length-le}
-use Rattle.std.proofs.lemmas.List.Elements.{All-cons, All-nil, All-append}
+use Rattle.std.proofs.lemmas.List.Elements.{All-cons, All-nil}
 use Rattle.std.proofs.lemmas.Bool.Decides.{nat_tests}
 use Rattle.doc_items.specs.Limits.{max_count}
 use Rattle.doc_items.specs.Maps.{Key, same_text}
@@ -18,8 +18,8 @@ use Rattle.op_compose.specs.declared.fault.ComposeFault.{ComposeFault}
 use Rattle.op_compose.specs.declared.fault.ComposeFault.TheVariants as of_compose
 use Rattle.op_compose.proofs.Depths.{composed_structured}
 use Rattle.wavelet_op.specs.Acts.{Act, Idle, Adds, Removes, Sets, Mutates, meaning, meanings, IsStructuredAct, IsNormal, AreNormal}
-use Rattle.wavelet_op.specs.Compacts.{Unfit, OverLimit, Misfit, mutation, bounded_join, act_front, go_on, compact_by, bounded_compact}
-use Rattle.wavelet_op.specs.Joining.{Unjoins, joint, act_fronts, expects, IsStep}
+use Rattle.wavelet_op.specs.Compacts.{Unfit, OverLimit, mutation, bounded_join, act_front, go_on, compact_by, bounded_compact}
+use Rattle.wavelet_op.specs.Joining.{Unjoins, act_fronts, expects, IsStep}
 use Rattle.wavelet_op.specs.Passing.{held, act_held, IsSettled}
 use Rattle.wavelet_op.specs.Results.{fault_of_compose, TellsUnfit, IsUnfit, IsCompaction}
 use Rattle.wavelet_op.specs.declared.fault.WaveletFault.{WaveletFault}

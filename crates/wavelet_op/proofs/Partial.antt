@@ -1,7 +1,7 @@
 -- Partial results, and tests.
 --     and_then_some      what a second step tells of the first
 --     next_ok, ok_some   so of results
-use Rattle.std.proofs.Common.{◌≡◌, Bool, true, false, cond, refl, sym, ap, ◌∙◌, true≢false, Option, None, Some, Result, Ok, Err, option_and_then}
+use Rattle.std.proofs.Common.{◌≡◌, Bool, true, false, refl, sym, ap, ◌∙◌, true≢false, Option, None, Some, Result, Ok, Err, option_and_then}
 use Rattle.std.specs.Result.{result_ok}
 use Rattle.doc_op.proofs.Applying.{no_value, same_Some}
 use Rattle.wavelet_op.specs.Grids.{and_next}

@@ -1,6 +1,6 @@
 -- One operation on its way through others, one step after the other.
 --     IsPassing l0 es0 n l passed rest      what is to come, with what was passed in front of it, is the whole
-use Rattle.std.proofs.Common.{◌≡◌, ℕ, ◌+◌, ◌≤◌, List, [], ◌∷◌, ◌++◌, length, map, Option, Some, None, Result, Ok, Err, refl, sym, ap, subst, ◌∙◌, arith, append_assoc, length-append, append-nil}
+use Rattle.std.proofs.Common.{◌≡◌, ℕ, ◌+◌, List, [], ◌∷◌, ◌++◌, length, Result, Ok, Err, refl, sym, ap, ◌∙◌, arith, append_assoc, length-append, append-nil}
 use Rattle.std.specs.List.{All}
 use Rattle.std.proofs.lemmas.List.Elements.{All-cons, All-nil, All-append, All-from_recursion, recursion_from_All}
 use Rattle.wavelet_op.specs.Acts.{Act, IsStructuredAct}
@@ -10,7 +10,7 @@ use Rattle.wavelet_op.specs.declared.fault.WaveletFault.{WaveletFault}
 use Rattle.wavelet_op.specs.declared.fault.WaveletFault.TheVariants.{OpInvalid, CountTooLarge, Conflict, DontFit, Memory}
 use Rattle.wavelet_op.proofs.Crossings.{structured_step}
 use Rattle.wavelet_op.specs.Passing.{act_held, acts_held, IsSettled, earlier_fronts, IsCrossed, IsPassed}
-use Rattle.wavelet_op.specs.Transform.{Refusal, Clash, TooLarge, bounded}
+use Rattle.wavelet_op.specs.Transform.{Refusal, bounded}
 use Rattle.wavelet_op.specs.declared.held.Held.{Held}
 
 pub record IsPassing (l0 : Act) (es0 : List Act) (n : ℕ) (l : Held) (passed rest : List Held) : Type 0 where

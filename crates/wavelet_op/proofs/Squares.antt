@@ -1,7 +1,7 @@
 -- The square of two acts.
 --     same_role_is, same_role_itself      the test of roles
 --     act_square          any two acts that apply at one state
-use Rattle.std.proofs.Common.{◌≡◌, ℕ, ◌≤◌, Bool, true, false, cond, List, [], ◌∷◌, Option, Some, None, unwrap_or, refl, sym, ap, subst, ◌∙◌, arith, le_refl, true≢false, option_and_then}
+use Rattle.std.proofs.Common.{◌≡◌, ◌≤◌, Bool, true, false, cond, List, [], ◌∷◌, Option, Some, None, unwrap_or, refl, sym, ap, subst, ◌∙◌, arith, le_refl, true≢false, option_and_then}
 use Rattle.doc_items.specs.Maps.{Key, same_text}
 use Rattle.doc_items.specs.declared.item.Item.{Item}
 use Rattle.doc_op.specs.Actions.{Action}
@@ -15,7 +15,7 @@ use Rattle.wavelet_op.specs.Transform.{Both, role_transform, mutations, act_tran
 use Rattle.wavelet_op.specs.Laws.{IsSquare, ActSquare}
 use Rattle.wavelet_op.proofs.Maps.{same_text_is, different, set_same, set_other, set_twice, set_apart}
 use Rattle.wavelet_op.proofs.Partial.{and_then_some}
-use Rattle.wavelet_op.proofs.Structures.{IsDocumentSquare, document_square}
+use Rattle.wavelet_op.proofs.Structures.{document_square}
 
 -- ---- roles and documents of a state
 

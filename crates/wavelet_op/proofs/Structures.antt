@@ -2,7 +2,7 @@
 --     is_structured-holds, holds-is_structured     the test
 --     valid_is_mutate        of an operation's components the definition is that of documents
 --     document_square        the square of two mutations
-use Rattle.std.proofs.Common.{◌≡◌, Bool, true, false, cond, refl, sym, ap, subst, ◌∙◌, true≢false, Option, None, Some, Ok, is_none, List, ◌≤◌}
+use Rattle.std.proofs.Common.{◌≡◌, true, false, cond, refl, sym, ap, ◌∙◌, true≢false, Option, None, Some, Ok, is_none, List, ◌≤◌}
 use Rattle.std.specs.Option.{option_map_or}
 use Rattle.std.proofs.lemmas.Bool.{and_parts, eqb-true}
 use Rattle.doc_items.specs.declared.item.Item.{Item}

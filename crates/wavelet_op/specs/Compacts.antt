@@ -5,7 +5,7 @@
 --     bounded_join a b        the same with the bound on counts
 --     compact_by join a as    the acts a ∷ as, where neighbours that join are joined
 --     compact as, bounded_compact as      without the bound on counts, and with it
-use Rattle.std.specs.Prelude.{ℕ, Bool, cond, nat_le, List, [], ◌∷◌, Option, None, Some, Result, Ok, Err}
+use Rattle.std.specs.Prelude.{ℕ, cond, nat_le, List, [], ◌∷◌, Option, None, Some, Result, Ok, Err}
 use Rattle.std.specs.Result.{result_ok}
 use Rattle.doc_items.specs.Limits.{max_count}
 use Rattle.doc_items.specs.Maps.{Key, same_text}

@@ -3,7 +3,7 @@
 --     Unjoins r f           the fault f tells why no act takes the place of two
 --     act_fronts xs r       acts in front of what the rest gives
 --     IsStep done h o ..    one operation further: either it joins the one that is held, or it is held now and that one is done
-use Rattle.std.specs.Prelude.{◌≡◌, ◌+◌, ◌≤◌, List, ◌∷◌, ◌++◌, length, Option, Some, None, Result, Ok, Err, IfSome, option_map}
+use Rattle.std.specs.Prelude.{◌≡◌, ◌+◌, ◌≤◌, List, ◌∷◌, ◌++◌, length, Option, Some, None, Result, Ok, Err, IfSome}
 use Rattle.wavelet_op.specs.Acts.{Act, meaning, meanings, IsNormal, AreNormal}
 use Rattle.wavelet_op.specs.Compacts.{Unfit, OverLimit, Misfit, bounded_join, compact_by}
 use Rattle.wavelet_op.specs.Passing.{act_held, IsSettled}

@@ -7,7 +7,7 @@
 --     IsCompact, CompactHolds what is valid at a state is compacted, leads to the same end, and inserts no more
 --     BoundedIsExact          with the bound on counts there is no other result than without it
 --     PassAppends             acts pass through lists in a row as through the first and then through the others
-use Rattle.std.specs.Prelude.{◌≡◌, ◌≤◌, List, ◌++◌, length, Option, Some, Ok, option_and_then}
+use Rattle.std.specs.Prelude.{◌≡◌, ◌≤◌, List, ◌++◌, length, Some, Ok, option_and_then}
 use Rattle.wavelet_op.specs.Acts.{Act, inserted_act, inserted}
 use Rattle.wavelet_op.specs.States.{State, apply_act, run}
 use Rattle.wavelet_op.specs.Transform.{act_transform}

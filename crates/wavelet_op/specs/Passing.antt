@@ -8,7 +8,7 @@
 --     IsPassed l es p      the results of one operation and of those that it passed through
 --     later_fronts xs r    later ones whose pass is done, in front of what the rest gives
 --     IsGridded ls es p    the results of operations and of those that they passed through
-use Rattle.std.specs.Prelude.{◌≡◌, ℕ, List, [], ◌∷◌, ◌++◌, length, map, Option, Some, None, Result, Ok, Err, IfSome, unwrap_or}
+use Rattle.std.specs.Prelude.{◌≡◌, List, ◌++◌, length, map, Option, Result, Ok, Err, IfSome, unwrap_or}
 use Rattle.std.specs.List.{All}
 use Rattle.wavelet_op.specs.Acts.{Act, meaning, meanings, IsNormal, AreNormal}
 use Rattle.wavelet_op.specs.Grids.{pass_one, grid_by}

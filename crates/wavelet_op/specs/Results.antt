@@ -11,7 +11,7 @@ use Rattle.op_compose.specs.declared.fault.ComposeFault.{ComposeFault}
 use Rattle.op_compose.specs.declared.fault.ComposeFault.TheVariants as of_compose
 use Rattle.op_transform.specs.declared.fault.TransformFault.{TransformFault}
 use Rattle.op_transform.specs.declared.fault.TransformFault.TheVariants as of_transform
-use Rattle.wavelet_op.specs.Acts.{Act, meaning, meanings, IsNormal, AreNormal, IsStructuredAct, AreStructuredActs}
+use Rattle.wavelet_op.specs.Acts.{meaning, meanings, IsNormal, AreNormal, IsStructuredAct, AreStructuredActs}
 use Rattle.wavelet_op.specs.Compacts.{Unfit, OverLimit, Misfit, bounded_compact}
 use Rattle.wavelet_op.specs.Grids.{bounded_grid}
 use Rattle.wavelet_op.specs.Transform.{Refusal, TooLarge, Clash, bounded}

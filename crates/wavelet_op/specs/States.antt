@@ -11,7 +11,7 @@
 --     apply_act s a           the state afterwards, where the act applies
 --     run s as                the state after acts in turn, where each applies
 --     first_invalid s as      how many of the acts apply in turn
-use Rattle.std.specs.Prelude.{ℕ, zero, suc, Bool, true, false, cond, List, [], ◌∷◌, Option, None, Some, unwrap_or, option_and_then}
+use Rattle.std.specs.Prelude.{ℕ, suc, Bool, false, cond, List, [], ◌∷◌, Option, None, Some, unwrap_or, option_and_then}
 use Rattle.std.specs.Option.{option_map_or}
 use Rattle.std.specs.FinMap.{get, empty}
 use Rattle.doc_items.specs.Maps.{Key, Map, set_key}

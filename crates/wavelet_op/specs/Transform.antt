@@ -5,7 +5,7 @@
 --     Refusal                 two mutations of one document are over too many items together; or no transform is defined
 --     is_within l e           mutations of one document aren't over too many items together
 --     exact l e, bounded l e  the results, or why there are none: without the bound, and with it
-use Rattle.std.specs.Prelude.{Bool, true, cond, not, ◌||◌, nat_le, List, Option, None, Some, Result, Ok, Err}
+use Rattle.std.specs.Prelude.{Bool, true, cond, not, ◌||◌, nat_le, Option, None, Some, Result, Ok, Err}
 use Rattle.std.specs.Option.{ok_or}
 use Rattle.doc_items.specs.Limits.{max_count}
 use Rattle.doc_items.specs.Maps.{Key, same_text}

@@ -1,7 +1,7 @@
 // Two operations that were made at one state, each taken past the other.
-ghost use Rattle.std.specs.Prelude.{◌≡◌, true, Some, None, MatchResult};
+ghost use Rattle.std.specs.Prelude.{◌≡◌, true, false, Some, None, MatchResult};
 ghost use Rattle.doc_items.specs.Maps.{same_text};
-ghost use Rattle.wavelet_op.specs.Acts.{meaning, Sets, Mutates, IsStructuredAct};
+ghost use Rattle.wavelet_op.specs.Acts.{meaning, Mutates, IsStructuredAct};
 ghost use Rattle.wavelet_op.specs.Grids.{at_index};
 ghost use Rattle.wavelet_op.specs.Passing.{IsCrossing};
 ghost use Rattle.wavelet_op.specs.Results.{Refuses};
@@ -73,6 +73,19 @@ pub(crate) fn cross(
     }
 }
 
+// Two operations on roles that clash on one address, and stay on two.
+fn stay_apart(index: u32, address: &Address, other: &Address) -> Result<Crossing, WaveletFault>
+    ensures { MatchResult result
+        (λ c. (same_text address.now other.now ≡ false) × (c.later ≡ None) × (c.earlier ≡ None))
+        (λ f. (same_text address.now other.now ≡ true) × (f ≡ WaveletFault.Conflict index)) }
+{
+    if address == other {
+        Err(WaveletFault::Conflict(index))
+    } else {
+        Ok(Crossing::stays())
+    }
+}
+
 #[tactic(auto, unfolding(crate::specs::Transform::bounded, crate::specs::Transform::exact, crate::specs::Transform::act_transform, crate::specs::Transform::is_within))]
 fn cross_add(index: u32, address: &Address, earlier: &WaveletOp) -> Result<Crossing, WaveletFault>
     ensures { MatchResult result
@@ -88,20 +101,8 @@ fn cross_add(index: u32, address: &Address, earlier: &WaveletOp) -> Result<Cross
                 Ok(Crossing::stays())
             }
         }
-        WaveletOp::Remove(other) => {
-            if address == other {
-                Err(WaveletFault::Conflict(index))
-            } else {
-                Ok(Crossing::stays())
-            }
-        }
-        WaveletOp::SetRole { address: other, .. } => {
-            if address == other {
-                Err(WaveletFault::Conflict(index))
-            } else {
-                Ok(Crossing::stays())
-            }
-        }
+        WaveletOp::Remove(other) => stay_apart(index, address, other),
+        WaveletOp::SetRole { address: other, .. } => stay_apart(index, address, other),
         WaveletOp::Mutate { .. } => Ok(Crossing::stays()),
     }
 }
@@ -118,13 +119,7 @@ fn cross_remove(
 {
     match earlier {
         WaveletOp::NoOp => Ok(Crossing::stays()),
-        WaveletOp::Add(other) => {
-            if address == other {
-                Err(WaveletFault::Conflict(index))
-            } else {
-                Ok(Crossing::stays())
-            }
-        }
+        WaveletOp::Add(other) => stay_apart(index, address, other),
         WaveletOp::Remove(other) => {
             if address == other {
                 Ok(Crossing::idle())
@@ -161,13 +156,7 @@ fn cross_role(
 {
     match earlier {
         WaveletOp::NoOp => Ok(Crossing::stays()),
-        WaveletOp::Add(other) => {
-            if address == other {
-                Err(WaveletFault::Conflict(index))
-            } else {
-                Ok(Crossing::stays())
-            }
-        }
+        WaveletOp::Add(other) => stay_apart(index, address, other),
         WaveletOp::Remove(other) => {
             if address == other {
                 Ok(Crossing {
@@ -183,46 +172,34 @@ fn cross_role(
             old: first,
             new: second,
         } => {
-            if address == other {
-                cross_roles(alloc, index, address, other, old, new, *first, *second)
-            } else {
+            if address != other {
                 Ok(Crossing::stays())
+            } else if old == *first {
+                follow_role(alloc, address, *second, new)
+            } else {
+                Err(WaveletFault::Conflict(index))
             }
         }
         WaveletOp::Mutate { .. } => Ok(Crossing::stays()),
     }
 }
 
-// Two roles for one address: the later one takes the place of the earlier one's, where both were made for the same role.
-#[tactic(auto, unfolding(crate::specs::Transform::bounded, crate::specs::Transform::exact, crate::specs::Transform::act_transform, crate::specs::Transform::is_within))]
-fn cross_roles(
+// The later of two roles for one address takes the place of the earlier one's.
+fn follow_role(
     alloc: Global,
-    index: u32,
     address: &Address,
-    other: &Address,
     old: Role,
     new: Role,
-    first: Role,
-    second: Role,
 ) -> Result<Crossing, WaveletFault>
-    requires { same_text address.now other.now ≡ true }
     ensures { MatchResult result
-        (λ c. IsCrossing (SetRole address.now old new) (SetRole other.now first second) c)
-        (λ f. Refuses (at_index index (bounded (Sets address.now old new) (Sets other.now first second))) f) }
+        (λ c. (c.later ≡ Some (SetRole address.now old new)) × (c.earlier ≡ Some WaveletOp.NoOp))
+        (λ f. f ≡ WaveletFault.Memory) }
 {
-    if old == first {
-        let address = address.copy(alloc)?;
-        Ok(Crossing {
-            later: Some(WaveletOp::SetRole {
-                address,
-                old: second,
-                new,
-            }),
-            earlier: Some(WaveletOp::NoOp),
-        })
-    } else {
-        Err(WaveletFault::Conflict(index))
-    }
+    let address = address.copy(alloc)?;
+    Ok(Crossing {
+        later: Some(WaveletOp::SetRole { address, old, new }),
+        earlier: Some(WaveletOp::NoOp),
+    })
 }
 
 #[tactic(auto, unfolding(crate::specs::Transform::bounded, crate::specs::Transform::exact, crate::specs::Transform::act_transform, crate::specs::Transform::is_within))]

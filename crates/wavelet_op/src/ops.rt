@@ -73,7 +73,7 @@ impl Ops {
     pub fn is_structured(&self) -> bool
         ensures { IsTrue result ↔ AreStructuredActs (meanings self.now) }
     {
-        for op in self.list.as_slice() {
+        for op in self.as_slice() {
             if !op.is_structured() {
                 return false;
             }

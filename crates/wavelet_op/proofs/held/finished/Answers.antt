@@ -1,10 +1,8 @@
-use Rattle.std.proofs.Common.{◌≡◌, ◌∷◌, ◌++◌, [], List, sym, subst, ap, ◌∙◌}
+use Rattle.std.proofs.Common.{◌≡◌, ◌∷◌, ◌++◌, [], sym, subst, ap, ◌∙◌}
 use Rattle.std.specs.List.{All}
 use Rattle.std.specs.Vec.Iter.{into_iter_items}
 use Rattle.wavelet_op.specs.Acts.{meanings, AreNormal}
 use Rattle.wavelet_op.specs.Passing.{acts_held, IsSettled}
-use Rattle.wavelet_op.specs.declared.held.Held.{Held}
-use Rattle.wavelet_op.specs.declared.op.WaveletOp.{WaveletOp}
 use Rattle.wavelet_op.proofs.Griddings.{finished_more, normal_more}
 use Rattle.wavelet_op.proofs.Passes.{split_first}
 use Rattle.wavelet_op.proofs.held.finished.Goals as goal

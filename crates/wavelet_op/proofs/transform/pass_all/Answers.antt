@@ -1,6 +1,4 @@
-use Rattle.std.proofs.Common.{length}
-use Rattle.std.proofs.lemmas.Result.{err_from_is_err_and}
-use Rattle.wavelet_op.proofs.Griddings.{gridding_here, gridding_asks, gridding_next, gridding_refused}
+use Rattle.wavelet_op.proofs.Griddings.{gridding_here, gridding_asks, gridding_next}
 use Rattle.wavelet_op.proofs.transform.pass_all.Goals as goal
 
 pub pass-requires-clause-later_structured : goal.pass-requires-clause-later_structured
