@@ -1,0 +1,9 @@
+use Rattle.std.proofs.Common.{◌≡◌, sym, ap, ◌∙◌, length, Some, None, refl}
+use Rattle.std.specs.FinMap as finite
+use Rattle.wavelet_state.proofs.Entries.{get-entries, set-entries, entries-entries}
+use Rattle.wavelet_state.proofs.documents.Documents.insert.Goals as goal
+
+pub returns-clause-ok : goal.returns-clause-ok
+returns-clause-ok c =
+    set-entries c.in_ok-name.name c.self.inside.map c.insert.new.self (Some c.args.rope) c.in_ok-_old.ensures.updates
+    ∙ (λ i. finite.insert (c.self.view_is i) (c.in_ok-name.ensures i) c.args.rope)

@@ -1,0 +1,6 @@
+//! The state of a wavelet, with its documents in pieces, and how operations and deltas apply to it.
+#![tactic(auto)]
+
+mod documents;
+mod roles;
+mod stretch;
