@@ -90,6 +90,16 @@ module _ {X : Type 0} where
   pub keys-entries : (m : BTreeMap Key X) (f : Map X) → IsStrictlySortedBy (slice_cmp nat_cmp) (keys_of m.entries) → finite.from_entries {R = slice_cmp nat_cmp} m.entries ≡ f → keys_of m.entries ≡ finite.keys f
   keys-entries m f s e = sym (ap keys_of (entries-entries m.entries s)) ∙ ap finite.keys e
 
+-- ---- a write to an entry that is there
+
+module _ {X : Type 0} where
+  pub written : (m n : BTreeMap Key X) (f : Map X) (k : Key) (w : X) → finite.from_entries {R = slice_cmp nat_cmp} m.entries ≡ f → IsSome (finite.get f k)
+      → (IsSome (tree.get (slice_cmp nat_cmp) m k) → tree.Updates (slice_cmp nat_cmp) m n k (Some w)) → finite.from_entries {R = slice_cmp nat_cmp} n.entries ≡ set_key f k (Some w)
+  written m n f k w e h u = set-entries k m n (Some w) (u (has-entry m f k e h)) ∙ ap (λ x. finite.insert x k w) e
+
+  pub lent : (m : BTreeMap Key X) (f : Map X) (k : Key) (x : X) → finite.from_entries {R = slice_cmp nat_cmp} m.entries ≡ f → Some x ≡ tree.get (slice_cmp nat_cmp) m k → finite.get f k ≡ Some x
+  lent m f k x e g = sym (ap (λ n. finite.get n k) e) ∙ get-entries m k ∙ sym g
+
 -- ---- a walk to a place
 
 pub at_first : (left rest : List Key) (k : Key) (n : ℕ) (g : Option Key) → slice_get left n ≡ g → left ≡ k ∷ rest → n ≡ 0 → Some k ≡ g

@@ -2,16 +2,23 @@
 --     changed m a r          the map with this at a key, where there is something to be there
 --     on_roles m a           the roles afterwards, where the act applies to them
 --     document m d           the items of a document; one that isn't there is empty
+--     is_empty_there o       a document is there and has no items
 --     IsTrimAt m q, IsTrim m    a document, each document that is there isn't empty
 --     trimmed m              the documents that aren't empty
 --     AreBalanced m          each document is balanced
+--     IsEdit cs d m n        n is m with what the components make of a document, which is there also where it is empty
+--     put_back, IsBack       what takes an edit back
 --     on_documents m a       the documents afterwards, where the act applies to them
-use Rattle.std.specs.Prelude.{◌≡◌, List, [], Option, None, Some, unwrap_or}
+use Rattle.std.specs.Prelude.{◌≡◌, ◌+◌, ◌≤◌, length, IfSome, Bool, true, false, List, [], ◌∷◌, Option, None, Some, unwrap_or}
 use Rattle.std.specs.FinMap.{get, keys}
 use Rattle.std.specs.Option.{option_map}
 use Rattle.doc_items.specs.Maps.{Key, Map, set_key, tabulate}
 use Rattle.doc_items.specs.Balance.{Balanced}
 use Rattle.doc_items.specs.declared.item.Item.{Item}
+use Rattle.doc_op.specs.Apply.{valid}
+use Rattle.doc_op.specs.declared.component.Component.{Component}
+use Rattle.doc_rope.specs.Replacements.{replaced}
+use Rattle.doc_rope.specs.declared.replacement.Replacement.{Replacement}
 use Rattle.wavelet_op.specs.Acts.{Act, Idle, Adds, Removes, Sets, Mutates}
 use Rattle.wavelet_op.specs.States.{added, removed, role_set, kept, mutate}
 use Rattle.wavelet_op.specs.declared.role.Role.{Role}
@@ -29,6 +36,11 @@ on_roles m (Mutates d acts) = Some m
 abbrev pub document : Map (List Item) → Key → List Item
 document m d = unwrap_or (get m d) []
 
+abbrev pub is_empty_there : Option (List Item) → Bool
+is_empty_there None = false
+is_empty_there (Some []) = true
+is_empty_there (Some (i ∷ items)) = false
+
 abbrev pub IsTrimAt : Map (List Item) → Key → Type 0
 IsTrimAt m q = get m q ≡ kept (document m q)
 
@@ -40,6 +52,19 @@ trimmed m = tabulate (keys m) (λ k. kept (document m k))
 
 abbrev pub AreBalanced : Map (List Item) → Type 0
 AreBalanced m = (q : Key) → Balanced (document m q)
+
+pub record IsEdit (cs : List Component) (d : Key) (m n : Map (List Item)) : Type 0 where
+  pub value : valid cs (document m d) ≡ Some (document n d)
+  pub is : n ≡ set_key m d (Some (document n d))
+
+-- what puts a document back: it wasn't there, or a stretch of it was replaced
+abbrev pub put_back : Option Replacement → List Item → Option (List Item)
+put_back None items = None
+put_back (Some r) items = Some (replaced r items)
+
+pub record IsBack (back : Option Replacement) (d : Key) (m n : Map (List Item)) : Type 0 where
+  pub is : put_back back (document n d) ≡ get m d
+  pub inside : IfSome back (λ r. r.from + r.count ≤ length (document n d))
 
 abbrev pub on_documents : Map (List Item) → Act → Option (Map (List Item))
 on_documents m Idle = Some m

@@ -3,11 +3,14 @@ ghost use Rattle.std.specs.Prelude.{◌≡◌, ◌≢◌, ◌+◌, ◌≤◌, Li
 ghost use Rattle.std.specs.Option.{option_copied};
 ghost use Rattle.std.specs.FinMap as finite;
 ghost use Rattle.doc_items.specs.Balance.{Balanced};
+ghost use Rattle.doc_items.specs.Limits.{max_count};
 ghost use Rattle.doc_items.specs.Maps.{set_key};
 ghost use Rattle.doc_op.specs.Apply.{valid};
+ghost use Rattle.doc_rope.specs.Replacements.{replaced};
 ghost use Rattle.op_validity.specs.declared.fault.CheckFault.TheVariants as of_check;
 ghost use Rattle.wavelet_op.specs.States.{kept};
-ghost use Rattle.wavelet_state.specs.Parts.{document};
+ghost use Rattle.wavelet_state.specs.Parts.{document, is_empty_there, put_back, IsEdit, IsBack};
+ghost use Rattle.wavelet_state.specs.Stretches.{Restores};
 
 use crate::stretch::edit;
 use doc_items::Memory;
@@ -97,7 +100,7 @@ impl Documents {
 
     fn insert(&mut self, alloc: Global, name: &DocumentName, rope: Rope) -> Result<(), Memory>
         requires { Balanced rope }
-        ensures ok { OnOk result (self.new ≡ finite.insert self.old name.now rope.entry) }
+        ensures ok { OnOk result (self.new ≡ finite.insert self.old name.now rope) }
         ensures err { OnErr result (self.new ≡ self.old) }
     {
         let name = name.copy(alloc)?;
@@ -120,9 +123,126 @@ impl Documents {
         }
     }
 
+    /// Applies the operation to the document, which is empty where it isn't there. It is there afterwards, also where it became
+    /// empty. Refusals, `Memory` included, leave all as it was.
+    pub fn edit(
+        &mut self,
+        alloc: Global,
+        name: &DocumentName,
+        op: &DocOp,
+    ) -> Result<(), CheckFault>
+        ensures ok { OnOk result (IsEdit op.now name.now self.old self.new) }
+        ensures invalid { IfErr result (λ e. e ≢ of_check.Memory → valid op.now (document self.old name.now) ≡ None) }
+        ensures kept { OnErr result (self.new ≡ self.old) }
+    {
+        if self.map.contains_key(name) {
+            self.change(alloc, name, op)
+        } else {
+            self.begin(alloc, name, op)
+        }
+    }
+
+    /// Applies the operation as `edit` does, and gives what takes it back.
+    pub fn try_edit(
+        &mut self,
+        alloc: Global,
+        name: &DocumentName,
+        op: &DocOp,
+    ) -> Result<Option<Replacement>, CheckFault>
+        ensures ok { OnOk result (IsEdit op.now name.now self.old self.new) }
+        ensures back { IfOk result (λ back. IsBack back name.now self.old self.new) }
+        ensures invalid { IfErr result (λ e. e ≢ of_check.Memory → valid op.now (document self.old name.now) ≡ None) }
+        ensures kept { OnErr result (self.new ≡ self.old) }
+    {
+        if self.map.contains_key(name) {
+            let back = self.try_change(alloc, name, op)?;
+            Ok(Some(back))
+        } else {
+            self.begin(alloc, name, op)?;
+            Ok(None)
+        }
+    }
+
+    // Applies the operation to a document that is there.
+    fn change(
+        &mut self,
+        alloc: Global,
+        name: &DocumentName,
+        op: &DocOp,
+    ) -> Result<(), CheckFault>
+        requires { IsSome (finite.get self.old name.now) }
+        ensures ok { OnOk result (IsEdit op.now name.now self.old self.new) }
+        ensures invalid { IfErr result (λ e. e ≢ of_check.Memory → valid op.now (document self.old name.now) ≡ None) }
+        ensures kept { OnErr result (self.new ≡ self.old) }
+    {
+        let Some(rope) = self.map.get_mut(name) else {
+            return Ok(());
+        };
+        apply_rope(alloc, op, rope)
+    }
+
+    // Applies the operation to a document that is there, and gives what takes it back.
+    fn try_change(
+        &mut self,
+        alloc: Global,
+        name: &DocumentName,
+        op: &DocOp,
+    ) -> Result<Replacement, CheckFault>
+        requires { IsSome (finite.get self.old name.now) }
+        ensures ok { OnOk result (IsEdit op.now name.now self.old self.new) }
+        ensures back { IfOk result (λ back. Restores back (document self.new name.now) (document self.old name.now)) }
+        ensures invalid { IfErr result (λ e. e ≢ of_check.Memory → valid op.now (document self.old name.now) ≡ None) }
+        ensures kept { OnErr result (self.new ≡ self.old) }
+    {
+        let Some(rope) = self.map.get_mut(name) else {
+            return Err(CheckFault::Memory);
+        };
+        edit(alloc, op, rope)
+    }
+
+    // Applies the operation to a document that isn't there.
+    fn begin(&mut self, alloc: Global, name: &DocumentName, op: &DocOp) -> Result<(), CheckFault>
+        requires { finite.get self.old name.now ≡ None }
+        ensures ok { OnOk result (IsEdit op.now name.now self.old self.new) }
+        ensures invalid { IfErr result (λ e. e ≢ of_check.Memory → valid op.now (document self.old name.now) ≡ None) }
+        ensures kept { OnErr result (self.new ≡ self.old) }
+    {
+        let mut rope = Rope::new(alloc);
+        apply_rope(alloc, op, &mut rope)?;
+        self.insert(alloc, name, rope)?;
+        Ok(())
+    }
+
+    /// Takes an edit back.
+    pub fn take_back(&mut self, name: &DocumentName, back: Option<Replacement>)
+        requires there { IfSome back (λ r. IsSome (finite.get self.old name.now)) }
+        requires inside { IfSome back (λ r. r.from + r.count ≤ length (document self.old name.now)) }
+        requires balanced { IfSome back (λ r. Balanced (replaced r (document self.old name.now))) }
+        requires bound { IfSome back (λ r. length (replaced r (document self.old name.now)) ≤ max_count) }
+        ensures { self.new ≡ set_key self.old name.now (put_back back (document self.old name.now)) }
+    {
+        match back {
+            Some(replacement) => self.put(name, replacement),
+            None => self.remove(name),
+        }
+    }
+
+    fn put(&mut self, name: &DocumentName, back: Replacement)
+        requires there { IsSome (finite.get self.old name.now) }
+        requires inside { back.from + back.count ≤ length (document self.old name.now) }
+        requires balanced { Balanced (replaced back (document self.old name.now)) }
+        requires bound { length (replaced back (document self.old name.now)) ≤ max_count }
+        ensures { self.new ≡ set_key self.old name.now (Some (replaced back (document self.old name.now))) }
+    {
+        let Some(rope) = self.map.get_mut(name) else {
+            return;
+        };
+        rope.put(back.from, back.count, back.items);
+    }
+
     // Whether the document is there, and empty.
     fn is_empty(&self, name: &DocumentName) -> bool
-        ensures { IsTrue result ↔ (finite.get self.now name.now ≡ Some []) }
+        ensures { result ≡ is_empty_there (finite.get self.now name.now) }
     {
         match self.map.get(name) {
             Some(rope) => rope.len() == 0,

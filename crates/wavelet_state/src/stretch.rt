@@ -21,16 +21,14 @@ pub(crate) fn edit(alloc: Global, op: &DocOp, rope: &mut Rope) -> Result<Replace
     ensures balance { OnOk result (Balanced rope.old → Balanced rope.new) }
 {
     let edits = edits_of(alloc, op, rope)?;
-    let from = start(edits.as_slice());
-    let count = end(edits.as_slice()) - from;
     let before = rope.len();
-    let items = copied(alloc, rope, from, count)?;
+    let list = edits.as_slice();
+    let from = start(list);
+    let stretch = end(list) - from;
+    let items = copied(alloc, rope, from, stretch)?;
     rope.put_all(edits);
-    Ok(Replacement {
-        from,
-        count: rope.len() + count - before,
-        items,
-    })
+    let count = rope.len() + stretch - before;
+    Ok(Replacement { from, count, items })
 }
 
 // The place where the first replacement begins.
@@ -68,7 +66,7 @@ fn copied(alloc: Global, rope: &Rope, from: u64, count: u64) -> Result<Insertion
 // Copies of the next `count` items, of which there are so many.
 fn next_items(alloc: Global, reader: Reader<'_>, count: u64) -> Result<Vec<Item>, Memory>
     requires { count ≤ length reader }
-    ensures { IfOk result (λ v. v.items ≡ take count reader) }
+    ensures { IfOk result (λ v. v.items ≡ take count reader.entry) }
 {
     let mut reader = reader;
     let mut items = Vec::with_capacity(alloc, count as usize)?;
