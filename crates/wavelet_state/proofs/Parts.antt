@@ -2,7 +2,7 @@
 --     get-set                    a look-up behind a change
 --     document-set               a document behind a change
 --     balanced_set, balanced_removed, balanced_none    whether each is balanced, behind a change
-use Rattle.std.proofs.Common.{◌≡◌, Bool, true, false, cond, List, [], ◌∷◌, refl, sym, ap, subst, ◌∙◌, Option, None, Some, unwrap_or, true≢false, IfSome, IsSome, Bor, Result, Ok, Err, OnOk, OnErr, ℕ, length, ◌==◌, suc, arith}
+use Rattle.std.proofs.Common.{◌≡◌, ◌≢◌, Bool, true, false, cond, List, [], ◌∷◌, refl, sym, ap, subst, ◌∙◌, Option, None, Some, unwrap_or, true≢false, IfSome, IsSome, is_some, IfOk, Bor, Result, Ok, Err, OnOk, OnErr, ℕ, length, ◌==◌, suc, arith}
 use Rattle.std.specs.Option.{option_map, option_copied}
 use Rattle.std.specs.Ordering.{nat_cmp}
 use Rattle.std.proofs.lemmas.Bool.{ne_eqb}
@@ -16,9 +16,15 @@ use Rattle.doc_items.proofs.Maps.{tie, tied, alike, get-tabulate, has}
 use Rattle.doc_op.specs.Apply.{valid}
 use Rattle.doc_op.specs.declared.component.Component.{Component}
 use Rattle.doc_rope.specs.declared.replacement.Replacement.{Replacement}
-use Rattle.wavelet_op.proofs.Maps.{set_same}
+use Rattle.doc_op.specs.Actions.{actions}
+use Rattle.op_validity.specs.declared.fault.CheckFault.{CheckFault}
+use Rattle.op_validity.specs.declared.fault.CheckFault.TheVariants.{NotStructured, Mismatch, WrongLength, Memory as OutOfMemory}
+use Rattle.wavelet_op.specs.Acts.{Act, Idle, Adds, Removes, Sets, Mutates}
+use Rattle.wavelet_op.specs.declared.fault.WaveletFault.{WaveletFault}
+use Rattle.wavelet_op.proofs.Maps.{set_same, set_twice}
+use Rattle.wavelet_op.proofs.Structures.{valid_is_mutate}
 use Rattle.wavelet_op.specs.States.{kept}
-use Rattle.wavelet_state.specs.Parts.{document, IsTrimAt, IsTrim, trimmed, AreBalanced, is_empty_there, IsEdit, IsBack}
+use Rattle.wavelet_state.specs.Parts.{document, IsTrimAt, IsTrim, trimmed, AreBalanced, is_empty_there, IsEdit, IsBack, IsStepFault, step_fault, on_documents, on_roles}
 use Rattle.wavelet_state.specs.Stretches.{Restores}
 
 module _ {X : Type 0} where
@@ -118,3 +124,33 @@ there_is m d h = there_in (get m d) h
 
 pub back_at : (m n : Map (List Item)) (d : Key) (r : Replacement) → IsSome (get m d) → Restores r (document n d) (document m d) → IsBack (Some r) d m n
 back_at m n d r h b = record { is = ap Some b.is ∙ there_is m d h; inside = b.inside }
+
+pub none_there : (o : Option (List Item)) → is_some o ≡ false → o ≡ None
+none_there None e = refl
+none_there (Some l) e = absurd (true≢false e)
+
+pub document_set : (m n : Map (List Item)) (d : Key) (items : List Item) → n ≡ set_key m d (Some items) → document n d ≡ items
+document_set m n d items e = ap (λ k. document k d) e ∙ ap (λ (o : Option (List Item)). unwrap_or o []) (set_same m d (Some items))
+
+pub restores_as : {E : Type 0} (r : Result Replacement E) (a a' b b' : List Item) → a ≡ a' → b ≡ b' → IfOk r (λ back. Restores back a b) → IfOk r (λ back. Restores back a' b')
+restores_as (Ok back) a a' b b' e f h = subst (λ (l : List Item). Restores back l b') e (subst (λ (l : List Item). Restores back a l) f h)
+restores_as (Err x) a a' b b' e f h = tt
+
+-- ---- acts on documents
+
+pub mutated : (cs : List Component) (d : Key) (m mid n : Map (List Item)) → IsEdit cs d m mid → n ≡ set_key mid d (kept (document mid d)) → on_documents m (Mutates d (actions cs)) ≡ Some n
+mutated cs d m mid n e t =
+    ap (option_map (λ items. set_key m d (kept items))) (sym (valid_is_mutate cs (document m d)) ∙ e.value)
+    ∙ ap Some (sym (t ∙ ap (λ k. set_key k d (kept (document mid d))) e.is ∙ set_twice m d (Some (document mid d)) (kept (document mid d))))
+
+invalid_mutation : (cs : List Component) (d : Key) (m : Map (List Item)) → valid cs (document m d) ≡ None → on_documents m (Mutates d (actions cs)) ≡ None
+invalid_mutation cs d m v = ap (option_map (λ items. set_key m d (kept items))) (sym (valid_is_mutate cs (document m d)) ∙ v)
+
+not_valid : (cs : List Component) (d : Key) (m : Map (List Item)) (f : CheckFault) (k : ℕ) → (f ≢ OutOfMemory → valid cs (document m d) ≡ None) → IsStepFault k (on_documents m (Mutates d (actions cs))) (step_fault f k)
+not_valid cs d m (NotStructured p) k h = (refl, invalid_mutation cs d m (h (λ e. absurd (cc))))
+not_valid cs d m (Mismatch p) k h = (refl, invalid_mutation cs d m (h (λ e. absurd (cc))))
+not_valid cs d m WrongLength k h = (refl, invalid_mutation cs d m (h (λ e. absurd (cc))))
+not_valid cs d m OutOfMemory k h = tt
+
+pub not_mutated : (cs : List Component) (d : Key) (m : Map (List Item)) (f : CheckFault) (k : ℕ) (g : WaveletFault) → g ≡ step_fault f k → (f ≢ OutOfMemory → valid cs (document m d) ≡ None) → IsStepFault k (on_documents m (Mutates d (actions cs))) g
+not_mutated cs d m f k g e h = subst (λ (x : WaveletFault). IsStepFault k (on_documents m (Mutates d (actions cs))) x) (sym e) (not_valid cs d m f k h)

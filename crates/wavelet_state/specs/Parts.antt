@@ -8,8 +8,10 @@
 --     AreBalanced m          each document is balanced
 --     IsEdit cs d m n        n is m with what the components make of a document, which is there also where it is empty
 --     put_back, IsBack       what takes an edit back
+--     step_fault f k         the fault of a document as that of the operation of an index
+--     IsStepFault k o f      the act of an index doesn't apply
 --     on_documents m a       the documents afterwards, where the act applies to them
-use Rattle.std.specs.Prelude.{◌≡◌, ◌+◌, ◌≤◌, length, IfSome, Bool, true, false, List, [], ◌∷◌, Option, None, Some, unwrap_or}
+use Rattle.std.specs.Prelude.{◌≡◌, ℕ, ◌+◌, ◌≤◌, length, IfSome, Bool, true, false, List, [], ◌∷◌, Option, None, Some, unwrap_or}
 use Rattle.std.specs.FinMap.{get, keys}
 use Rattle.std.specs.Option.{option_map}
 use Rattle.doc_items.specs.Maps.{Key, Map, set_key, tabulate}
@@ -19,6 +21,10 @@ use Rattle.doc_op.specs.Apply.{valid}
 use Rattle.doc_op.specs.declared.component.Component.{Component}
 use Rattle.doc_rope.specs.Replacements.{replaced}
 use Rattle.doc_rope.specs.declared.replacement.Replacement.{Replacement}
+use Rattle.op_validity.specs.declared.fault.CheckFault.{CheckFault}
+use Rattle.op_validity.specs.declared.fault.CheckFault.TheVariants.{NotStructured, Mismatch, WrongLength, Memory as OutOfMemory}
+use Rattle.wavelet_op.specs.declared.fault.WaveletFault.{WaveletFault}
+use Rattle.wavelet_op.specs.declared.fault.WaveletFault.TheVariants.{OpInvalid, CountTooLarge, Conflict, DontFit, Memory}
 use Rattle.wavelet_op.specs.Acts.{Act, Idle, Adds, Removes, Sets, Mutates}
 use Rattle.wavelet_op.specs.States.{added, removed, role_set, kept, mutate}
 use Rattle.wavelet_op.specs.declared.role.Role.{Role}
@@ -72,3 +78,16 @@ on_documents m (Adds a) = Some m
 on_documents m (Removes a) = Some m
 on_documents m (Sets a old new) = Some m
 on_documents m (Mutates d acts) = option_map (λ items. set_key m d (kept items)) (mutate acts (document m d))
+
+abbrev pub step_fault : CheckFault → ℕ → WaveletFault
+step_fault (NotStructured place) k = OpInvalid k
+step_fault (Mismatch place) k = OpInvalid k
+step_fault WrongLength k = OpInvalid k
+step_fault OutOfMemory k = Memory
+
+abbrev pub IsStepFault : {X : Type 0} → ℕ → Option X → WaveletFault → Type 0
+IsStepFault k o (OpInvalid j) = (j ≡ k) × (o ≡ None)
+IsStepFault k o CountTooLarge = ⊥
+IsStepFault k o (Conflict j) = ⊥
+IsStepFault k o (DontFit place) = ⊥
+IsStepFault k o Memory = Unit {0}

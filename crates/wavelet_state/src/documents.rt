@@ -8,10 +8,13 @@ ghost use Rattle.doc_items.specs.Maps.{set_key};
 ghost use Rattle.doc_op.specs.Apply.{valid};
 ghost use Rattle.doc_rope.specs.Replacements.{replaced};
 ghost use Rattle.op_validity.specs.declared.fault.CheckFault.TheVariants as of_check;
+ghost use Rattle.doc_op.specs.Actions.{actions};
+ghost use Rattle.wavelet_op.specs.Acts.{Mutates};
 ghost use Rattle.wavelet_op.specs.States.{kept};
-ghost use Rattle.wavelet_state.specs.Parts.{document, is_empty_there, put_back, IsEdit, IsBack};
+ghost use Rattle.wavelet_state.specs.Parts.{document, is_empty_there, put_back, on_documents, IsEdit, IsBack, IsStepFault};
 ghost use Rattle.wavelet_state.specs.Stretches.{Restores};
 
+use crate::fault::fault_at;
 use crate::stretch::edit;
 use doc_items::Memory;
 use doc_op::DocOp;
@@ -21,6 +24,7 @@ use std::alloc::Global;
 use std::collections::BTreeMap;
 use std::marker::Model;
 use wave_base::DocumentName;
+use wavelet_op::WaveletFault;
 
 /// Documents in pieces by their names, in byte order of the names. Each is balanced; one may be empty.
 #[derive(Drop)]
@@ -69,6 +73,13 @@ impl Documents {
         ensures balanced { IfSome result (λ r. Balanced r.now) }
     {
         self.map.get(name)
+    }
+
+    // Whether the document is there.
+    fn has(&self, name: &DocumentName) -> bool
+        ensures { result ≡ is_some (finite.get self.now name.now) }
+    {
+        self.map.contains_key(name)
     }
 
     /// The name at a place in byte order; None exactly where the place isn't below the number of documents.
@@ -135,7 +146,7 @@ impl Documents {
         ensures invalid { IfErr result (λ e. e ≢ of_check.Memory → valid op.now (document self.old name.now) ≡ None) }
         ensures kept { OnErr result (self.new ≡ self.old) }
     {
-        if self.map.contains_key(name) {
+        if self.has(name) {
             self.change(alloc, name, op)
         } else {
             self.begin(alloc, name, op)
@@ -154,7 +165,7 @@ impl Documents {
         ensures invalid { IfErr result (λ e. e ≢ of_check.Memory → valid op.now (document self.old name.now) ≡ None) }
         ensures kept { OnErr result (self.new ≡ self.old) }
     {
-        if self.map.contains_key(name) {
+        if self.has(name) {
             let back = self.try_change(alloc, name, op)?;
             Ok(Some(back))
         } else {
@@ -238,6 +249,27 @@ impl Documents {
             return;
         };
         rope.put(back.from, back.count, back.items);
+    }
+
+    /// Applies the operation to the document; one that becomes empty is taken away. Refusals: `OpInvalid` with this index.
+    pub fn mutate(
+        &mut self,
+        alloc: Global,
+        name: &DocumentName,
+        op: &DocOp,
+        index: u32,
+    ) -> Result<(), WaveletFault>
+        ensures ok { OnOk result (on_documents self.old (Mutates name.now (actions op.now)) ≡ Some self.new) }
+        ensures refused { IfErr result (IsStepFault index (on_documents self.old (Mutates name.now (actions op.now)))) }
+        ensures kept { OnErr result (self.new ≡ self.old) }
+    {
+        match self.edit(alloc, name, op) {
+            Ok(()) => {
+                self.trim(name);
+                Ok(())
+            }
+            Err(fault) => Err(fault_at(fault, index)),
+        }
     }
 
     // Whether the document is there, and empty.

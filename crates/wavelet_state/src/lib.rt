@@ -2,5 +2,7 @@
 #![tactic(auto)]
 
 mod documents;
+mod draft;
+mod fault;
 mod roles;
 mod stretch;

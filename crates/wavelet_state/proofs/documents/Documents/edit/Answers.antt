@@ -9,11 +9,8 @@ use Rattle.doc_rope.specs.Replacements.{replaced}
 use Rattle.doc_rope.proofs.Replaced.{length_replaced}
 use Rattle.wavelet_state.specs.Parts.{document, AreBalanced}
 use Rattle.wavelet_state.proofs.Entries.{get-entries, written, lent, absent}
-use Rattle.wavelet_state.proofs.Parts.{balanced_set, is_edit, document_there, there_is, back_at, back_none}
+use Rattle.wavelet_state.proofs.Parts.{balanced_set, is_edit, document_there, there_is, back_at, back_none, none_there}
 use Rattle.wavelet_state.proofs.documents.Documents.edit.Goals as goal
 
-pub change-requires : goal.change-requires
-change-requires c = ?
-
 pub begin-requires : goal.begin-requires
-begin-requires c = ?
+begin-requires c = none_there (finite.get c.args.self.now c.args.name.now) (sym c.has.ensures ∙ c.if-has.false)

@@ -27,7 +27,12 @@ pub invariant_of-self : goal.invariant_of-self
 invariant_of-self c = absurd (absent c.self.inside.map c.args.self.now c.args.name.now c.self.view_is c.requires.there (sym c.get_mut.ensures.value ∙ ap option_copied_mut c.in_default.is))
 
 pub invariant_of-self-2 : goal.invariant_of-self-2
-invariant_of-self-2 c = ?
+invariant_of-self-2 c =
+    let n = c.get_mut.follows.lender c.put.new.self in
+    let same = document_there c.args.self.now c.args.name.now c.in-Some.rope.now (lent c.self.inside.map c.args.self.now c.args.name.now c.in-Some.rope.now c.self.view_is c.in-Some.ensures.value) in
+    let all = subst (λ (m : Map (List Item)). AreBalanced m) c.self.view_is c.self.invariant in
+    subst (λ (m : Map (List Item)). AreBalanced m) (sym (written c.self.inside.map n c.args.self.now c.args.name.now c.put.new.self c.self.view_is c.requires.there (c.get_mut.follows.holds c.put.new.self).3))
+    (balanced_set c.args.self.now c.args.name.now (Some c.put.new.self) all (subst (λ (l : List Item). Balanced l) (sym (c.put.ensures ∙ ap (replaced c.args.back) (sym same))) c.requires.balanced))
 
 pub returns : goal.returns
 returns c =

@@ -9,7 +9,7 @@ use Rattle.op_validity.specs.declared.fault.CheckFault.TheVariants as of_check
 use Rattle.wavelet_state.specs.Parts.{document, AreBalanced}
 use Rattle.wavelet_state.specs.Stretches.{Restores}
 use Rattle.wavelet_state.proofs.Entries.{get-entries, written, lent, absent}
-use Rattle.wavelet_state.proofs.Parts.{balanced_set, is_edit, document_there, stays_balanced, ok_to, err_to, rewritten}
+use Rattle.wavelet_state.proofs.Parts.{balanced_set, is_edit, document_there, stays_balanced, ok_to, err_to, rewritten, document_set, restores_as}
 use Rattle.wavelet_state.proofs.documents.Documents.try_change.Goals as goal
 
 pub invariant_of-self : goal.invariant_of-self
@@ -53,4 +53,10 @@ pub returns-in_default-clause-kept : goal.returns-in_default-clause-kept
 returns-in_default-clause-kept c = absurd (absent c.self.inside.map c.args.self.now c.args.name.now c.self.view_is c.requires (sym c.get_mut.ensures.value ∙ ap option_copied_mut c.in_default.is))
 
 pub returns-clause-back : goal.returns-clause-back
-returns-clause-back c = ?
+returns-clause-back c =
+    let n = c.get_mut.follows.lender c.edit.new.rope in
+    let there = lent c.self.inside.map c.args.self.now c.args.name.now c.in-Some.rope.now c.self.view_is c.in-Some.ensures.value in
+    let w = written c.self.inside.map n c.args.self.now c.args.name.now c.edit.new.rope c.self.view_is c.requires (c.get_mut.follows.holds c.edit.new.rope).3 in
+    let after = document_set c.args.self.now (finite.from_entries n.entries) c.args.name.now c.edit.new.rope w in
+    let before = document_there c.args.self.now c.args.name.now c.in-Some.rope.now there in
+    restores_as c.edit.result c.edit.new.rope (document (finite.from_entries n.entries) c.args.name.now) c.in-Some.rope.now (document c.args.self.now c.args.name.now) (sym after) (sym before) c.edit.ensures.back
