@@ -2,7 +2,7 @@
 --     get-set                    a look-up behind a change
 --     document-set               a document behind a change
 --     balanced_set, balanced_removed, balanced_none    whether each is balanced, behind a change
-use Rattle.std.proofs.Common.{◌≡◌, ◌≢◌, Bool, true, false, cond, List, [], ◌∷◌, refl, sym, ap, subst, ◌∙◌, Option, None, Some, unwrap_or, true≢false, IfSome, IsSome, is_some, IfOk, Bor, Result, Ok, Err, OnOk, OnErr, ℕ, length, ◌==◌, suc, arith}
+use Rattle.std.proofs.Common.{◌≡◌, ◌≢◌, ◌+◌, ◌≤◌, Bool, true, false, cond, List, [], ◌∷◌, refl, sym, ap, subst, ◌∙◌, Option, None, Some, unwrap_or, true≢false, IfSome, IsSome, is_some, IfOk, Bor, Result, Ok, Err, OnOk, OnErr, ℕ, length, ◌==◌, suc, arith}
 use Rattle.std.specs.Option.{option_map, option_copied}
 use Rattle.std.specs.Ordering.{nat_cmp}
 use Rattle.std.proofs.lemmas.Bool.{ne_eqb}
@@ -10,11 +10,13 @@ use Rattle.std.specs.Cmp.Lexicographic.{slice_cmp}
 use Rattle.std.proofs.lemmas.Cmp.{nat_list_cmp_total}
 use Rattle.std.specs.FinMap.{get, empty, keys, get-insert, get-remove, get-empty, contains_key-keys}
 use Rattle.doc_items.specs.Balance.{Balanced}
+use Rattle.doc_items.specs.Limits.{max_count}
 use Rattle.doc_items.specs.Maps.{Key, Map, set_key}
 use Rattle.doc_items.specs.declared.item.Item.{Item}
 use Rattle.doc_items.proofs.Maps.{tie, tied, alike, get-tabulate, has}
 use Rattle.doc_op.specs.Apply.{valid}
 use Rattle.doc_op.specs.declared.component.Component.{Component}
+use Rattle.doc_rope.specs.Replacements.{replaced}
 use Rattle.doc_rope.specs.declared.replacement.Replacement.{Replacement}
 use Rattle.doc_op.specs.Actions.{actions}
 use Rattle.op_validity.specs.declared.fault.CheckFault.{CheckFault}
@@ -122,9 +124,6 @@ there_in (Some l) h = refl
 pub there_is : (m : Map (List Item)) (d : Key) → IsSome (get m d) → Some (document m d) ≡ get m d
 there_is m d h = there_in (get m d) h
 
-pub back_at : (m n : Map (List Item)) (d : Key) (r : Replacement) → IsSome (get m d) → Restores r (document n d) (document m d) → IsBack (Some r) d m n
-back_at m n d r h b = record { is = ap Some b.is ∙ there_is m d h; inside = b.inside }
-
 pub none_there : (o : Option (List Item)) → is_some o ≡ false → o ≡ None
 none_there None e = refl
 none_there (Some l) e = absurd (true≢false e)
@@ -132,9 +131,26 @@ none_there (Some l) e = absurd (true≢false e)
 pub document_set : (m n : Map (List Item)) (d : Key) (items : List Item) → n ≡ set_key m d (Some items) → document n d ≡ items
 document_set m n d items e = ap (λ k. document k d) e ∙ ap (λ (o : Option (List Item)). unwrap_or o []) (set_same m d (Some items))
 
-pub restores_as : {E : Type 0} (r : Result Replacement E) (a a' b b' : List Item) → a ≡ a' → b ≡ b' → IfOk r (λ back. Restores back a b) → IfOk r (λ back. Restores back a' b')
-restores_as (Ok back) a a' b b' e f h = subst (λ (l : List Item). Restores back l b') e (subst (λ (l : List Item). Restores back a l) f h)
-restores_as (Err x) a a' b b' e f h = tt
+there_some : (m : Map (List Item)) (d : Key) (a : List Item) → get m d ≡ Some a → Some (document m d) ≡ get m d
+there_some m d a e = ap Some (document_there m d a e) ∙ sym e
+
+pub back_to : {E : Type 0} (m n : Map (List Item)) (d : Key) (a b : List Item) (r : Result Replacement E) → get m d ≡ Some a → document n d ≡ b → Balanced (document m d)
+    → OnOk r (length a ≤ max_count) → IfOk r (λ back. Restores back b a) → IfOk r (λ back. IsBack (Some back) d m n)
+back_to m n d a b (Ok back) g e h small k = record {
+  is = ap Some (ap (replaced back) e ∙ k.is) ∙ sym g;
+  inside = subst (λ (l : List Item). back.from + back.count ≤ length l) (sym e) k.inside;
+  balanced = h;
+  bound = subst (λ (l : List Item). length l ≤ max_count) (sym (document_there m d a g)) small;
+}
+back_to m n d a b (Err x) g e h small k = tt
+
+pub back_absent : (m n : Map (List Item)) (d : Key) → get m d ≡ None → IsBack None d m n
+back_absent m n d g = record {
+  is = sym g;
+  inside = tt;
+  balanced = subst (λ (l : List Item). Balanced l) (sym (back_none m d g)) refl;
+  bound = subst (λ (l : List Item). length l ≤ max_count) (sym (back_none m d g)) (omega arith);
+}
 
 -- ---- acts on documents
 

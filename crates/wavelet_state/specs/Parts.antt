@@ -10,12 +10,14 @@
 --     put_back, IsBack       what takes an edit back
 --     step_fault f k         the fault of a document as that of the operation of an index
 --     IsStepFault k o f      the act of an index doesn't apply
+--     item_count m           the number of items in all documents
 --     on_documents m a       the documents afterwards, where the act applies to them
 use Rattle.std.specs.Prelude.{◌≡◌, ℕ, ◌+◌, ◌≤◌, length, IfSome, Bool, true, false, List, [], ◌∷◌, Option, None, Some, unwrap_or}
-use Rattle.std.specs.FinMap.{get, keys}
+use Rattle.std.specs.FinMap.{get, entries}
 use Rattle.std.specs.Option.{option_map}
-use Rattle.doc_items.specs.Maps.{Key, Map, set_key, tabulate}
+use Rattle.doc_items.specs.Maps.{Key, Map, set_key, merge}
 use Rattle.doc_items.specs.Balance.{Balanced}
+use Rattle.doc_items.specs.Limits.{max_count}
 use Rattle.doc_items.specs.declared.item.Item.{Item}
 use Rattle.doc_op.specs.Apply.{valid}
 use Rattle.doc_op.specs.declared.component.Component.{Component}
@@ -54,7 +56,7 @@ abbrev pub IsTrim : Map (List Item) → Type 0
 IsTrim m = (q : Key) → IsTrimAt m q
 
 unfoldable pub trimmed : Map (List Item) → Map (List Item)
-trimmed m = tabulate (keys m) (λ k. kept (document m k))
+trimmed m = merge (λ o _. kept (unwrap_or o [])) m m
 
 abbrev pub AreBalanced : Map (List Item) → Type 0
 AreBalanced m = (q : Key) → Balanced (document m q)
@@ -71,6 +73,8 @@ put_back (Some r) items = Some (replaced r items)
 pub record IsBack (back : Option Replacement) (d : Key) (m n : Map (List Item)) : Type 0 where
   pub is : put_back back (document n d) ≡ get m d
   pub inside : IfSome back (λ r. r.from + r.count ≤ length (document n d))
+  pub balanced : Balanced (document m d)
+  pub bound : length (document m d) ≤ max_count
 
 abbrev pub on_documents : Map (List Item) → Act → Option (Map (List Item))
 on_documents m Idle = Some m
@@ -91,3 +95,12 @@ IsStepFault k o CountTooLarge = ⊥
 IsStepFault k o (Conflict j) = ⊥
 IsStepFault k o (DontFit place) = ⊥
 IsStepFault k o Memory = Unit {0}
+
+-- ---- counts
+
+abbrev pub count_all : List (Key × List Item) → ℕ
+count_all [] = 0
+count_all (e ∷ es) = length e.1 + count_all es
+
+abbrev pub item_count : Map (List Item) → ℕ
+item_count m = count_all (entries m)

@@ -4,15 +4,14 @@ ghost use Rattle.std.specs.Option.{option_copied};
 ghost use Rattle.std.specs.FinMap as finite;
 ghost use Rattle.doc_items.specs.Balance.{Balanced};
 ghost use Rattle.doc_items.specs.Limits.{max_count};
-ghost use Rattle.doc_items.specs.Maps.{set_key};
+ghost use Rattle.doc_items.specs.Maps.{Key, set_key};
 ghost use Rattle.doc_op.specs.Apply.{valid};
 ghost use Rattle.doc_rope.specs.Replacements.{replaced};
 ghost use Rattle.op_validity.specs.declared.fault.CheckFault.TheVariants as of_check;
 ghost use Rattle.doc_op.specs.Actions.{actions};
 ghost use Rattle.wavelet_op.specs.Acts.{Mutates};
 ghost use Rattle.wavelet_op.specs.States.{kept};
-ghost use Rattle.wavelet_state.specs.Parts.{document, is_empty_there, put_back, on_documents, IsEdit, IsBack, IsStepFault};
-ghost use Rattle.wavelet_state.specs.Stretches.{Restores};
+ghost use Rattle.wavelet_state.specs.Parts.{document, item_count, is_empty_there, put_back, on_documents, IsEdit, IsBack, IsStepFault, IsTrimAt};
 
 use crate::fault::fault_at;
 use crate::stretch::edit;
@@ -109,6 +108,21 @@ impl Documents {
         Ok(Documents { map })
     }
 
+    /// Whether all documents together have at most so many items.
+    pub fn fit(&self, limit: u64) -> bool
+        ensures { IsTrue result ↔ (item_count self.now ≤ limit) }
+    {
+        let mut left = limit;
+        for (_, rope) in self.map.iter() {
+            let count = rope.len();
+            if count > left {
+                return false;
+            }
+            left -= count;
+        }
+        true
+    }
+
     fn insert(&mut self, alloc: Global, name: &DocumentName, rope: Rope) -> Result<(), Memory>
         requires { Balanced rope }
         ensures ok { OnOk result (self.new ≡ finite.insert self.old name.now rope) }
@@ -201,7 +215,7 @@ impl Documents {
     ) -> Result<Replacement, CheckFault>
         requires { IsSome (finite.get self.old name.now) }
         ensures ok { OnOk result (IsEdit op.now name.now self.old self.new) }
-        ensures back { IfOk result (λ back. Restores back (document self.new name.now) (document self.old name.now)) }
+        ensures back { IfOk result (λ back. IsBack (Some back) name.now self.old self.new) }
         ensures invalid { IfErr result (λ e. e ≢ of_check.Memory → valid op.now (document self.old name.now) ≡ None) }
         ensures kept { OnErr result (self.new ≡ self.old) }
     {
@@ -260,6 +274,7 @@ impl Documents {
         index: u32,
     ) -> Result<(), WaveletFault>
         ensures ok { OnOk result (on_documents self.old (Mutates name.now (actions op.now)) ≡ Some self.new) }
+        ensures trim { OnOk result ((q : Key) → IsTrimAt self.old q → IsTrimAt self.new q) }
         ensures refused { IfErr result (IsStepFault index (on_documents self.old (Mutates name.now (actions op.now)))) }
         ensures kept { OnErr result (self.new ≡ self.old) }
     {

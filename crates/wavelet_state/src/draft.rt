@@ -1,5 +1,5 @@
 // The two parts of a state, while operations apply to them.
-ghost use Rattle.std.specs.Prelude.{◌≡◌, ◌+◌, ◌^◌, ◌<◌, ◌≤◌, length, Some, OnOk, OnErr, IfErr};
+ghost use Rattle.std.specs.Prelude.{◌≡◌, ◌+◌, ◌^◌, ◌<◌, ◌≤◌, length, Some, OnOk, OnErr, IfErr, IfOk};
 ghost use Rattle.doc_items.specs.Maps.{Key};
 ghost use Rattle.wavelet_op.specs.Acts.{meaning, meanings};
 ghost use Rattle.wavelet_op.specs.States.{apply_act, run};
@@ -9,6 +9,7 @@ ghost use Rattle.wavelet_state.specs.Parts.{IsTrimAt, IsStepFault};
 use crate::documents::Documents;
 use crate::fault::fault_at;
 use crate::roles::Roles;
+use doc_items::Memory;
 use std::alloc::Global;
 use wavelet_op::{WaveletFault, WaveletOp};
 
@@ -20,9 +21,20 @@ pub(crate) struct Draft {
 }
 
 impl Draft {
+    /// An equal draft.
+    pub fn copy(&self, alloc: Global) -> Result<Draft, Memory>
+        ensures roles { IfOk result (λ d. d.roles ≡ self.now.roles) }
+        ensures documents { IfOk result (λ d. d.documents ≡ self.now.documents) }
+    {
+        let roles = self.roles.copy(alloc)?;
+        let documents = self.documents.copy(alloc)?;
+        Ok(Draft { roles, documents })
+    }
+
     /// Applies one operation. Refusals: `OpInvalid` with this index. They, and want of memory, leave all as it was.
     pub fn step(&mut self, alloc: Global, op: &WaveletOp, index: u32) -> Result<(), WaveletFault>
         ensures ok { OnOk result (apply_act (whole self.old.roles self.old.documents) (meaning op.now) ≡ Some (whole self.new.roles self.new.documents)) }
+        ensures trim { OnOk result ((q : Key) → IsTrimAt self.old.documents q → IsTrimAt self.new.documents q) }
         ensures refused { IfErr result (IsStepFault index (apply_act (whole self.old.roles self.old.documents) (meaning op.now))) }
         ensures kept_roles { OnErr result (self.new.roles ≡ self.old.roles) }
         ensures kept_documents { OnErr result (self.new.documents ≡ self.old.documents) }
@@ -58,7 +70,9 @@ impl Draft {
             op: change,
         } = op
         else {
-            self.roles.step(alloc, op, index)?;
+            if let Err(refusal) = self.roles.step(alloc, op, index) {
+                return Err(refusal);
+            }
             return self.run(alloc, rest, index + 1);
         };
         let back = match self.documents.try_edit(alloc, document, change) {

@@ -1,8 +1,13 @@
 //! The state of a wavelet, with its documents in pieces, and how operations and deltas apply to it.
 #![tactic(auto)]
 
+mod apply;
 mod documents;
 mod draft;
 mod fault;
 mod roles;
+mod state;
 mod stretch;
+
+pub use apply::{apply_delta, apply_op};
+pub use state::WaveletState;

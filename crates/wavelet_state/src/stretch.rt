@@ -1,6 +1,7 @@
 // What puts a document back as it was before an edit.
 ghost use Rattle.std.specs.Prelude.{◌≡◌, ◌≢◌, ◌+◌, ◌^◌, ◌<◌, ◌≤◌, length, take, Some, None, OnOk, OnErr, IfOk, IfErr};
 ghost use Rattle.doc_items.specs.Balance.{Balanced};
+ghost use Rattle.doc_items.specs.Limits.{max_count};
 ghost use Rattle.doc_op.specs.Apply.{valid};
 ghost use Rattle.op_validity.specs.declared.fault.CheckFault.TheVariants as of_check;
 ghost use Rattle.wavelet_state.specs.Stretches.{first_from, last_end, stretch, Restores};
@@ -16,6 +17,7 @@ use std::alloc::Global;
 pub(crate) fn edit(alloc: Global, op: &DocOp, rope: &mut Rope) -> Result<Replacement, CheckFault>
     ensures ok { OnOk result (valid op.now rope.old ≡ Some rope.new) }
     ensures back { IfOk result (λ back. Restores back rope.new rope.old) }
+    ensures bound { OnOk result (length rope.old ≤ max_count) }
     ensures invalid { IfErr result (λ e. e ≢ of_check.Memory → valid op.now rope.old ≡ None) }
     ensures kept { OnErr result (rope.new ≡ rope.old) }
     ensures balance { OnOk result (Balanced rope.old → Balanced rope.new) }

@@ -9,7 +9,7 @@ use Rattle.doc_rope.specs.Replacements.{replaced}
 use Rattle.doc_rope.proofs.Replaced.{length_replaced}
 use Rattle.wavelet_state.specs.Parts.{document, AreBalanced}
 use Rattle.wavelet_state.proofs.Entries.{get-entries, written, lent, absent}
-use Rattle.wavelet_state.proofs.Parts.{balanced_set, is_edit, document_there, there_is, back_at, back_none}
+use Rattle.wavelet_state.proofs.Parts.{balanced_set, is_edit, document_there, back_none}
 use Rattle.wavelet_state.proofs.documents.Documents.begin.Goals as goal
 
 pub returns-clause-ok : goal.returns-clause-ok

@@ -9,7 +9,7 @@ use Rattle.op_validity.specs.declared.fault.CheckFault.TheVariants as of_check
 use Rattle.wavelet_state.specs.Parts.{document, AreBalanced}
 use Rattle.wavelet_state.specs.Stretches.{Restores}
 use Rattle.wavelet_state.proofs.Entries.{get-entries, written, lent, absent}
-use Rattle.wavelet_state.proofs.Parts.{balanced_set, is_edit, document_there, stays_balanced, ok_to, err_to, rewritten, document_set, restores_as}
+use Rattle.wavelet_state.proofs.Parts.{balanced_set, is_edit, document_there, stays_balanced, ok_to, err_to, rewritten, document_set, back_to}
 use Rattle.wavelet_state.proofs.documents.Documents.try_change.Goals as goal
 
 pub invariant_of-self : goal.invariant_of-self
@@ -58,5 +58,5 @@ returns-clause-back c =
     let there = lent c.self.inside.map c.args.self.now c.args.name.now c.in-Some.rope.now c.self.view_is c.in-Some.ensures.value in
     let w = written c.self.inside.map n c.args.self.now c.args.name.now c.edit.new.rope c.self.view_is c.requires (c.get_mut.follows.holds c.edit.new.rope).3 in
     let after = document_set c.args.self.now (finite.from_entries n.entries) c.args.name.now c.edit.new.rope w in
-    let before = document_there c.args.self.now c.args.name.now c.in-Some.rope.now there in
-    restores_as c.edit.result c.edit.new.rope (document (finite.from_entries n.entries) c.args.name.now) c.in-Some.rope.now (document c.args.self.now c.args.name.now) (sym after) (sym before) c.edit.ensures.back
+    let all = subst (λ (m : Map (List Item)). AreBalanced m) c.self.view_is c.self.invariant in
+    back_to c.args.self.now (finite.from_entries n.entries) c.args.name.now c.in-Some.rope.now c.edit.new.rope c.edit.result there after (all c.args.name.now) c.edit.ensures.bound c.edit.ensures.back

@@ -9,14 +9,11 @@ use Rattle.doc_rope.specs.Replacements.{replaced}
 use Rattle.doc_rope.proofs.Replaced.{length_replaced}
 use Rattle.wavelet_state.specs.Parts.{document, AreBalanced}
 use Rattle.wavelet_state.proofs.Entries.{get-entries, written, lent, absent}
-use Rattle.wavelet_state.proofs.Parts.{balanced_set, is_edit, document_there, there_is, back_at, back_none, none_there}
+use Rattle.wavelet_state.proofs.Parts.{balanced_set, is_edit, document_there, there_is, back_absent, none_there}
 use Rattle.wavelet_state.proofs.documents.Documents.try_edit.Goals as goal
 
 pub begin-requires : goal.begin-requires
 begin-requires c = none_there (finite.get c.args.self.now c.args.name.now) (sym c.has.ensures ∙ c.if-has.false)
 
-pub returns-in_ok-back-clause-back : goal.returns-in_ok-back-clause-back
-returns-in_ok-back-clause-back c = back_at c.args.self.now c.try_change.new.self c.args.name.now c.in_ok-back.back (sym c.has.ensures ∙ c.if-has.true) c.in_ok-back.ensures.back
-
 pub returns-in_ok-begin-clause-back : goal.returns-in_ok-begin-clause-back
-returns-in_ok-begin-clause-back c = record { is = sym (none_there (finite.get c.args.self.now c.args.name.now) (sym c.has.ensures ∙ c.if-has.false)); inside = tt }
+returns-in_ok-begin-clause-back c = back_absent c.args.self.now c.begin.new.self c.args.name.now (none_there (finite.get c.args.self.now c.args.name.now) (sym c.has.ensures ∙ c.if-has.false))
