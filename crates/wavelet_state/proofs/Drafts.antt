@@ -4,9 +4,11 @@
 --     edit_act                    an edit is the act on the state that is seen
 --     runs, refused_now, refused_then     one act, and those behind it
 --     trim_through, taken_back    an edit, what happens behind it, and the end
-use Rattle.std.proofs.Common.{◌≡◌, ℕ, zero, suc, ◌+◌, Bool, true, false, cond, List, [], ◌∷◌, refl, sym, ap, subst, ◌∙◌, arith, Option, None, Some, unwrap_or, Result, Ok, Err, IfErr, IfSome, IsSome, is_some, length, ◌≤◌}
+use Rattle.std.proofs.Common.{◌≡◌, ℕ, suc, ◌+◌, Bool, true, false, cond, List, [], ◌∷◌, refl, sym, ap, subst, ◌∙◌, arith, Option, None, Some, unwrap_or, Result, Ok, Err, IfErr, IfSome, IsSome, is_some, length, ◌≤◌}
 use Rattle.std.specs.Option.{option_map, option_map_or, option_and_then}
-use Rattle.std.specs.FinMap.{get}
+use Rattle.std.specs.FinMap.{get, empty, get-empty}
+use Rattle.std.specs.Ordering.{nat_cmp}
+use Rattle.std.specs.Cmp.Lexicographic.{slice_cmp}
 use Rattle.doc_items.specs.Balance.{Balanced}
 use Rattle.doc_items.specs.Limits.{max_count}
 use Rattle.doc_items.specs.Maps.{Key, Map, set_key}
@@ -28,7 +30,7 @@ use Rattle.wavelet_op.specs.declared.fault.WaveletFault.TheVariants.{OpInvalid, 
 use Rattle.wavelet_op.specs.declared.role.Role.{Role}
 use Rattle.wavelet_state.specs.Drafts.{seen, whole, IsRefusedFrom}
 use Rattle.wavelet_state.specs.Parts.{changed, on_roles, on_documents, document, trimmed, put_back, IsTrimAt, IsTrim, IsEdit, IsBack, IsStepFault}
-use Rattle.wavelet_state.proofs.Parts.{get-set, document-set, set_itself, document_set}
+use Rattle.wavelet_state.proofs.Parts.{get-set, document-set, set_itself}
 
 -- ---- one act
 
@@ -196,3 +198,6 @@ step_refused k a r m f on h = fault_to k (on_roles r a) _ f (λ e. role_law a r 
 pub edit_refused : (k : ℕ) (cs : List Component) (d : Key) (r : Map Role) (m : Map (List Item)) (f : WaveletFault) → IsStepFault k (on_documents m (Mutates d (actions cs))) f
     → IsStepFault k (apply_act (seen r m) (Mutates d (actions cs))) f
 edit_refused k cs d r m f h = fault_to k (on_documents m (Mutates d (actions cs))) _ f (λ e. refused_edit cs d r m (valid_is_mutate cs (document m d) ∙ unmapped (λ items. set_key m d (kept items)) (mutate (actions cs) (document m d)) e)) h
+
+pub trim_none : IsTrim empty
+trim_none q = subst (λ (o : Option (List Item)). o ≡ kept (unwrap_or o [])) (sym (get-empty (slice_cmp nat_cmp) q)) refl

@@ -5,7 +5,7 @@
 --     keys-entries     the keys, in their order
 --     insert_next      entries are copied one by one, in their order
 --     at_first, at_next, at_end     a walk to a place
-use Rattle.std.proofs.Common.{Less, Greater, ◌≡◌, ℕ, zero, suc, ◌<◌, Bool, true, false, cond, List, [], ◌∷◌, length, take, refl, sym, ap, ◌∙◌, Option, None, Some, BTreeMap, is_eq, slice_get, IsSome, arith, add-one, subst, append_assoc, ◌++◌, ◌-◌, true≢false, ◌+◌}
+use Rattle.std.proofs.Common.{Less, Greater, ◌≡◌, ℕ, zero, suc, cond, List, [], ◌∷◌, length, refl, sym, ap, ◌∙◌, Option, None, Some, BTreeMap, is_eq, slice_get, IsSome, arith, subst, append_assoc, ◌++◌, ◌-◌, true≢false}
 use Rattle.std.specs.Ordering.{nat_cmp, eq_by_cmp, ordering_reverse, match_ordering}
 use Rattle.std.specs.List.{AllByRecursion}
 use Rattle.std.specs.Cmp.Lexicographic.{slice_cmp}
@@ -16,7 +16,6 @@ use Rattle.std.proofs.lemmas.Cmp.{nat_list_cmp_total, eq_by_cmp_equiv}
 use Rattle.std.specs.FinMap as finite
 use Rattle.doc_items.specs.Maps.{Key, Map, set_key}
 use Rattle.doc_items.proofs.Maps.{alike}
-
 
 none_left : {A : Type 0} (es : List A) → length es ≡ 0 → es ≡ []
 none_left [] e = refl

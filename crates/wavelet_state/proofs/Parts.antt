@@ -8,12 +8,12 @@ use Rattle.std.specs.Ordering.{nat_cmp}
 use Rattle.std.proofs.lemmas.Bool.{ne_eqb}
 use Rattle.std.specs.Cmp.Lexicographic.{slice_cmp}
 use Rattle.std.proofs.lemmas.Cmp.{nat_list_cmp_total}
-use Rattle.std.specs.FinMap.{get, empty, keys, get-insert, get-remove, get-empty, contains_key-keys}
+use Rattle.std.specs.FinMap.{get, empty, get-insert, get-remove, get-empty}
 use Rattle.doc_items.specs.Balance.{Balanced}
 use Rattle.doc_items.specs.Limits.{max_count}
 use Rattle.doc_items.specs.Maps.{Key, Map, set_key}
 use Rattle.doc_items.specs.declared.item.Item.{Item}
-use Rattle.doc_items.proofs.Maps.{tie, tied, alike, get-tabulate, has}
+use Rattle.doc_items.proofs.Maps.{tie, tied, alike}
 use Rattle.doc_op.specs.Apply.{valid}
 use Rattle.doc_op.specs.declared.component.Component.{Component}
 use Rattle.doc_rope.specs.Replacements.{replaced}
@@ -21,12 +21,12 @@ use Rattle.doc_rope.specs.declared.replacement.Replacement.{Replacement}
 use Rattle.doc_op.specs.Actions.{actions}
 use Rattle.op_validity.specs.declared.fault.CheckFault.{CheckFault}
 use Rattle.op_validity.specs.declared.fault.CheckFault.TheVariants.{NotStructured, Mismatch, WrongLength, Memory as OutOfMemory}
-use Rattle.wavelet_op.specs.Acts.{Act, Idle, Adds, Removes, Sets, Mutates}
+use Rattle.wavelet_op.specs.Acts.{Mutates}
 use Rattle.wavelet_op.specs.declared.fault.WaveletFault.{WaveletFault}
 use Rattle.wavelet_op.proofs.Maps.{set_same, set_twice}
 use Rattle.wavelet_op.proofs.Structures.{valid_is_mutate}
 use Rattle.wavelet_op.specs.States.{kept}
-use Rattle.wavelet_state.specs.Parts.{document, IsTrimAt, IsTrim, trimmed, AreBalanced, is_empty_there, IsEdit, IsBack, IsStepFault, step_fault, on_documents, on_roles}
+use Rattle.wavelet_state.specs.Parts.{document, AreBalanced, is_empty_there, IsEdit, IsBack, IsStepFault, step_fault, on_documents}
 use Rattle.wavelet_state.specs.Stretches.{Restores}
 
 module _ {X : Type 0} where

@@ -9,7 +9,7 @@ use Rattle.std.proofs.Common.{◌≡◌, ℕ, ◌+◌, ◌≤◌, List, [], ◌�
 use Rattle.std.proofs.lemmas.List.{length-take-le, take-append-le, drop-append-le, take-take, take_at, drop_at, take-append-drop}
 use Rattle.doc_items.specs.declared.item.Item.{Item}
 use Rattle.doc_rope.specs.declared.replacement.Replacement.{Replacement}
-use Rattle.doc_rope.specs.Replacements.{replaced, all_replaced, InOrder}
+use Rattle.doc_rope.specs.Replacements.{all_replaced, InOrder}
 use Rattle.wavelet_state.specs.Stretches.{first_from, last_end, stretch, Restores}
 
 -- the three parts
@@ -32,8 +32,8 @@ edited_from r (s ∷ rs) p doc h =
     let long = length-take-le s.from doc (omega (arith, e.order, e.inside)) in
     let whole = e.is ∙ append_assoc (take s.from doc) e.middle (drop end doc) in
     let front = ap (take r.from) whole
-          ∙ take-append-le r.from (take s.from doc) (e.middle ++ drop end doc) (omega (arith, long, h.1.0))
-          ∙ take-take r.from s.from doc (omega (arith, h.1.0)) in
+    ∙ take-append-le r.from (take s.from doc) (e.middle ++ drop end doc) (omega (arith, long, h.1.0))
+    ∙ take-take r.from s.from doc (omega (arith, h.1.0)) in
     let back = ap (drop k) whole ∙ drop-append-le k (take s.from doc) (e.middle ++ drop end doc) (omega (arith, long, h.1.0)) in
     record {
       middle = r.items ++ drop k (take s.from doc) ++ e.middle;

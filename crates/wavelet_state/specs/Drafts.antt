@@ -10,11 +10,11 @@ use Rattle.std.specs.FinMap.{code}
 use Rattle.doc_items.specs.Maps.{Map}
 use Rattle.doc_items.specs.declared.item.Item.{Item}
 use Rattle.wavelet_op.specs.Acts.{Act}
-use Rattle.wavelet_op.specs.States.{State, run, apply_act, first_invalid}
+use Rattle.wavelet_op.specs.States.{State, run, first_invalid}
 use Rattle.wavelet_op.specs.declared.fault.WaveletFault.{WaveletFault}
 use Rattle.wavelet_op.specs.declared.fault.WaveletFault.TheVariants.{OpInvalid, CountTooLarge, Conflict, DontFit, Memory}
 use Rattle.wavelet_op.specs.declared.role.Role.{Role}
-use Rattle.wavelet_state.specs.Parts.{trimmed, IsStepFault}
+use Rattle.wavelet_state.specs.Parts.{trimmed}
 
 abbrev pub seen : Map Role → Map (List Item) → State
 seen roles documents = record { roles = roles; documents = trimmed documents }

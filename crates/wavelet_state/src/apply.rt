@@ -10,11 +10,7 @@ use wavelet_op::{Ops, WaveletFault, WaveletOp};
 
 /// Applies the operation to the state. The refusal is `OpInvalid(0)`, exactly where it isn't valid there. After it, and after want
 /// of memory, the state is as it was.
-pub fn apply_op(
-    alloc: Global,
-    state: &mut WaveletState,
-    op: &WaveletOp,
-) -> Result<(), WaveletFault>
+pub fn apply_op(alloc: Global, state: &mut WaveletState, op: &WaveletOp) -> Result<(), WaveletFault>
     ensures ok { OnOk result (apply_act state.old (meaning op.now) ≡ Some state.new) }
     ensures refused { IfErr result (IsRefused state.old (meaning op.now ∷ [])) }
     ensures kept { OnErr result (state.new ≡ state.old) }
@@ -24,11 +20,7 @@ pub fn apply_op(
 
 /// Applies the delta's operations to the state, in turn. The refusal is `OpInvalid` with the index of the first one that isn't
 /// valid where the ones before it lead, exactly where there is one. After it, and after want of memory, the state is as it was.
-pub fn apply_delta(
-    alloc: Global,
-    state: &mut WaveletState,
-    ops: &Ops,
-) -> Result<(), WaveletFault>
+pub fn apply_delta(alloc: Global, state: &mut WaveletState, ops: &Ops) -> Result<(), WaveletFault>
     ensures ok { OnOk result (run state.old (meanings ops.now) ≡ Some state.new) }
     ensures refused { IfErr result (IsRefused state.old (meanings ops.now)) }
     ensures kept { OnErr result (state.new ≡ state.old) }

@@ -150,12 +150,7 @@ impl Documents {
 
     /// Applies the operation to the document, which is empty where it isn't there. It is there afterwards, also where it became
     /// empty. Refusals, `Memory` included, leave all as it was.
-    pub fn edit(
-        &mut self,
-        alloc: Global,
-        name: &DocumentName,
-        op: &DocOp,
-    ) -> Result<(), CheckFault>
+    pub fn edit(&mut self, alloc: Global, name: &DocumentName, op: &DocOp) -> Result<(), CheckFault>
         ensures ok { OnOk result (IsEdit op.now name.now self.old self.new) }
         ensures invalid { IfErr result (λ e. e ≢ of_check.Memory → valid op.now (document self.old name.now) ≡ None) }
         ensures kept { OnErr result (self.new ≡ self.old) }
@@ -189,12 +184,7 @@ impl Documents {
     }
 
     // Applies the operation to a document that is there.
-    fn change(
-        &mut self,
-        alloc: Global,
-        name: &DocumentName,
-        op: &DocOp,
-    ) -> Result<(), CheckFault>
+    fn change(&mut self, alloc: Global, name: &DocumentName, op: &DocOp) -> Result<(), CheckFault>
         requires { IsSome (finite.get self.old name.now) }
         ensures ok { OnOk result (IsEdit op.now name.now self.old self.new) }
         ensures invalid { IfErr result (λ e. e ≢ of_check.Memory → valid op.now (document self.old name.now) ≡ None) }

@@ -50,12 +50,7 @@ impl Draft {
 
     /// Applies the operations in turn. Refusals: `OpInvalid` with the first one that isn't valid, counted from this index. They,
     /// and want of memory, leave the documents as they were.
-    pub fn run(
-        &mut self,
-        alloc: Global,
-        ops: &[WaveletOp],
-        index: u32,
-    ) -> Result<(), WaveletFault>
+    pub fn run(&mut self, alloc: Global, ops: &[WaveletOp], index: u32) -> Result<(), WaveletFault>
         requires { index + length ops.now < 2 ^ 32 }
         ensures ok { OnOk result (run (seen self.old.roles self.old.documents) (meanings ops.now) ≡ Some (seen self.new.roles self.new.documents)) }
         ensures trim { OnOk result ((q : Key) → IsTrimAt self.old.documents q → IsTrimAt self.new.documents q) }

@@ -6,8 +6,10 @@ mod documents;
 mod draft;
 mod fault;
 mod roles;
+mod snapshot;
 mod state;
 mod stretch;
 
 pub use apply::{apply_delta, apply_op};
+pub use snapshot::{MAX_INSERTED, Snapshot};
 pub use state::WaveletState;

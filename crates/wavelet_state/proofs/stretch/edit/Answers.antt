@@ -1,6 +1,6 @@
-use Rattle.std.proofs.Common.{◌≡◌, ◌-◌, sym, ap, ◌∙◌, refl, arith, length}
+use Rattle.std.proofs.Common.{◌-◌, sym, ap, ◌∙◌, refl, arith}
 use Rattle.doc_rope.specs.Replacements.{all_replaced}
-use Rattle.wavelet_state.specs.Stretches.{first_from, last_end, stretch}
+use Rattle.wavelet_state.specs.Stretches.{first_from, last_end}
 use Rattle.wavelet_state.proofs.Stretches.{measures, restores}
 use Rattle.wavelet_state.proofs.stretch.edit.Goals as goal
 

@@ -1,4 +1,4 @@
-use Rattle.std.proofs.Common.{◌≡◌, sym, ap, ◌∙◌, arith}
+use Rattle.std.proofs.Common.{arith}
 use Rattle.wavelet_state.proofs.Stretches.{end_at}
 use Rattle.wavelet_state.proofs.stretch.end.Goals as goal
 

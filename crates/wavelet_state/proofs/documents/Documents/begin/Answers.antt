@@ -1,15 +1,6 @@
-use Rattle.std.proofs.Common.{◌≡◌, ◌≢◌, ◌+◌, ◌≤◌, Bool, true, sym, ap, subst, ◌∙◌, length, List, Some, None, refl, IfErr, IsSome, arith}
-use Rattle.std.specs.FinMap as finite
-use Rattle.std.specs.Option.{option_copied_mut}
-use Rattle.doc_items.specs.Balance.{Balanced}
-use Rattle.doc_items.specs.Maps.{Map}
-use Rattle.doc_items.specs.declared.item.Item.{Item}
+use Rattle.std.proofs.Common.{sym, ap, ◌∙◌}
 use Rattle.doc_op.specs.Apply.{valid}
-use Rattle.doc_rope.specs.Replacements.{replaced}
-use Rattle.doc_rope.proofs.Replaced.{length_replaced}
-use Rattle.wavelet_state.specs.Parts.{document, AreBalanced}
-use Rattle.wavelet_state.proofs.Entries.{get-entries, written, lent, absent}
-use Rattle.wavelet_state.proofs.Parts.{balanced_set, is_edit, document_there, back_none}
+use Rattle.wavelet_state.proofs.Parts.{is_edit, back_none}
 use Rattle.wavelet_state.proofs.documents.Documents.begin.Goals as goal
 
 pub returns-clause-ok : goal.returns-clause-ok

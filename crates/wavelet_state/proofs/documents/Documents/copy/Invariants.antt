@@ -1,4 +1,4 @@
-use Rattle.std.proofs.Common.{◌≡◌, ◌++◌, slice_get}
+use Rattle.std.proofs.Common.{◌≡◌, ◌++◌}
 use Rattle.wavelet_state.proofs.documents.Documents.copy.Given as goal
 
 abbrev pub invariant-loop-name : goal.invariant-loop-name

@@ -1,11 +1,7 @@
-use Rattle.std.proofs.Common.{◌≡◌, Bool, true, sym, ap, subst, ◌∙◌, length, List, Some, None, refl}
+use Rattle.std.proofs.Common.{sym, ap, ◌∙◌}
 use Rattle.std.specs.FinMap as finite
-use Rattle.doc_items.specs.Maps.{Map}
-use Rattle.doc_items.specs.declared.item.Item.{Item}
-use Rattle.wavelet_op.specs.States.{kept}
-use Rattle.wavelet_state.specs.Parts.{document, AreBalanced, is_empty_there}
-use Rattle.wavelet_state.proofs.Entries.{get-entries, set-entries, entries-entries}
-use Rattle.wavelet_state.proofs.Parts.{lent_balanced, balanced_set, balanced_none, empty_len, trim_empty, trim_other}
+use Rattle.wavelet_state.proofs.Entries.{get-entries}
+use Rattle.wavelet_state.proofs.Parts.{lent_balanced}
 use Rattle.wavelet_state.proofs.documents.Documents.get.Goals as goal
 
 pub returns-clause-value : goal.returns-clause-value

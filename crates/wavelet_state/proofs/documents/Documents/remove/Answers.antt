@@ -1,11 +1,10 @@
-use Rattle.std.proofs.Common.{◌≡◌, Bool, true, sym, ap, subst, ◌∙◌, length, List, Some, None, refl}
+use Rattle.std.proofs.Common.{sym, ap, subst, ◌∙◌, List, None, refl}
 use Rattle.std.specs.FinMap as finite
 use Rattle.doc_items.specs.Maps.{Map}
 use Rattle.doc_items.specs.declared.item.Item.{Item}
-use Rattle.wavelet_op.specs.States.{kept}
-use Rattle.wavelet_state.specs.Parts.{document, AreBalanced, is_empty_there}
-use Rattle.wavelet_state.proofs.Entries.{get-entries, set-entries, entries-entries}
-use Rattle.wavelet_state.proofs.Parts.{lent_balanced, balanced_set, balanced_none, empty_len, trim_empty, trim_other}
+use Rattle.wavelet_state.specs.Parts.{AreBalanced}
+use Rattle.wavelet_state.proofs.Entries.{set-entries}
+use Rattle.wavelet_state.proofs.Parts.{balanced_set}
 use Rattle.wavelet_state.proofs.documents.Documents.remove.Goals as goal
 
 pub invariant_of-self : goal.invariant_of-self

@@ -1,4 +1,4 @@
-use Rattle.std.proofs.Common.{◌≡◌, ◌∷◌, List, Some, sym, ap, subst, ◌∙◌, IfSome, IsSome}
+use Rattle.std.proofs.Common.{◌∷◌, List, Some, sym, ap, subst, ◌∙◌, IfSome, IsSome}
 use Rattle.std.specs.FinMap.{get}
 use Rattle.std.specs.Option.{option_map}
 use Rattle.doc_items.specs.Maps.{Map}
@@ -69,3 +69,14 @@ pub returns-in-Err-run-clause-kept : goal.returns-in-Err-run-clause-kept
 returns-in-Err-run-clause-kept t c =
     taken_back c.args.self.now.documents c.try_edit.new.self c.run-2.new.self.documents c.take_back.new.self c.in-Mutate.document (document c.try_edit.new.self c.in-Mutate.document) c.in-Ok.back c.in-Ok.ensures.ok.is
     c.in-Ok.ensures.back.is c.in-Err-run.ensures.kept c.take_back.ensures
+
+pub returns-in-Err-try_edit-clause-refused : goal.returns-in-Err-try_edit-clause-refused
+returns-in-Err-try_edit-clause-refused t c =
+    let r = c.args.self.now.roles in
+    let m = c.args.self.now.documents in
+    let d = c.in-Mutate.document in
+    let a = Mutates d (actions c.in-Mutate.change) in
+    let w = ap meanings c.in-Some.ensures.cases.0 ∙ ap (λ o. meaning o ∷ meanings c.in-Some.rest.now) c.in-Mutate.is in
+    subst (λ (acts : List Act). IsRefusedFrom c.args.index (seen r m) acts c.fault_at.result) (sym w)
+    (refused_now c.args.index (seen r m) a (meanings c.in-Some.rest.now) c.fault_at.result
+    (edit_refused c.args.index c.in-Mutate.change d r m c.fault_at.result (not_mutated c.in-Mutate.change d m c.in-Err-try_edit.fault c.args.index c.fault_at.result c.fault_at.ensures c.in-Err-try_edit.ensures.invalid)))

@@ -1,4 +1,4 @@
-use Rattle.std.proofs.Common.{◌≡◌, sym, ap, subst, ◌∙◌}
+use Rattle.std.proofs.Common.{sym, ap, subst, ◌∙◌}
 use Rattle.std.specs.Option.{option_map}
 use Rattle.doc_op.specs.Actions.{actions}
 use Rattle.wavelet_op.specs.Acts.{Act, meaning}
@@ -45,12 +45,12 @@ pub returns-in-Mutate-clause-ok : goal.returns-in-Mutate-clause-ok
 returns-in-Mutate-clause-ok c =
     ok_to c.mutate.result
     (λ e. ap (λ o. apply_act (whole c.args.self.now.roles c.args.self.now.documents) (meaning o)) c.in-Mutate.is
-        ∙ document_law c.args.self.now.roles c.args.self.now.documents c.in-Mutate.document (actions c.in-Mutate.op) ∙ ap (option_map (λ x. whole c.args.self.now.roles x)) e)
+    ∙ document_law c.args.self.now.roles c.args.self.now.documents c.in-Mutate.document (actions c.in-Mutate.op) ∙ ap (option_map (λ x. whole c.args.self.now.roles x)) e)
     c.mutate.ensures.ok
 
 pub returns-in-Mutate-clause-refused : goal.returns-in-Mutate-clause-refused
 returns-in-Mutate-clause-refused c =
     if_err_to c.mutate.result _ _
     (λ f. fault_to c.args.index _ _ f (λ e. ap (λ o. apply_act (whole c.args.self.now.roles c.args.self.now.documents) (meaning o)) c.in-Mutate.is
-        ∙ document_law c.args.self.now.roles c.args.self.now.documents c.in-Mutate.document (actions c.in-Mutate.op) ∙ ap (option_map (λ x. whole c.args.self.now.roles x)) e))
+    ∙ document_law c.args.self.now.roles c.args.self.now.documents c.in-Mutate.document (actions c.in-Mutate.op) ∙ ap (option_map (λ x. whole c.args.self.now.roles x)) e))
     c.mutate.ensures.refused

@@ -1,4 +1,4 @@
-use Rattle.std.proofs.Common.{sym, ap, ◌∙◌, slice_get}
+use Rattle.std.proofs.Common.{ap, ◌∙◌, slice_get}
 use Rattle.wavelet_state.proofs.Entries.{keys-entries, at_first, at_next, at_end}
 use Rattle.wavelet_state.proofs.roles.Roles.at.Goals as goal
 

@@ -1,4 +1,4 @@
-use Rattle.std.proofs.Common.{◌≡◌, ◌++◌, slice_get}
+use Rattle.std.proofs.Common.{◌≡◌, ◌++◌}
 use Rattle.wavelet_state.proofs.roles.Roles.copy.Given as goal
 
 abbrev pub invariant-loop-address : goal.invariant-loop-address

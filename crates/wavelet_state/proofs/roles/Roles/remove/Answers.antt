@@ -1,6 +1,6 @@
-use Rattle.std.proofs.Common.{◌≡◌, sym, ap, ◌∙◌, length, Some, None, refl}
+use Rattle.std.proofs.Common.{ap, ◌∙◌, None}
 use Rattle.std.specs.FinMap as finite
-use Rattle.wavelet_state.proofs.Entries.{get-entries, set-entries, entries-entries}
+use Rattle.wavelet_state.proofs.Entries.{set-entries}
 use Rattle.wavelet_state.proofs.roles.Roles.remove.Goals as goal
 
 pub returns : goal.returns

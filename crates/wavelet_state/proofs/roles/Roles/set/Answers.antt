@@ -1,7 +1,7 @@
-use Rattle.std.proofs.Common.{◌≡◌, sym, ap, ◌∙◌, length, Some, None, refl}
+use Rattle.std.proofs.Common.{sym, ap, ◌∙◌, Some}
 use Rattle.std.specs.Option.{option_copied_mut}
 use Rattle.std.specs.FinMap as finite
-use Rattle.wavelet_state.proofs.Entries.{get-entries, set-entries, has-entry, absent}
+use Rattle.wavelet_state.proofs.Entries.{set-entries, has-entry, absent}
 use Rattle.wavelet_state.proofs.roles.Roles.set.Goals as goal
 use Rattle.wavelet_state.proofs.roles.Roles.set.Goals.{in-Some, in_default}
 
