@@ -11,5 +11,5 @@ mod validity;
 mod walk;
 
 pub use fault::CheckFault;
-pub use pieces::{apply_rope, check_rope};
+pub use pieces::{apply_rope, check_rope, edits_of};
 pub use validity::{apply, check};

@@ -1,5 +1,6 @@
-ghost use Rattle.std.specs.Prelude.{◌≡◌, ◌≢◌, List, length, IsSome, None, Some, OnOk, OnErr, IfOk, IfErr};
+ghost use Rattle.std.specs.Prelude.{◌≡◌, ◌≢◌, ◌≤◌, List, length, IsSome, None, Some, OnOk, OnErr, IfOk, IfErr};
 ghost use Rattle.doc_items.specs.Balance.{Balanced};
+ghost use Rattle.doc_items.specs.Limits.{max_count};
 ghost use Rattle.doc_items.specs.declared.item.Item.{Item};
 ghost use Rattle.doc_op.specs.Actions.{actions};
 ghost use Rattle.doc_op.specs.Apply.{apply as applied, valid};
@@ -32,6 +33,23 @@ pub fn check_rope(alloc: Global, op: &DocOp, rope: &Rope) -> Result<(), CheckFau
     }
 }
 
+/// What has to be replaced in a document in pieces so that it becomes what the operation makes of it. The refusals are those of
+/// `check_rope`. All the memory that this takes is taken here: `put_all` puts the replacements in and can't fail.
+pub fn edits_of(alloc: Global, op: &DocOp, rope: &Rope) -> Result<Vec<Replacement>, CheckFault>
+    ensures ok { IfOk result (λ rs. valid op.now rope.now ≡ Some (all_replaced rs.items rope.now)) }
+    ensures order { IfOk result (λ rs. InOrder 0 rs.items (length rope.now)) }
+    ensures bound { IfOk result (λ rs. length (all_replaced rs.items rope.now) ≤ max_count) }
+    ensures refused { IfErr result (λ e. IsRefused e op.now rope.now) }
+    ensures invalid { IfErr result (λ e. e ≢ CheckFault.Memory → valid op.now rope.now ≡ None) }
+    ensures balance { IfOk result (λ rs. Balanced rope.now → Balanced (all_replaced rs.items rope.now)) }
+{
+    check_rope(alloc, op, rope)?;
+    // There are as many items as the operation gives, which a document may have.
+    let _length = op.output_len();
+    let replacements = replacements(alloc, op, rope)?;
+    Ok(replacements)
+}
+
 /// Applies the operation to the document in pieces. The refusals are those of `check_rope`, and leave the rope as it was. A
 /// balanced document stays balanced. All memory is taken before a piece changes.
 pub fn apply_rope(alloc: Global, op: &DocOp, rope: &mut Rope) -> Result<(), CheckFault>
@@ -41,10 +59,7 @@ pub fn apply_rope(alloc: Global, op: &DocOp, rope: &mut Rope) -> Result<(), Chec
     ensures kept { OnErr result (rope.new ≡ rope.old) }
     ensures balance { OnOk result (Balanced rope.old → Balanced rope.new) }
 {
-    check_rope(alloc, op, rope)?;
-    let replacements = replacements(alloc, op, rope)?;
-    // There are as many items as the operation gives, which a document may have.
-    let _length = op.output_len();
+    let replacements = edits_of(alloc, op, rope)?;
     rope.put_all(replacements);
     Ok(())
 }
