@@ -1,5 +1,5 @@
 -- New items at a place.
-use Rattle.std.proofs.Common.{◌≡◌, ◌≤◌, ◌+◌, ◌-◌, ℕ, zero, suc, ◌≢◌, List, [], ◌∷◌, ◌++◌, length, map, refl, sym, ap, subst, ◌∙◌, arith, Option, None, Some, option_map, option_and_then, slice_get}
+use Rattle.std.proofs.Common.{◌≡◌, ◌≤◌, ◌-◌, ℕ, zero, suc, ◌≢◌, List, [], ◌∷◌, ◌++◌, length, map, refl, sym, ap, subst, ◌∙◌, arith, Option, None, Some, option_map, option_and_then, slice_get}
 use Rattle.std.specs.FinMap.{get, empty, get-empty}
 use Rattle.std.specs.Ordering.{nat_cmp}
 use Rattle.std.specs.Cmp.Lexicographic.{slice_cmp}
@@ -7,7 +7,7 @@ use Rattle.doc_items.specs.Balance.{level, BalancedFrom, Balanced}
 use Rattle.doc_items.specs.Changes.{KeyChange, ChangeSet, none_running}
 use Rattle.doc_items.specs.Maps.{Key, Map}
 use Rattle.doc_items.specs.declared.item.Content.{Content}
-use Rattle.doc_items.specs.declared.item.Content.TheVariants.{Character, Start, End}
+use Rattle.doc_items.specs.declared.item.Content.TheVariants.{Character}
 use Rattle.doc_items.specs.declared.item.Item.{Item}
 use Rattle.doc_items.proofs.Maps.{alike, get-each, get-picked}
 use Rattle.change_view.specs.Sets.{fresh, from_absent}
@@ -55,7 +55,7 @@ inserts op items place n contents u e f h b is normal =
     let new = with_notes (left_notes items place) contents in
     made items place 0 (map Ins new) new op (omega (arith, h)) (insertion_takes new b)
     (is ∙ (λ i. around place (map (insertion (e i)) contents) (f i - place)) ∙ ap (λ a. around place a (length items - place)) (inserted_items (left_notes items place) contents)
-      ∙ ap (around place (map Ins new)) (omega arith))
+    ∙ ap (around place (map Ins new)) (omega arith))
     normal
 
 -- ---- the annotations left of a place

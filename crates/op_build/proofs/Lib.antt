@@ -4,3 +4,4 @@ pub mod Made
 pub mod Insertions
 pub mod Ranges
 pub mod Erasures
+pub mod Changed

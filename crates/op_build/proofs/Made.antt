@@ -6,9 +6,9 @@ use Rattle.std.proofs.lemmas.List.{take-append-drop, length-drop}
 use Rattle.doc_items.specs.declared.item.Item.{Item}
 use Rattle.doc_op.specs.declared.component.Component.{Component}
 use Rattle.doc_op.specs.Actions.{Action, actions}
-use Rattle.doc_op.specs.Apply.{apply, valid}
+use Rattle.doc_op.specs.Apply.{apply}
 use Rattle.doc_op.specs.Normal.{normal_form}
-use Rattle.doc_op.specs.Structure.{Structured, first_break}
+use Rattle.doc_op.specs.Structure.{Structured}
 use Rattle.doc_op.proofs.Structures.{structured_is_unbroken}
 use Rattle.op_build.specs.Edits.{range, replaced}
 use Rattle.op_build.specs.Plans.{retained, plan, IsEdit}
@@ -28,7 +28,7 @@ module _ (items : List Item) (from count : ℕ) (acts : List Action) (new : List
       let rest : apply last behind ≡ Some behind = subst (λ n. apply (retained n) behind ≡ Some behind) many (all_stay behind) in
       ap (λ a. apply a items) (append_assoc (retained from) acts last)
       ∙ front_stays from (acts ++ last) items (new ++ behind) (omega (arith, h))
-        (ap (apply (acts ++ last)) (sym (take-append-drop count (drop from items))) ∙ t.makes last behind behind rest)
+      (ap (apply (acts ++ last)) (sym (take-append-drop count (drop from items))) ∙ t.makes last behind behind rest)
       ∙ ap (λ x. Some (take from items ++ (new ++ x))) past
       ∙ ap Some (sym (append_assoc (take from items) new (drop (from + count) items)))
 
@@ -44,6 +44,6 @@ module _ (items : List Item) (from count : ℕ) (acts : List Action) (new : List
     normal = n ∙ ap normal_form is;
     structured = plan_nests t;
     makes =
-      ap (λ b. cond (is_none b) (apply (actions op) items) None) (structured_is_unbroken op (subst Structured (sym is) (plan_nests t)))
-      ∙ ap (λ a. apply a items) is ∙ plan_makes h t;
+        ap (λ b. cond (is_none b) (apply (actions op) items) None) (structured_is_unbroken op (subst Structured (sym is) (plan_nests t)))
+        ∙ ap (λ a. apply a items) is ∙ plan_makes h t;
   }

@@ -1,5 +1,5 @@
 -- Ranges, item by item.
-use Rattle.std.proofs.Common.{◌≡◌, ◌<◌, ◌+◌, ◌-◌, ℕ, zero, suc, List, [], ◌∷◌, ◌++◌, ◌≤◌, length, map, append_assoc, take, drop, sym, ap, ◌∙◌, arith, Some, slice_get, get_or, drop-cons, add-one}
+use Rattle.std.proofs.Common.{◌≡◌, ◌<◌, ◌+◌, ◌-◌, ℕ, zero, suc, List, [], ◌∷◌, ◌++◌, ◌≤◌, length, map, append_assoc, take, drop, sym, ap, ◌∙◌, arith, Some, slice_get, drop-cons, add-one}
 use Rattle.std.proofs.lemmas.Option.{slice_get_within, get_or_from_slice_get}
 use Rattle.std.proofs.lemmas.List.{length-take, length-drop}
 use Rattle.doc_items.specs.declared.item.Item.{Item}

@@ -5,7 +5,7 @@
 --     one_change key old new     the change of one key
 --     typing, erasing, annotating, adding_element, setting_attribute     the actions of the edits
 --     IsEdit op acts items out   an operation in normal form of these actions, structured, that makes this of the items
-use Rattle.std.specs.Prelude.{◌≡◌, ℕ, ◌+◌, ◌-◌, List, [], ◌∷◌, ◌++◌, length, map, replicate, Option, Some, option_and_then}
+use Rattle.std.specs.Prelude.{◌≡◌, ℕ, ◌+◌, ◌-◌, List, ◌++◌, length, map, replicate, Option, Some, option_and_then}
 use Rattle.std.specs.FinMap.{get, empty, insert}
 use Rattle.doc_items.specs.Maps.{Key, Map}
 use Rattle.doc_items.specs.Changes.{ChangeSet, none_running}

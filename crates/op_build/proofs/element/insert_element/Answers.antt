@@ -1,4 +1,4 @@
-use Rattle.std.proofs.Common.{◌≡◌, ◌∷◌, [], ◌-◌, List, ℕ, map, ap, refl, ◌∙◌, arith}
+use Rattle.std.proofs.Common.{◌∷◌, [], ◌-◌, List, ℕ, map, ap, refl, ◌∙◌, arith}
 use Rattle.std.specs.Str.{chars}
 use Rattle.doc_items.specs.declared.item.Content.TheVariants.{Start, End}
 use Rattle.doc_op.specs.Actions.{insertion}

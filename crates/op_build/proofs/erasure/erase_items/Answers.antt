@@ -12,7 +12,7 @@ loop-left-preserved g c =
     let more = input_next c.erase_content.new.out c.loop-left.out (erase_one i) 1 c.in_ok-erase_content.ensures refl in
     record {
       is = next_in_range erase_one c.loop-left.out c.erase_content.new.out c.args.out.now (range items c.args.from c.args.count) (range items c.loop-left.place c.loop-left.left)
-        (range items (c.loop-left.place + 1) (c.loop-left.left - 1)) i c.loop-left.invariant.is c.first_of-item.ensures c.in_ok-erase_content.ensures;
+          (range items (c.loop-left.place + 1) (c.loop-left.left - 1)) i c.loop-left.invariant.is c.first_of-item.ensures c.in_ok-erase_content.ensures;
       room = omega (arith, more, c.loop-left.invariant.room, c.loop-left-test.true);
       place = omega (arith, c.loop-left.invariant.place, c.loop-left-test.true);
     }

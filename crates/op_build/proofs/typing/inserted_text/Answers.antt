@@ -1,6 +1,5 @@
-use Rattle.std.proofs.Common.{arith, length, map}
+use Rattle.std.proofs.Common.{arith}
 use Rattle.std.proofs.lemmas.List.{length-map}
-use Rattle.doc_items.specs.declared.item.Content.{Content}
 use Rattle.doc_items.specs.declared.item.Content.TheVariants.{Character}
 use Rattle.op_build.proofs.Counts.{input_retained, output_retained, input_inserted, output_inserted}
 use Rattle.op_build.proofs.typing.inserted_text.Goals as goal

@@ -1,7 +1,7 @@
-use Rattle.std.proofs.Common.{◌≡◌, ◌-◌, List, ℕ, length, map, subst, sym, ap, ◌∙◌}
+use Rattle.std.proofs.Common.{◌≡◌, ◌-◌, List, ℕ, map, ap, ◌∙◌}
 use Rattle.std.specs.Str.{chars}
 use Rattle.doc_items.specs.declared.item.Content.TheVariants.{Character}
-use Rattle.doc_op.specs.Actions.{insertion, actions}
+use Rattle.doc_op.specs.Actions.{insertion}
 use Rattle.op_build.specs.Edits.{left_notes}
 use Rattle.op_build.specs.Plans.{around}
 use Rattle.op_build.proofs.Insertions.{inserts, text_balanced}
