@@ -1,0 +1,5 @@
+//! Tests of the edits that are made from plain intents.
+#![tactic(auto)]
+
+#[cfg(test)]
+mod edits;
