@@ -55,11 +55,7 @@ fn ops(rt: &impl Abort, alloc: Global, words: &str) -> Result<Ops, Fail> {
     Ok(Ops::new(list).expect(rt, "1 to 1,000 operations"))
 }
 
-fn show_participants(
-    alloc: Global,
-    state: &WaveletState,
-    out: &mut String,
-) -> Result<(), Fail> {
+fn show_participants(alloc: Global, state: &WaveletState, out: &mut String) -> Result<(), Fail> {
     for place in 0..10u64 {
         let Some(address) = state.participant(place) else {
             return Ok(());
@@ -75,11 +71,7 @@ fn show_participants(
     Ok(())
 }
 
-fn show_documents(
-    alloc: Global,
-    state: &WaveletState,
-    out: &mut String,
-) -> Result<(), Fail> {
+fn show_documents(alloc: Global, state: &WaveletState, out: &mut String) -> Result<(), Fail> {
     for place in 0..10u64 {
         let Some(name) = state.document_name(place) else {
             return Ok(());
@@ -164,7 +156,10 @@ fn refused_deltas(rt: HostRuntime) -> Result<(), Fail> {
         ("b+1: +1 3 -d 2 +2; b+1: 1 -a 5; b+1: 1", 2),
         ("b+2: -x; b+2: +yz; remove bob@a.com; b+2: 1", 3),
         ("b+3: +new; b+3: -new; b+3: +old; b+3: 4", 3),
-        ("b+1: 6; role bob@a.com full read; b+1: -abcdef; add bob@a.com", 3),
+        (
+            "b+1: 6; role bob@a.com full read; b+1: -abcdef; add bob@a.com",
+            3,
+        ),
         ("b+1: /k=_:v 6 /!k; b+1: 2 -c 3; noop; b+1: 6", 3),
     ];
     for (words, at) in rows {
