@@ -1,0 +1,4 @@
+pub mod Legal
+pub mod Passing
+pub mod Points
+pub mod Verdicts
