@@ -1,0 +1,5 @@
+pub mod Points
+pub mod Chains
+pub mod Versions
+pub mod Keeping
+pub mod Judges

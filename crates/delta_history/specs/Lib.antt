@@ -1,3 +1,4 @@
+pub mod Laws
 pub mod Legal
 pub mod Passing
 pub mod Points

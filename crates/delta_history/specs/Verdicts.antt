@@ -13,7 +13,7 @@ use Rattle.std.specs.Prelude.{ℕ, ◌+◌, Bool, true, false, cond, ◌&&◌, �
 use Rattle.std.specs.Cmp.Lexicographic.{pointwise}
 use Rattle.doc_items.specs.Limits.{max_count}
 use Rattle.doc_op.specs.Normal.{normal_form}
-use Rattle.wave_base.specs.Versions.{IdOf, VersionAt, same_id}
+use Rattle.wave_base.specs.Versions.{IdOf, same_id}
 use Rattle.wavelet_op.specs.Acts.{Act, Idle, Adds, Removes, Sets, Mutates, meanings, inserted}
 use Rattle.wavelet_op.specs.Deltas.{DeltaOf}
 use Rattle.wavelet_op.specs.Grids.{pass}
