@@ -3,3 +3,4 @@ pub mod Chains
 pub mod Versions
 pub mod Keeping
 pub mod Judges
+pub mod Indexes

@@ -1,5 +1,6 @@
 pub mod Laws
 pub mod Legal
 pub mod Passing
+pub mod Places
 pub mod Points
 pub mod Verdicts

@@ -1,6 +1,7 @@
 //! The history of a wavelet: which deltas it may have, the points that it leads through, and what becomes of a submission.
 #![tactic(auto)]
 
+mod ids;
 mod kept;
 mod laws;
 
