@@ -4,3 +4,4 @@ pub mod Versions
 pub mod Keeping
 pub mod Judges
 pub mod Indexes
+pub mod Finding

@@ -1,5 +1,6 @@
 -- Where deltas stand in the list of a history, by which they are found without walking it.
 --     started_below v ds      how many deltas at the front were applied below a version
+--     IsRisingFrom n ds       the versions at which they were applied rise, from n on
 --     end_at v head ds        the hashed version at v, where that is the start of one of the deltas or the head behind them
 --     place_from i n ds       the place of the first delta of the id, where the first of the deltas has the place n
 --     stands_at head ds k     where the delta at a place stands: its version, and the hashed version behind it
@@ -8,7 +9,7 @@
 --     place_in m i            the place there
 --     IsIndex m n ds          it has the places of the first n deltas
 --     IsPut m m' i k          it has this place for the id, and the others as before
-use Rattle.std.specs.Prelude.{◌≡◌, ℕ, suc, ◌==◌, cond, nat_lt, List, [], ◌∷◌, slice_get, take, Option, Some, None, option_and_then}
+use Rattle.std.specs.Prelude.{◌≡◌, ◌≤◌, ℕ, suc, ◌==◌, cond, nat_lt, List, [], ◌∷◌, slice_get, take, Option, Some, None, option_and_then}
 use Rattle.std.specs.Option.{option_map}
 use Rattle.std.specs.declared.cmp.Ordering.{Ordering}
 use Rattle.std.specs.Ordering.{nat_cmp, ordering_then}
@@ -24,6 +25,10 @@ use Rattle.delta_history.specs.declared.kept.Kept.{Kept}
 abbrev pub started_below : ℕ → List DeltaOf → ℕ
 started_below v [] = 0
 started_below v (d ∷ ds) = cond (nat_lt d.from.version v) (suc (started_below v ds)) 0
+
+abbrev pub IsRisingFrom : ℕ → List DeltaOf → Type 0
+IsRisingFrom n [] = Unit {0}
+IsRisingFrom n (d ∷ ds) = n ≤ d.from.version × IsRisingFrom d.from.version ds
 
 abbrev pub from_or : VersionAt → Option DeltaOf → VersionAt
 from_or head None = head
