@@ -4,30 +4,31 @@
 --     end_is             the hashed version at a version
 --     kept_at            what is kept for an id
 --     found_front, none_front    a place among the first deltas, and behind them
---     index_more         one more delta in the index
-use Rattle.std.proofs.Common.{◌≡◌, ◌≢◌, ℕ, zero, suc, ◌+◌, ◌<◌, ◌≤◌, Bool, true, false, cond, ◌||◌, ◌==◌, nat_lt, List, [], ◌∷◌, ◌++◌, length, take, drop, slice_get, Option, Some, None, refl, sym, ap, subst, ◌∙◌, arith, true≢false, append_assoc, append-nil, option_and_then}
+--     index_more, index_longer     one more delta in the index, and one that isn't
+--     legal_end          the point at the head
+--     hash_is, kept_here     the hash at a version, and what is kept, of the whole
+use Rattle.std.proofs.Common.{◌≡◌, ℕ, zero, suc, ◌+◌, ◌<◌, ◌≤◌, Bool, true, false, cond, ◌||◌, ◌==◌, nat_lt, List, [], ◌∷◌, ◌++◌, length, take, drop, slice_get, Option, Some, None, refl, sym, ap, subst, ◌∙◌, arith, true≢false, append_assoc, append-nil, option_and_then, unwrap_or}
 use Rattle.std.specs.Option.{option_map}
 use Rattle.std.proofs.lemmas.Bool.Decides.{nat_tests, Decides-eqb}
 use Rattle.doc_op.proofs.Applying.{no_value, same_Some}
 use Rattle.wave_base.specs.Versions.{IdOf, VersionAt, same_id}
 use Rattle.wave_base.proofs.Same.{same_id-is, same_id-refl}
 use Rattle.wavelet_op.specs.Deltas.{DeltaOf}
-use Rattle.wavelet_op.proofs.Partial.{and_then_some}
 use Rattle.delta_history.specs.declared.kept.Kept.{Kept}
-use Rattle.delta_history.specs.Points.{Point, start, next_point, replay, cut, point_at}
+use Rattle.delta_history.specs.Points.{Point, start, next_point, replay, cut, point_at, end_of}
 use Rattle.delta_history.specs.Legal.{has_id, IsNext, IsLegalFrom, IsLegal}
 use Rattle.delta_history.specs.Verdicts.{kept}
 use Rattle.delta_history.specs.Places.{started_below, IsRisingFrom, from_or, if_at, end_at, place_from, stands_at, Places, place_in, IsIndex, IsPut}
 use Rattle.delta_history.proofs.Points.{and_then_is, behind_point, replay_more, rises}
 use Rattle.delta_history.proofs.Chains.{starts_at, goes_from}
-use Rattle.delta_history.proofs.Versions.{IsCut, cut_is}
+use Rattle.delta_history.proofs.Versions.{cut_is}
 
 -- ---- tests of numbers
 
-lt_true : (a b : ℕ) → nat_lt a b ≡ true → a < b
+pub lt_true : (a b : ℕ) → nat_lt a b ≡ true → a < b
 lt_true a b h = grind (arith, nat_tests)
 
-lt_false : (a b : ℕ) → nat_lt a b ≡ false → b ≤ a
+pub lt_false : (a b : ℕ) → nat_lt a b ≡ false → b ≤ a
 lt_false a b h = grind (arith, nat_tests)
 
 true_lt : (a b : ℕ) → a < b → nat_lt a b ≡ true
@@ -125,16 +126,22 @@ end_from name b (d ∷ ds) p q v l e r = go (end_from name (b ++ d ∷ []) ds n.
   where
     n : IsNext name b d
     n = l.0
+
     z : next_point p d ≡ Some n.after
     z = goes_from name b d p e n
+
     from : d.from ≡ p.at
     from = starts_at name b d p e n
+
     rest : replay n.after ds ≡ Some q
     rest = sym (and_then_is (next_point p d) (λ y. replay y ds) n.after z) ∙ r
+
     same : (t : Bool) → nat_lt p.at.version v ≡ t → started_below v (d ∷ ds) ≡ cond t (suc (started_below v ds)) 0
     same t u = ap (λ (y : VersionAt). cond (nat_lt y.version v) (suc (started_below v ds)) 0) from ∙ ap (λ t. cond t (suc (started_below v ds)) 0) u
+
     ends : (t : Bool) → nat_lt p.at.version v ≡ t → end_at v q.at (d ∷ ds) ≡ if_at v (from_or q.at (slice_get (d ∷ ds) (cond t (suc (started_below v ds)) 0)))
     ends t u = ap (λ k. if_at v (from_or q.at (slice_get (d ∷ ds) k))) (same t u)
+
     go : at_of (cut n.after v ds) ≡ end_at v q.at ds → (t : Bool) → (p.at.version == v) ≡ t → (u : Bool) → nat_lt p.at.version v ≡ u → at_of (cut p v (d ∷ ds)) ≡ end_at v q.at (d ∷ ds)
     go again true t u f =
         let is = (Decides-eqb p.at.version v).0 t in
@@ -175,12 +182,16 @@ kept_at name b (d ∷ ds) p q i l e r = and_then_is (next_point p d) (λ y. cond
   where
     n : IsNext name b d
     n = l.0
+
     z : next_point p d ≡ Some n.after
     z = goes_from name b d p e n
+
     led : replay (start name) (b ++ d ∷ []) ≡ Some n.after
     led = replay_more (start name) p n.after b d e z
+
     rest : replay n.after ds ≡ Some q
     rest = sym (and_then_is (next_point p d) (λ y. replay y ds) n.after z) ∙ r
+
     go : kept i n.after ds ≡ option_and_then (stands_at q.at ds) (place_from i 0 ds) → (t : Bool) → cond t (Some (record { at = p.at.version; to = n.after.at })) (kept i n.after ds) ≡ option_and_then (stands_at q.at (d ∷ ds)) (cond t (Some 0) (place_from i 1 ds))
     go again true =
         let at : p.at.version ≡ d.from.version = ap (λ (y : VersionAt). y.version) (sym (starts_at name b d p e n)) in
@@ -209,6 +220,7 @@ back_place i m (suc n) (d ∷ ds) h e = go (same_id i d.id) (back_place i (suc m
   where
     sum : suc m + n ≡ m + suc n
     sum = omega arith
+
     go : (b : Bool) → (place_from i (suc m) (take n ds) ≡ None → place_from i (suc m) ds ≡ place_from i (suc m + n) (drop n ds)) → cond b (Some m) (place_from i (suc m) (take n ds)) ≡ None → cond b (Some m) (place_from i (suc m) ds) ≡ place_from i (m + suc n) (drop n ds)
     go true f h = no_value (sym h)
     go false f h = f h ∙ ap (λ z. place_from i z (drop n ds)) sum
@@ -240,6 +252,7 @@ own_place i m (suc n) (x ∷ ds) d e s f = go (same_id i x.id) f (own_place i (s
   where
     sum : suc m + n ≡ m + suc n
     sum = omega arith
+
     go : (b : Bool) → cond b (Some m) (place_from i (suc m) (take n ds)) ≡ None → (place_from i (suc m) (take n ds) ≡ None → place_from i (suc m) (take (suc n) ds) ≡ Some (suc m + n)) → cond b (Some m) (place_from i (suc m) (take (suc n) ds)) ≡ Some (m + suc n)
     go true h g = no_value (sym h)
     go false h g = g h ∙ ap Some sum
@@ -254,6 +267,7 @@ index_more name m m' n ds d l e x u i = u i ∙ go (same_id d.id i) refl
   where
     fresh : place_from d.id 0 (take n ds) ≡ None
     fresh = new_place d.id 0 (take n ds) (nth_next name [] ds n d l e).new
+
     go : (t : Bool) → same_id d.id i ≡ t → cond t (Some n) (place_in m i) ≡ place_from i 0 (take (suc n) ds)
     go true s =
         let is = same_id-is d.id i s in
@@ -263,3 +277,37 @@ index_more name m m' n ds d l e x u i = u i ∙ go (same_id d.id i) refl
         other : (t : Bool) → same_id i d.id ≡ t → same_id i d.id ≡ false
         other false h = h
         other true h = absurd (true≢false (sym (subst (λ z. same_id d.id z ≡ true) (sym (same_id-is i d.id h)) (same_id-refl d.id)) ∙ s))
+
+-- ---- the whole history
+
+legal_from : (name : List ℕ) (b ds : List DeltaOf) (p : Point) → IsLegalFrom name b ds → replay (start name) b ≡ Some p → (q : Point) × (replay p ds ≡ Some q)
+legal_from name b [] p l e = (p, refl)
+legal_from name b (d ∷ ds) p l e =
+    let z = goes_from name b d p e l.0 in
+    let r = legal_from name (b ++ d ∷ []) ds l.0.after l.1 (replay_more (start name) p l.0.after b d e z) in
+    (r.0, and_then_is (next_point p d) (λ y. replay y ds) l.0.after z ∙ r.1)
+
+pub legal_end : (name : List ℕ) (ds : List DeltaOf) → IsLegal name ds → replay (start name) ds ≡ Some (end_of name ds)
+legal_end name ds l =
+    let r = legal_from name [] ds (start name) l refl in
+    r.1 ∙ ap Some (sym (ap (λ o. unwrap_or o (start name)) r.1))
+
+pub hash_is : (name : List ℕ) (ds : List DeltaOf) (v : ℕ) → IsLegal name ds → option_map (λ a. a.hash) (end_at v (end_of name ds).at ds) ≡ option_map (λ p. p.at.hash) (point_at name ds v)
+hash_is name ds v l = ap (option_map (λ a. a.hash)) (sym (end_from name [] ds (start name) (end_of name ds) v l refl (legal_end name ds l))) ∙ go (cut (start name) v ds)
+  where
+    go : (o : Option (Point × List DeltaOf)) → option_map (λ a. a.hash) (at_of o) ≡ option_map (λ p. p.at.hash) (option_map (λ c. c.0) o)
+    go None = refl
+    go (Some c) = refl
+
+pub kept_here : (name : List ℕ) (ds : List DeltaOf) (i : IdOf) → IsLegal name ds → kept i (start name) ds ≡ option_and_then (stands_at (end_of name ds).at ds) (place_from i 0 ds)
+kept_here name ds i l = kept_at name [] ds (start name) (end_of name ds) i l refl (legal_end name ds l)
+
+-- ---- one delta more
+
+take_left : {A : Type 0} (n : ℕ) (xs ys : List A) → n ≤ length xs → take n (xs ++ ys) ≡ take n xs
+take_left zero xs ys h = refl
+take_left (suc n) [] ys h = absurd (omega (arith, h))
+take_left (suc n) (x ∷ xs) ys h = ap (λ z. x ∷ z) (take_left n xs ys (omega (arith, h)))
+
+pub index_longer : (m : Places) (n : ℕ) (ds : List DeltaOf) (d : DeltaOf) → n ≤ length ds → IsIndex m n ds → IsIndex m n (ds ++ d ∷ [])
+index_longer m n ds d h x i = x i ∙ ap (place_from i 0) (sym (take_left n ds (d ∷ []) h))

@@ -4,6 +4,8 @@
 mod ids;
 mod kept;
 mod laws;
+mod log;
+mod places;
 
 pub use kept::Kept;
 pub use laws::{points_hold, verdicts_hold};

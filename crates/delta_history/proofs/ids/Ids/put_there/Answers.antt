@@ -1,6 +1,5 @@
-use Rattle.std.proofs.Common.{◌≡◌, sym, ap, ◌∙◌, is_some, true≢false}
+use Rattle.std.proofs.Common.{sym, ap, ◌∙◌, is_some, true≢false}
 use Rattle.std.specs.Option.{option_copied_mut}
-use Rattle.delta_history.specs.Places.{id_at}
 use Rattle.delta_history.proofs.Indexes.{put_more, same_in, on_ok, on_err}
 use Rattle.delta_history.proofs.ids.Ids.put_there.Goals as goal
 
