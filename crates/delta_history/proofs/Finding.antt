@@ -6,8 +6,9 @@
 --     found_front, none_front    a place among the first deltas, and behind them
 --     index_more, index_longer     one more delta in the index, and one that isn't
 --     legal_end          the point at the head
+--     has_place, held_end     whether an id has a place; the bound on items
 --     hash_is, kept_here     the hash at a version, and what is kept, of the whole
-use Rattle.std.proofs.Common.{◌≡◌, ℕ, zero, suc, ◌+◌, ◌<◌, ◌≤◌, Bool, true, false, cond, ◌||◌, ◌==◌, nat_lt, List, [], ◌∷◌, ◌++◌, length, take, drop, slice_get, Option, Some, None, refl, sym, ap, subst, ◌∙◌, arith, true≢false, append_assoc, append-nil, option_and_then, unwrap_or}
+use Rattle.std.proofs.Common.{◌≡◌, ℕ, zero, suc, ◌+◌, ◌<◌, ◌≤◌, Bool, true, false, cond, ◌||◌, ◌==◌, nat_lt, List, [], ◌∷◌, ◌++◌, length, take, drop, slice_get, Option, Some, None, refl, sym, ap, subst, ◌∙◌, arith, true≢false, append_assoc, append-nil, is_some, option_and_then, unwrap_or}
 use Rattle.std.specs.Option.{option_map}
 use Rattle.std.proofs.lemmas.Bool.Decides.{nat_tests, Decides-eqb}
 use Rattle.doc_op.proofs.Applying.{no_value, same_Some}
@@ -16,7 +17,7 @@ use Rattle.wave_base.proofs.Same.{same_id-is, same_id-refl}
 use Rattle.wavelet_op.specs.Deltas.{DeltaOf}
 use Rattle.delta_history.specs.declared.kept.Kept.{Kept}
 use Rattle.delta_history.specs.Points.{Point, start, next_point, replay, cut, point_at, end_of}
-use Rattle.delta_history.specs.Legal.{has_id, IsNext, IsLegalFrom, IsLegal}
+use Rattle.delta_history.specs.Legal.{has_id, max_inserted, IsNext, IsLegalFrom, IsLegal}
 use Rattle.delta_history.specs.Verdicts.{kept}
 use Rattle.delta_history.specs.Places.{started_below, IsRisingFrom, from_or, if_at, end_at, place_from, stands_at, Places, place_in, IsIndex, IsPut}
 use Rattle.delta_history.proofs.Points.{and_then_is, behind_point, replay_more, rises}
@@ -311,3 +312,22 @@ take_left (suc n) (x ∷ xs) ys h = ap (λ z. x ∷ z) (take_left n xs ys (omega
 
 pub index_longer : (m : Places) (n : ℕ) (ds : List DeltaOf) (d : DeltaOf) → n ≤ length ds → IsIndex m n ds → IsIndex m n (ds ++ d ∷ [])
 index_longer m n ds d h x i = x i ∙ ap (place_from i 0) (sym (take_left n ds (d ∷ []) h))
+
+-- ---- what the whole tells
+
+pub has_place : (i : IdOf) (n : ℕ) (ds : List DeltaOf) → is_some (place_from i n ds) ≡ has_id i ds
+has_place i n [] = refl
+has_place i n (d ∷ ds) = go (same_id i d.id) (has_place i (suc n) ds)
+  where
+    go : (b : Bool) → is_some (place_from i (suc n) ds) ≡ has_id i ds → is_some (cond b (Some n) (place_from i (suc n) ds)) ≡ (b || has_id i ds)
+    go true h = refl
+    go false h = h
+
+held_from : (name : List ℕ) (b ds : List DeltaOf) (p q : Point) → IsLegalFrom name b ds → replay (start name) b ≡ Some p → replay p ds ≡ Some q → p.count ≤ max_inserted → q.count ≤ max_inserted
+held_from name b [] p q l e r h = subst (λ (z : Point). z.count ≤ max_inserted) (same_Some r) h
+held_from name b (d ∷ ds) p q l e r h =
+    let z = goes_from name b d p e l.0 in
+    held_from name (b ++ d ∷ []) ds l.0.after q l.1 (replay_more (start name) p l.0.after b d e z) (sym (and_then_is (next_point p d) (λ y. replay y ds) l.0.after z) ∙ r) l.0.held
+
+pub held_end : (name : List ℕ) (ds : List DeltaOf) → IsLegal name ds → (end_of name ds).count ≤ max_inserted
+held_end name ds l = held_from name [] ds (start name) (end_of name ds) l refl (legal_end name ds l) (omega arith)

@@ -4,4 +4,5 @@ pub mod Legal
 pub mod Passing
 pub mod Places
 pub mod Points
+pub mod Steps
 pub mod Verdicts

@@ -1,8 +1,8 @@
 // The deltas of a legal history, without its state.
-ghost use Rattle.std.specs.Prelude.{◌≡◌, ◌<◌, ◌++◌, ◌∷◌, [], slice_get, OnOk};
+ghost use Rattle.std.specs.Prelude.{◌≡◌, ◌≤◌, ◌<◌, ◌++◌, ◌∷◌, [], slice_get, OnOk};
 ghost use Rattle.std.specs.Option.{option_map};
 ghost use Rattle.delta_history.specs.Histories.{head_of, hash_found, IsSameHistory, IsGrown};
-ghost use Rattle.delta_history.specs.Legal.{IsLegal, IsNext};
+ghost use Rattle.delta_history.specs.Legal.{has_id, max_inserted, IsLegal, IsNext};
 ghost use Rattle.delta_history.specs.Places.{place_from, stands_at, from_or, if_at};
 ghost use Rattle.delta_history.specs.Points.{start, end_of};
 ghost use Rattle.delta_history.specs.Verdicts.{kept};
@@ -90,7 +90,8 @@ impl Log {
 
     /// The number of items that the deltas insert.
     pub fn inserted(&self) -> u64
-        ensures { result ≡ (head_of self.now).count }
+        ensures value { result ≡ (head_of self.now).count }
+        ensures bound { result ≤ max_inserted }
     {
         self.inserted
     }
@@ -121,6 +122,13 @@ impl Log {
             Some(place) => Some(place),
             None => place_from(self.list.as_slice(), self.indexed, id),
         }
+    }
+
+    /// Whether a delta has the id.
+    pub fn has(&self, id: &DeltaId) -> bool
+        ensures { result ≡ has_id id.now self.now.deltas }
+    {
+        self.place(id).is_some()
     }
 
     // Where the delta at a place stands.
