@@ -5,3 +5,4 @@ pub mod Keeping
 pub mod Judges
 pub mod Indexes
 pub mod Finding
+pub mod Pushes

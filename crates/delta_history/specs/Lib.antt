@@ -4,5 +4,6 @@ pub mod Legal
 pub mod Passing
 pub mod Places
 pub mod Points
+pub mod Pushes
 pub mod Steps
 pub mod Verdicts

@@ -2,6 +2,7 @@
 #![tactic(auto)]
 
 mod fault;
+mod history;
 mod ids;
 mod kept;
 mod laws;
@@ -10,5 +11,6 @@ mod places;
 mod step;
 
 pub use fault::HistoryFault;
+pub use history::{History, Prepared};
 pub use kept::Kept;
 pub use laws::{points_hold, verdicts_hold};

@@ -96,6 +96,13 @@ impl Log {
         self.inserted
     }
 
+    /// The number of deltas that there is room for.
+    pub fn spare(&self) -> u64
+        ensures { result ≡ self.now.spare }
+    {
+        (self.list.capacity() - self.list.len()) as u64
+    }
+
     // The hashed version at which the delta at a place was applied, or the head behind the last.
     fn at(&self, place: usize) -> HashedVersion
         ensures { result ≡ from_or (head_of self.now).at (slice_get self.now.deltas place) }
