@@ -1,0 +1,9 @@
+pub mod Histories
+pub mod Laws
+pub mod Legal
+pub mod Passing
+pub mod Places
+pub mod Points
+pub mod Pushes
+pub mod Steps
+pub mod Verdicts

@@ -1,0 +1,16 @@
+//! The history of a wavelet: which deltas it may have, the points that it leads through, and what becomes of a submission.
+#![tactic(auto)]
+
+mod fault;
+mod history;
+mod ids;
+mod kept;
+mod laws;
+mod log;
+mod places;
+mod step;
+
+pub use fault::HistoryFault;
+pub use history::{History, Prepared};
+pub use kept::Kept;
+pub use laws::{points_hold, verdicts_hold};

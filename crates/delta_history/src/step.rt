@@ -1,0 +1,117 @@
+// What is tested of the next delta, its state apart.
+ghost use Rattle.std.specs.Prelude.{◌≡◌, ◌≤◌, ◌<◌, ◌*◌, ℕ, length, take, true, IfOk, MatchOption, MatchResult};
+ghost use Rattle.wavelet_codec.specs.Spelling.{delta_bytes};
+ghost use Rattle.wavelet_op.specs.Acts.{inserted_act, inserted, meaning, meanings};
+ghost use Rattle.delta_history.specs.Histories.{head_of};
+ghost use Rattle.delta_history.specs.Legal.{max_inserted, max_delta};
+ghost use Rattle.delta_history.specs.Steps.{step_behind, IsWithin, IsFitting, IsUnfit};
+ghost use Rattle.doc_items.specs.Limits.{max_count};
+
+use crate::HistoryFault;
+use crate::log::Log;
+use doc_items::{MAX_COUNT, Memory};
+use std::alloc::Global;
+use wave_base::HashedVersion;
+use wave_hash::next_hash;
+use wavelet_codec::{applied_len, write_applied};
+use wavelet_op::{AppliedDelta, Ops, WaveletOp};
+
+// The most items that the deltas of one history insert together.
+const MAX_INSERTED: u64 = 1 << 40;
+
+// The most bytes of a delta.
+const MAX_DELTA: u64 = 1 << 20;
+
+/// What a delta leads to: the hashed version behind it, and how many items are inserted up to there.
+#[derive(Clone, Copy, Drop)]
+pub(crate) struct Step {
+    pub to: HashedVersion,
+    pub inserted: u64,
+}
+
+// The number of items that an operation inserts.
+#[tactic(auto, unfolding(wavelet_op::specs::Acts::inserted_act))]
+fn inserted_by(op: &WaveletOp) -> u64
+    ensures value { result ≡ inserted_act (meaning op.now) }
+    ensures bound { result ≤ max_count }
+{
+    match op {
+        WaveletOp::NoOp => 0,
+        WaveletOp::Add(_) => 0,
+        WaveletOp::Remove(_) => 0,
+        WaveletOp::Mutate { op, .. } => op.inserted(),
+        WaveletOp::SetRole { .. } => 0,
+    }
+}
+
+// The number of items that operations insert.
+fn inserted(ops: &Ops) -> u64
+    ensures value { result ≡ inserted (meanings ops.now) }
+    ensures bound { result ≤ 1000 * max_count }
+{
+    let list = ops.as_slice();
+    let mut sum = 0;
+    for op in list {
+        sum += inserted_by(op);
+    }
+    sum
+}
+
+// The bytes of a delta; None where they are more than a delta may have.
+fn bytes(alloc: Global, delta: &AppliedDelta) -> Result<Option<Vec<u8>>, Memory>
+    ensures { IfOk result (λ o. MatchOption o (max_delta < length (delta_bytes delta.now)) (λ v. (v.items ≡ delta_bytes delta.now) × (length v.items ≤ max_delta))) }
+{
+    if applied_len(alloc, delta)? > MAX_DELTA {
+        return Ok(None);
+    }
+    let mut bytes = Vec::new(alloc);
+    write_applied(alloc, delta, &mut bytes)?;
+    Ok(Some(bytes))
+}
+
+// What a delta leads to from a hashed version, where so many items were inserted; None where a bound is broken.
+fn step_behind(
+    alloc: Global,
+    at: HashedVersion,
+    count: u64,
+    delta: &AppliedDelta,
+) -> Result<Option<Step>, Memory>
+    requires { count ≤ max_inserted }
+    ensures { IfOk result (λ o. MatchOption o (¬ (IsWithin at count delta.now)) (λ s. IsWithin at count delta.now × (s ≡ step_behind at count delta.now))) }
+{
+    let version = at.version + delta.ops.len();
+    let inserted = count + inserted(&delta.ops);
+    if version > MAX_COUNT || inserted > MAX_INSERTED {
+        return Ok(None);
+    }
+    let Some(bytes) = bytes(alloc, delta)? else {
+        return Ok(None);
+    };
+    let hash = next_hash(&at.hash, bytes.as_slice());
+    Ok(Some(Step {
+        to: HashedVersion { version, hash },
+        inserted,
+    }))
+}
+
+/// What a delta leads to from the head. Refusals: `NotNext`, then `NotLegal` where its id isn't new or a bound is broken.
+pub(crate) fn next_step(
+    alloc: Global,
+    log: &Log,
+    delta: &AppliedDelta,
+) -> Result<Step, HistoryFault>
+    ensures { MatchResult result (λ s. IsFitting log.now delta.now × (s ≡ step_behind (head_of log.now).at (head_of log.now).count delta.now)) (IsUnfit log.now delta.now) }
+{
+    let have = log.head();
+    let got = delta.from;
+    if got != have {
+        return Err(HistoryFault::NotNext { have, got });
+    }
+    if log.has(&delta.id) {
+        return Err(HistoryFault::NotLegal);
+    }
+    match step_behind(alloc, have, log.inserted(), delta)? {
+        Some(step) => Ok(step),
+        None => Err(HistoryFault::NotLegal),
+    }
+}
