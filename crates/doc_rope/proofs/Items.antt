@@ -1,8 +1,10 @@
 -- Where an item, and a run of items, stands in its pieces.
 use Rattle.std.proofs.Common.{◌≡◌, ℕ, zero, suc, ◌+◌, ◌-◌, ◌<◌, ◌≤◌, List, [], ◌∷◌, ◌++◌, length, take, drop, refl, sym, ap, ◌∙◌, append_assoc, arith, slice_get}
-use Rattle.std.proofs.lemmas.List.{take-append-drop, drop-append-le, take_at, length-drop, length-append}
+use Rattle.std.proofs.lemmas.List.{take-append-drop, drop-append-le, take_at, length-drop, length-append, drop-drop, drop-take}
 use Rattle.std.proofs.Math.Seq.{drop-append-add}
+use Rattle.doc_items.specs.declared.item.Item.{Item}
 use Rattle.doc_rope.specs.Pieces.{total, joined}
+use Rattle.doc_rope.specs.Runs.{IsRun}
 use Rattle.doc_rope.proofs.Laws.{joined_append, length_joined}
 
 get_left : {T : Type 0} (xs ys : List T) (k : ℕ) → k < length xs → slice_get (xs ++ ys) k ≡ slice_get xs k
@@ -62,3 +64,16 @@ run_inside xs r k e h =
     let whole = ap length (sym (take-append-drop (length r) (drop k xs)) ∙ ap (λ w. w ++ drop (length r) (drop k xs)) e) ∙ length-append r (drop (length r) (drop k xs)) in
     let left = length-drop k xs in
     omega (arith, whole, left, h)
+
+pub run_further : (items run : List Item) (p k : ℕ) → take (length run) (drop p items) ≡ run → k < length run → IsRun items (p + k) (drop k run)
+run_further items run p k e h =
+    let m = length run - k in
+    let n = length-drop k run in
+    let whole : k + m ≡ length run = omega (arith, h) in (
+      ap (λ w. take w (drop (p + k) items)) n
+          ∙ ap (take m) (sym (drop-drop k p items))
+          ∙ sym (drop-take k m (drop p items))
+          ∙ ap (λ w. drop k (take w (drop p items))) whole
+          ∙ ap (drop k) e,
+      λ z. absurd (omega (arith, n, z, h)),
+    )

@@ -2,21 +2,25 @@
 --     pieces       the pieces from left to right
 --     total        how many items stand in some pieces
 --     joined       the items of some pieces, in order
---     IsSound      each count is right, and each piece has room for 512 items
+--     IsSound      each count is right, and each shape
 --     add_last     one more piece at the end, put into the last one where both fit into one
 --     sized        a piece has 1 to 512 items
 --     apart        a piece and the next one wouldn't fit into one
 --     IsPacked     each piece is sized and apart from the next
 --     glued        two packed lists of pieces as one
+--     IsSpare      a node without items
 --     InPieces     what holds of each rope: a sound tree of packed pieces with at most max_count items
-use Rattle.std.specs.Prelude.{◌≡◌, ℕ, ◌+◌, ◌≤◌, Bool, true, cond, ◌&&◌, List, [], ◌∷◌, ◌++◌, length, ◌==◌, nat_le, nat_lt, vec_capacity}
+use Rattle.std.specs.Prelude.{◌≡◌, ℕ, ◌+◌, ◌≤◌, Bool, true, cond, ◌&&◌, List, [], ◌∷◌, ◌++◌, length, ◌==◌, nat_le, nat_lt}
 use Rattle.doc_items.specs.Limits.{max_count}
+use Rattle.doc_items.specs.declared.item.Item.{Item}
+use Rattle.doc_rope.specs.Shapes.{shape_of, same_shape}
+use Rattle.doc_rope.specs.declared.tree.Node.{Node}
 use Rattle.doc_rope.specs.declared.tree.Tree.{Tree}
 use Rattle.doc_rope.specs.declared.tree.Tree.TheVariants.{Empty, Fork'}
 
-abbrev pub pieces : {T : Type 0} → Tree T → List (List T)
+abbrev pub pieces : Tree → List (List Item)
 pieces Empty = []
-pieces (Fork' p left piece right count height) = pieces left ++ piece.items ∷ pieces right
+pieces (Fork' p left piece right count shape height) = pieces left ++ piece ∷ pieces right
 
 abbrev pub total : {T : Type 0} → List (List T) → ℕ
 total [] = 0
@@ -26,11 +30,11 @@ abbrev pub joined : {T : Type 0} → List (List T) → List T
 joined [] = []
 joined (p ∷ ps) = p ++ joined ps
 
-abbrev pub is_sound : {T : Type 0} → Tree T → Bool
+abbrev pub is_sound : Tree → Bool
 is_sound Empty = true
-is_sound (Fork' p left piece right count height) = count == total (pieces left ++ piece.items ∷ pieces right) && nat_le 512 (vec_capacity piece) && is_sound left && is_sound right
+is_sound (Fork' p left piece right count shape height) = count == total (pieces left ++ piece ∷ pieces right) && same_shape shape (shape_of (joined (pieces left ++ piece ∷ pieces right))) && is_sound left && is_sound right
 
-abbrev pub IsSound : {T : Type 0} → Tree T → Type 0
+abbrev pub IsSound : Tree → Type 0
 IsSound t = is_sound t ≡ true
 
 abbrev pub add_last : {T : Type 0} → List (List T) → List T → List (List T)
@@ -57,7 +61,10 @@ abbrev pub glued : {T : Type 0} → List (List T) → List (List T) → List (Li
 glued xs [] = xs
 glued xs (q ∷ ys) = add_last xs q ++ ys
 
-pub record InPieces {T : Type 0} (t : Tree T) : Type 0 where
+abbrev pub IsSpare : Node → Type 0
+IsSpare n = n.piece ≡ []
+
+pub record InPieces (t : Tree) : Type 0 where
   pub sound : IsSound t
   pub packed : IsPacked (pieces t)
   pub bound : total (pieces t) ≤ max_count

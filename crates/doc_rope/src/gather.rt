@@ -1,36 +1,40 @@
 // Trees made of items, and the items copied out of trees.
-ghost use Rattle.std.specs.Prelude.{◌≡◌, ℕ, ◌+◌, ◌^◌, ◌<◌, ◌≤◌, ◌∷◌, ◌++◌, [], List, length, vec_capacity, IfOk, OnOk};
+ghost use Rattle.std.specs.Prelude.{◌≡◌, ℕ, ◌+◌, ◌^◌, ◌<◌, ◌≤◌, ◌∷◌, ◌++◌, [], List, length, IfOk, OnOk};
 ghost use Rattle.doc_rope.specs.Pieces.{pieces, IsSound, total, IsPacked, joined};
 
 use crate::ends::concat;
-use crate::halves::move_tail;
-use crate::tree::{Node, PIECE, Tree};
+use crate::piece::{PIECE, Piece, copy_items};
+use crate::shape::Shape;
+use crate::tree::{Node, Tree};
 use crate::turns::fork;
 use doc_items::{Item, Memory};
 use std::alloc::Global;
 
-// A piece without items that has room for 512.
-pub fn spare<T: Drop>(alloc: Global) -> Result<Box<Node<T>>, Memory>
-    ensures empty { IfOk result (λ b. b.value.piece.items ≡ []) }
-    ensures room { IfOk result (λ b. PIECE ≤ vec_capacity b.value.piece) }
+// A node by itself.
+fn node_of(alloc: Global, piece: Piece) -> Result<Box<Node>, Memory>
+    ensures { IfOk result (λ b. b.value.piece ≡ piece) }
 {
-    let piece = Vec::with_capacity(alloc, PIECE)?;
     let node = Node {
         left: Tree::Empty,
         piece,
         right: Tree::Empty,
         count: 0,
+        shape: Shape::none(),
         height: 0,
     };
     Ok(Box::new(alloc, node)?)
 }
 
+// A node without items.
+pub fn spare(alloc: Global) -> Result<Box<Node>, Memory>
+    ensures { IfOk result (λ b. b.value.piece ≡ []) }
+{
+    let piece = Piece::new(alloc)?;
+    node_of(alloc, piece)
+}
+
 // Moves the last items, as many as fill a piece, to the front of the tree.
-pub fn move_last<T: Drop>(
-    alloc: Global,
-    items: &mut Vec<T>,
-    tree: Tree<T>,
-) -> Result<Tree<T>, Memory>
+pub fn move_last(alloc: Global, items: &mut Vec<Item>, tree: Tree) -> Result<Tree, Memory>
     requires some { 0 < length items.old.items }
     requires sound { IsSound tree }
     requires packed { IsPacked (pieces tree) }
@@ -43,20 +47,19 @@ pub fn move_last<T: Drop>(
 {
     let mut node = spare(alloc)?;
     let at = items.len().saturating_sub(PIECE);
-    move_tail(items, at, &mut node.piece);
+    node.piece.take_tail(items, at);
     Ok(put_first(node, tree))
 }
 
 // One more piece in front.
-pub fn put_first<T: Drop>(node: Box<Node<T>>, tree: Tree<T>) -> Tree<T>
-    requires some { 0 < length node.value.piece.items }
-    requires short { length node.value.piece.items ≤ PIECE }
-    requires room { PIECE ≤ vec_capacity node.value.piece }
+pub fn put_first(node: Box<Node>, tree: Tree) -> Tree
+    requires some { 0 < length node.value.piece }
+    requires short { length node.value.piece ≤ PIECE }
     requires sound { IsSound tree }
     requires packed { IsPacked (pieces tree) }
-    requires fits { length node.value.piece.items + total (pieces tree) < 2 ^ 64 }
-    ensures joined { joined (pieces result) ≡ node.value.piece.items ++ joined (pieces tree) }
-    ensures count { total (pieces result) ≡ length node.value.piece.items + total (pieces tree) }
+    requires fits { length node.value.piece + total (pieces tree) < 2 ^ 64 }
+    ensures joined { joined (pieces result) ≡ node.value.piece ++ joined (pieces tree) }
+    ensures count { total (pieces result) ≡ length node.value.piece + total (pieces tree) }
     ensures sound { IsSound result }
     ensures packed { IsPacked (pieces result) }
 {
@@ -65,7 +68,7 @@ pub fn put_first<T: Drop>(node: Box<Node<T>>, tree: Tree<T>) -> Tree<T>
 }
 
 // The tree of these items, in pieces of 512 behind a first one of at most 512.
-pub fn gather<T: Drop>(alloc: Global, mut items: Vec<T>) -> Result<Tree<T>, Memory>
+pub fn gather(alloc: Global, mut items: Vec<Item>) -> Result<Tree, Memory>
     requires fits { length items.items < 2 ^ 64 }
     ensures joined { IfOk result (λ t. joined (pieces t) ≡ items.items) }
     ensures count { IfOk result (λ t. total (pieces t) ≡ length items.items) }
@@ -79,27 +82,16 @@ pub fn gather<T: Drop>(alloc: Global, mut items: Vec<T>) -> Result<Tree<T>, Memo
     Ok(tree)
 }
 
-// Puts copies of the items behind those of `to`.
-fn copy_items(items: &[Item], alloc: Global, to: &mut Vec<Item>) -> Result<(), Memory>
-    ensures items { OnOk result (to.new.items ≡ to.old.items ++ items.now) }
-    ensures room { OnOk result (vec_capacity to.old ≤ vec_capacity to.new) }
-{
-    for item in items {
-        to.push(item.copy(alloc)?)?;
-    }
-    Ok(())
-}
-
 // Puts copies of the tree's items behind those of `to`.
 #[tactic(auto, using(crate::proofs::Laws::copied_out))]
-pub fn copy_out(tree: &Tree<Item>, alloc: Global, to: &mut Vec<Item>) -> Result<(), Memory>
+pub fn copy_out(tree: &Tree, alloc: Global, to: &mut Vec<Item>) -> Result<(), Memory>
     ensures { OnOk result (to.new.items ≡ to.old.items ++ joined (pieces tree.now)) }
 {
     match tree {
         Tree::Empty => Ok(()),
         Tree::Fork(node) => {
             copy_out(&node.left, alloc, to)?;
-            copy_items(&node.piece, alloc, to)?;
+            copy_items(node.piece.as_slice(), alloc, to)?;
             copy_out(&node.right, alloc, to)?;
             Ok(())
         }
@@ -108,7 +100,7 @@ pub fn copy_out(tree: &Tree<Item>, alloc: Global, to: &mut Vec<Item>) -> Result<
 
 // A tree of equal pieces.
 #[tactic(auto, using(crate::proofs::Laws::fits_again))]
-pub fn copy_tree(tree: &Tree<Item>, alloc: Global) -> Result<Tree<Item>, Memory>
+pub fn copy_tree(tree: &Tree, alloc: Global) -> Result<Tree, Memory>
     requires { IsSound tree.now }
     ensures pieces { IfOk result (λ t. pieces t ≡ pieces tree.now) }
     ensures sound { IfOk result (λ t. IsSound t) }
@@ -118,8 +110,7 @@ pub fn copy_tree(tree: &Tree<Item>, alloc: Global) -> Result<Tree<Item>, Memory>
         Tree::Empty => Ok(Tree::Empty),
         Tree::Fork(node) => {
             let left = copy_tree(&node.left, alloc)?;
-            let mut middle = spare(alloc)?;
-            copy_items(&node.piece, alloc, &mut middle.piece)?;
+            let middle = node_of(alloc, node.piece.copy(alloc)?)?;
             let right = copy_tree(&node.right, alloc)?;
             Ok(fork(left, middle, right))
         }

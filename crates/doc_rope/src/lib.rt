@@ -5,10 +5,18 @@
 mod ends;
 mod gather;
 mod halves;
+mod insertion;
+mod piece;
+mod reader;
+mod replacement;
 mod rope;
+mod shape;
 #[cfg(test)]
 mod tests;
 mod tree;
 mod turns;
 
+pub use insertion::Insertion;
+pub use reader::Reader;
+pub use replacement::Replacement;
 pub use rope::Rope;

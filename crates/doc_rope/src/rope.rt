@@ -1,13 +1,14 @@
 // A document in pieces.
-ghost use Rattle.std.specs.Prelude.{◌≡◌, ℕ, ◌+◌, ◌<◌, ◌≤◌, ◌++◌, [], List, length, take, drop, IfOk, IfSome, IfNone, OnOk, OnErr, slice_get};
+ghost use Rattle.std.specs.Prelude.{◌≡◌, ◌↔◌, ℕ, ◌+◌, ◌^◌, ◌<◌, ◌≤◌, ◌++◌, [], List, IsTrue, length, take, drop, IfOk, IfSome, IfNone, OnOk, OnErr, slice_get};
 ghost use Rattle.std.specs.Option.{option_copied};
+ghost use Rattle.doc_items.specs.Balance.{Balanced};
 ghost use Rattle.doc_items.specs.Limits.{max_count};
-ghost use Rattle.doc_rope.specs.Pieces.{pieces, joined, InPieces};
+ghost use Rattle.doc_rope.specs.Pieces.{pieces, joined, total, IsSound, IsPacked, InPieces};
+ghost use Rattle.doc_rope.specs.Replacements.{all_replaced, InOrder, put_in};
 
-use crate::ends::concat;
-use crate::gather::{copy_out, copy_tree, gather, spare};
-use crate::halves::cut;
+use crate::gather::{copy_out, copy_tree, gather};
 use crate::tree::Tree;
+use crate::{Insertion, Reader, Replacement};
 use doc_items::{Document, Item, Memory};
 use std::alloc::Global;
 use std::marker::Model;
@@ -17,7 +18,7 @@ use std::mem;
 /// of which no two neighbours would fit into one, under a tree that counts them.
 #[derive(Drop)]
 pub struct Rope {
-    tree: Tree<Item>,
+    tree: Tree,
     alloc: Global,
 }
 
@@ -65,6 +66,15 @@ impl Rope {
         self.tree.count() as u64
     }
 
+    /// Whether each element's end has its start before it, and each start its end. It is kept, and not counted anew.
+    #[tactic(auto, using(crate::proofs::Shapes::balanced_shape, crate::proofs::Shapes::shape_balanced))]
+    pub fn is_balanced(&self) -> bool
+        ensures { IsTrue result ↔ Balanced self.now }
+    {
+        let shape = self.tree.shape();
+        shape.ends == 0 && shape.starts == 0
+    }
+
     /// The item at a place, counted from 0; None exactly where the place isn't below the length.
     pub fn item(&self, place: u64) -> Option<&Item>
         ensures { option_copied result ≡ slice_get self.now place }
@@ -82,6 +92,13 @@ impl Rope {
         ensures none { IfNone result (length self.now ≤ place) }
     {
         self.tree.run(place as usize)
+    }
+
+    /// A walk over the items, in order.
+    pub fn reader(&self) -> Reader<'_>
+        ensures { result ≡ self.now }
+    {
+        Reader::new(self)
     }
 
     /// A document of equal items, in order. The error is want of memory.
@@ -102,24 +119,66 @@ impl Rope {
         Ok(Rope { tree, alloc })
     }
 
+    /// The document's items, ready to be put into a rope: all the memory that this takes is taken here. The error is want of
+    /// memory.
+    pub fn ready(alloc: Global, document: Document) -> Result<Insertion, Memory>
+        ensures { IfOk result (λ i. i ≡ document) }
+    {
+        Insertion::new(alloc, document.into_vec())
+    }
+
+    /// Puts the items in place of the `count` items from place `from` on; all other items stay, in order. Those `count` items
+    /// lie in the rope, and at most `MAX_COUNT` items result. It takes no memory, and so can't fail.
+    #[tactic(auto, using(crate::proofs::Laws::length_joined))]
+    pub fn put(&mut self, from: u64, count: u64, items: Insertion)
+        requires inside { from + count ≤ length self.old }
+        requires bound { length self.old + length items ≤ max_count + count }
+        ensures { self.new ≡ take from self.old ++ items ++ drop (from + count) self.old }
+    {
+        let tree = mem::replace(&mut self.tree, Tree::Empty);
+        self.tree = items.put_into(tree, from as usize, count as usize);
+    }
+
+    /// Puts all the items in their places, which are places of the rope as it is now. They stand one behind another in the
+    /// rope, and at most `MAX_COUNT` items result. It takes no memory, and so can't fail.
+    pub fn put_all(&mut self, replacements: Vec<Replacement>)
+        requires inside { InOrder 0 replacements.items (length self.old) }
+        requires bound { length (all_replaced replacements.items self.old) ≤ max_count }
+        ensures { self.new ≡ all_replaced replacements.items self.old }
+    {
+        let tree = mem::replace(&mut self.tree, Tree::Empty);
+        self.tree = put_each(tree, replacements);
+    }
+
     /// Puts the document's items in place of the `count` items from place `from` on; all other items stay, in order. Those
     /// `count` items lie in the rope, and at most `MAX_COUNT` items result.
     /// After want of memory the rope is as it was. All memory is taken before the rope changes.
-    #[tactic(auto, using(crate::proofs::Laws::length_joined, crate::proofs::Seams::total_glued, crate::proofs::Seams::packed_glued, crate::proofs::Seams::joined_glued, crate::proofs::Laws::spliced))]
     pub fn splice(&mut self, from: u64, count: u64, items: Document) -> Result<(), Memory>
         requires inside { from + count ≤ length self.old }
         requires bound { length self.old + length items ≤ max_count + count }
         ensures ok { OnOk result (self.new ≡ take from self.old ++ items ++ drop (from + count) self.old) }
         ensures err { OnErr result (self.new ≡ self.old) }
     {
-        let middle = gather(self.alloc, items.into_vec())?;
-        let first = spare(self.alloc)?;
-        let second = spare(self.alloc)?;
-        let tree = mem::replace(&mut self.tree, Tree::Empty);
-        let outer = cut(tree, from as usize, first);
-        let inner = cut(outer.after, count as usize, second);
-        let start = concat(outer.before, middle);
-        self.tree = concat(start, inner.after);
+        let items = Rope::ready(self.alloc, items)?;
+        self.put(from, count, items);
         Ok(())
     }
+}
+
+// The tree with each of the replacements made, the last one first.
+fn put_each(mut tree: Tree, mut replacements: Vec<Replacement>) -> Tree
+    requires sound { IsSound tree }
+    requires packed { IsPacked (pieces tree) }
+    requires inside { InOrder 0 replacements.items (total (pieces tree)) }
+    requires fits { total (pieces tree) + put_in replacements.items < 2 ^ 64 }
+    ensures joined { joined (pieces result) ≡ all_replaced replacements.items (joined (pieces tree)) }
+    ensures sound { IsSound result }
+    ensures packed { IsPacked (pieces result) }
+{
+    while let Some(next) = replacements.pop() {
+        tree = next
+            .items
+            .put_into(tree, next.from as usize, next.count as usize);
+    }
+    tree
 }

@@ -1,5 +1,5 @@
-use crate::Rope;
-use doc_items::{Content, Document, Item, Notes};
+use crate::{Reader, Rope};
+use doc_items::{Attributes, Content, Document, Item, Notes, Text};
 use std::alloc::{AllocError, Global};
 use std::test::Fail;
 
@@ -149,5 +149,81 @@ fn splices_are_those_of_a_plain_list(rt: HostRuntime) -> Result<(), Fail> {
         plain = splice_plain(alloc, plain.as_slice(), from, count, items.as_slice())?;
         assert!(rt; is_list(alloc, &rope, plain.as_slice())?);
     }
+    Ok(())
+}
+
+// `<` is a start and `>` an end.
+fn elements(alloc: Global, contents: &str) -> Result<Document, AllocError> {
+    let mut items = Vec::new(alloc);
+    for c in contents.chars() {
+        let content = if c == '<' {
+            Content::Start {
+                kind: Text::from_str(alloc, "p")?,
+                attributes: Attributes::new(alloc),
+            }
+        } else if c == '>' {
+            Content::End
+        } else {
+            Content::Character(c)
+        };
+        let notes = Notes::new(alloc);
+        items.push(Item { content, notes })?;
+    }
+    if items.len() > 1_000_000 {
+        return Err(AllocError);
+    }
+    Ok(Document::from_vec(items))
+}
+
+#[test]
+fn balance_is_kept(rt: HostRuntime) -> Result<(), Fail> {
+    let alloc = rt.alloc();
+    let rows = [
+        ("", true),
+        ("ab", true),
+        ("<a<>b>", true),
+        ("><", false),
+        ("<<>", false),
+        ("<>>", false),
+    ];
+    for (contents, want) in rows {
+        let rope = Rope::from_list(alloc, elements(alloc, contents)?)?;
+        assert_eq!(rt; rope.is_balanced(), want, "{contents}");
+    }
+    // The element's start and end stand in different pieces.
+    let mut rope = Rope::from_list(alloc, letters(alloc, 48, 1537)?)?;
+    splice(&mut rope, 0, 0, elements(alloc, "<")?)?;
+    assert!(rt; !rope.is_balanced());
+    splice(&mut rope, 1538, 0, elements(alloc, ">")?)?;
+    assert!(rt; rope.is_balanced());
+    splice(&mut rope, 700, 1, elements(alloc, "><")?)?;
+    assert!(rt; rope.is_balanced());
+    splice(&mut rope, 0, 1, Document::new(alloc))?;
+    assert!(rt; !rope.copy(alloc)?.is_balanced());
+    Ok(())
+}
+
+fn first_is(reader: &Reader<'_>, letter: char) -> bool {
+    match reader.first() {
+        Some(item) => is_letter(item, letter),
+        None => false,
+    }
+}
+
+#[test]
+fn a_reader_passes_over_pieces(rt: HostRuntime) -> Result<(), Fail> {
+    let alloc = rt.alloc();
+    let rope = Rope::from_list(alloc, letters(alloc, 19_968, 1537)?)?;
+    let mut reader = rope.reader();
+    let mut place = 0u32;
+    for count in [1u32, 511, 0, 512, 500, 12, 1] {
+        assert!(rt; first_is(&reader, letter(19_968u32.wrapping_add(place))));
+        if count as u64 <= reader.len() {
+            reader.skip(count as u64);
+        }
+        place = place.wrapping_add(count);
+    }
+    assert_eq!(rt; reader.len(), 0);
+    assert!(rt; reader.first().is_none());
     Ok(())
 }

@@ -1,40 +1,45 @@
 // A tree of pieces with their counts.
-ghost use Rattle.std.specs.Prelude.{◌≡◌, ℕ, ◌+◌, ◌^◌, ◌<◌, ◌≤◌, ◌==◌, ◌∷◌, ◌++◌, [], List, length, vec_capacity, true, false, slice_get, option_copied, take, drop, IfSome, IfNone};
+ghost use Rattle.std.specs.Prelude.{◌≡◌, ℕ, ◌+◌, ◌^◌, ◌<◌, ◌≤◌, ◌==◌, ◌∷◌, ◌++◌, [], List, length, true, false, slice_get, option_copied, take, drop, IfSome, IfNone};
 ghost use Rattle.doc_rope.specs.Pieces.{pieces, IsSound, total, joined};
+ghost use Rattle.doc_rope.specs.Shapes.{shape_of};
 
-pub const PIECE: usize = 512;
+use crate::piece::Piece;
+use crate::shape::Shape;
+use doc_items::Item;
 
 #[cycle(tree)]
 #[derive(Drop)]
-pub enum Tree<T> {
+pub enum Tree {
     Empty,
-    Fork(Box<Node<T>>),
+    Fork(Box<Node>),
 }
 
 #[cycle(tree)]
 #[derive(Drop)]
-pub struct Node<T> {
-    pub left: Tree<T>,
-    pub piece: Vec<T>,
-    pub right: Tree<T>,
+pub struct Node {
+    pub left: Tree,
+    pub piece: Piece,
+    pub right: Tree,
+    // How many items stand below, and their shape.
     pub count: usize,
+    pub shape: Shape,
     pub height: usize,
 }
 
-fn piece_item<T: Drop>(piece: &Vec<T>, at: usize) -> Option<&T>
-    ensures { option_copied result ≡ slice_get piece.now.items at }
+fn piece_item(piece: &Piece, at: usize) -> Option<&Item>
+    ensures { option_copied result ≡ slice_get piece.now at }
 {
-    piece.get(at)
+    piece.as_slice().get(at)
 }
 
-fn piece_run<T: Drop>(piece: &Vec<T>, at: usize) -> &[T]
-    requires { at ≤ length piece.now.items }
-    ensures { result.now ≡ drop at piece.now.items }
+fn piece_run(piece: &Piece, at: usize) -> &[Item]
+    requires { at ≤ length piece.now }
+    ensures { result.now ≡ drop at piece.now }
 {
     piece.as_slice().split_at(at).1
 }
 
-impl<T: Drop> Tree<T> {
+impl Tree {
     pub fn count(&self) -> usize
         requires { IsSound self.now }
         ensures { result ≡ total (pieces self.now) }
@@ -42,6 +47,18 @@ impl<T: Drop> Tree<T> {
         match self {
             Tree::Empty => 0,
             Tree::Fork(node) => node.count,
+        }
+    }
+
+    // The shape of all items.
+    #[tactic(auto, using(crate::proofs::Shapes::shape_is))]
+    pub fn shape(&self) -> Shape
+        requires { IsSound self.now }
+        ensures { result ≡ shape_of (joined (pieces self.now)) }
+    {
+        match self {
+            Tree::Empty => Shape::none(),
+            Tree::Fork(node) => node.shape,
         }
     }
 
@@ -53,7 +70,7 @@ impl<T: Drop> Tree<T> {
     }
 
     #[tactic(auto, using(crate::proofs::Items::at_left, crate::proofs::Items::at_middle, crate::proofs::Items::at_right))]
-    pub fn item(&self, place: usize) -> Option<&T>
+    pub fn item(&self, place: usize) -> Option<&Item>
         requires { IsSound self.now }
         ensures { option_copied result ≡ slice_get (joined (pieces self.now)) place }
     {
@@ -75,7 +92,7 @@ impl<T: Drop> Tree<T> {
 
     // The items of one piece from the place on; None where there are none.
     #[tactic(auto, using(crate::proofs::Items::run_left, crate::proofs::Items::run_middle, crate::proofs::Items::run_right, crate::proofs::Laws::past_all))]
-    pub fn run(&self, place: usize) -> Option<&[T]>
+    pub fn run(&self, place: usize) -> Option<&[Item]>
         requires { IsSound self.now }
         ensures front { IfSome result (λ r. take (length r.now) (drop place (joined (pieces self.now))) ≡ r.now) }
         ensures some { IfSome result (λ r. 0 < length r.now) }

@@ -1,18 +1,20 @@
 // Trees put together, with the heights of their sides kept near each other.
-ghost use Rattle.std.specs.Prelude.{◌≡◌, ℕ, ◌+◌, ◌^◌, ◌<◌, ◌≤◌, ◌==◌, ◌∷◌, ◌++◌, [], List, length, vec_capacity, true, false};
+ghost use Rattle.std.specs.Prelude.{◌≡◌, ℕ, ◌+◌, ◌^◌, ◌<◌, ◌≤◌, ◌==◌, ◌∷◌, ◌++◌, [], List, length, true, false};
 ghost use Rattle.doc_rope.specs.Pieces.{pieces, IsSound, total, add_last, glued, IsPacked, joined};
+ghost use Rattle.doc_rope.specs.Shapes.{shape_of};
 
-use crate::tree::{Node, PIECE, Tree};
+use crate::piece::Piece;
+use crate::shape::Shape;
+use crate::tree::{Node, Tree};
 use std::mem;
 
 // The tree of `left`, the piece of `node` and `right`, in this order.
-#[tactic(auto, using(crate::proofs::Laws::total_append))]
-pub fn fork<T: Drop>(left: Tree<T>, mut node: Box<Node<T>>, right: Tree<T>) -> Tree<T>
+#[tactic(auto, using(crate::proofs::Laws::total_append, crate::proofs::Shapes::shape_same))]
+pub fn fork(left: Tree, mut node: Box<Node>, right: Tree) -> Tree
     requires left { IsSound left }
     requires right { IsSound right }
-    requires room { PIECE ≤ vec_capacity node.value.piece }
-    requires fits { total (pieces left) + (length node.value.piece.items + total (pieces right)) < 2 ^ 64 }
-    ensures pieces { pieces result ≡ pieces left ++ node.value.piece.items ∷ pieces right }
+    requires fits { total (pieces left) + (length node.value.piece + total (pieces right)) < 2 ^ 64 }
+    ensures pieces { pieces result ≡ pieces left ++ node.value.piece ∷ pieces right }
     ensures sound { IsSound result }
 {
     let left_height = left.height();
@@ -24,13 +26,25 @@ pub fn fork<T: Drop>(left: Tree<T>, mut node: Box<Node<T>>, right: Tree<T>) -> T
     };
     node.height = higher.saturating_add(1);
     node.count = left.count() + (node.piece.len() + right.count());
+    node.shape = whole_shape(&left, &node.piece, &right);
     node.left = left;
     node.right = right;
     Tree::Fork(node)
 }
 
+// The shape of both sides' items and the piece's.
+fn whole_shape(left: &Tree, piece: &Piece, right: &Tree) -> Shape
+    requires left { IsSound left.now }
+    requires right { IsSound right.now }
+    requires fits { total (pieces left.now) + (length piece.now + total (pieces right.now)) < 2 ^ 64 }
+    ensures { result ≡ shape_of (joined (pieces left.now ++ piece.now ∷ pieces right.now)) }
+{
+    let behind = piece.shape().meet(right.shape());
+    left.shape().meet(behind)
+}
+
 // Takes both sides out.
-pub fn open<T: Drop>(node: &mut Node<T>) -> (Tree<T>, Tree<T>)
+pub fn open(node: &mut Node) -> (Tree, Tree)
     ensures left { result.0 ≡ node.old.left }
     ensures right { result.1 ≡ node.old.right }
     ensures piece { node.new.piece ≡ node.old.piece }
@@ -42,12 +56,11 @@ pub fn open<T: Drop>(node: &mut Node<T>) -> (Tree<T>, Tree<T>)
 
 // The same list, with the heights of the sides brought together by a turn or two, where they differ by three at most.
 #[tactic(auto, using(crate::proofs::Laws::total_append, crate::proofs::Laws::append_cons))]
-pub fn balance<T: Drop>(left: Tree<T>, node: Box<Node<T>>, right: Tree<T>) -> Tree<T>
+pub fn balance(left: Tree, node: Box<Node>, right: Tree) -> Tree
     requires left { IsSound left }
     requires right { IsSound right }
-    requires room { PIECE ≤ vec_capacity node.value.piece }
-    requires fits { total (pieces left) + (length node.value.piece.items + total (pieces right)) < 2 ^ 64 }
-    ensures pieces { pieces result ≡ pieces left ++ node.value.piece.items ∷ pieces right }
+    requires fits { total (pieces left) + (length node.value.piece + total (pieces right)) < 2 ^ 64 }
+    ensures pieces { pieces result ≡ pieces left ++ node.value.piece ∷ pieces right }
     ensures sound { IsSound result }
 {
     if left.height() > right.height().saturating_add(2) {
@@ -60,12 +73,11 @@ pub fn balance<T: Drop>(left: Tree<T>, node: Box<Node<T>>, right: Tree<T>) -> Tr
 }
 
 #[tactic(auto, using(crate::proofs::Laws::total_append, crate::proofs::Laws::append_cons))]
-pub fn turn_right<T: Drop>(left: Tree<T>, node: Box<Node<T>>, right: Tree<T>) -> Tree<T>
+pub fn turn_right(left: Tree, node: Box<Node>, right: Tree) -> Tree
     requires left { IsSound left }
     requires right { IsSound right }
-    requires room { PIECE ≤ vec_capacity node.value.piece }
-    requires fits { total (pieces left) + (length node.value.piece.items + total (pieces right)) < 2 ^ 64 }
-    ensures pieces { pieces result ≡ pieces left ++ node.value.piece.items ∷ pieces right }
+    requires fits { total (pieces left) + (length node.value.piece + total (pieces right)) < 2 ^ 64 }
+    ensures pieces { pieces result ≡ pieces left ++ node.value.piece ∷ pieces right }
     ensures sound { IsSound result }
 {
     match left {
@@ -83,20 +95,18 @@ pub fn turn_right<T: Drop>(left: Tree<T>, node: Box<Node<T>>, right: Tree<T>) ->
 }
 
 #[tactic(auto, using(crate::proofs::Laws::total_append, crate::proofs::Laws::append_cons))]
-pub fn turn_inner_right<T: Drop>(
-    outer: Tree<T>,
-    top: Box<Node<T>>,
-    inner: Tree<T>,
-    node: Box<Node<T>>,
-    right: Tree<T>,
-) -> Tree<T>
+pub fn turn_inner_right(
+    outer: Tree,
+    top: Box<Node>,
+    inner: Tree,
+    node: Box<Node>,
+    right: Tree,
+) -> Tree
     requires outer { IsSound outer }
     requires inner { IsSound inner }
     requires right { IsSound right }
-    requires top_room { PIECE ≤ vec_capacity top.value.piece }
-    requires room { PIECE ≤ vec_capacity node.value.piece }
-    requires fits { total (pieces outer) + (length top.value.piece.items + (total (pieces inner) + (length node.value.piece.items + total (pieces right)))) < 2 ^ 64 }
-    ensures pieces { pieces result ≡ pieces outer ++ top.value.piece.items ∷ (pieces inner ++ node.value.piece.items ∷ pieces right) }
+    requires fits { total (pieces outer) + (length top.value.piece + (total (pieces inner) + (length node.value.piece + total (pieces right)))) < 2 ^ 64 }
+    ensures pieces { pieces result ≡ pieces outer ++ top.value.piece ∷ (pieces inner ++ node.value.piece ∷ pieces right) }
     ensures sound { IsSound result }
 {
     match inner {
@@ -114,12 +124,11 @@ pub fn turn_inner_right<T: Drop>(
 }
 
 #[tactic(auto, using(crate::proofs::Laws::total_append, crate::proofs::Laws::append_cons))]
-pub fn turn_left<T: Drop>(left: Tree<T>, node: Box<Node<T>>, right: Tree<T>) -> Tree<T>
+pub fn turn_left(left: Tree, node: Box<Node>, right: Tree) -> Tree
     requires left { IsSound left }
     requires right { IsSound right }
-    requires room { PIECE ≤ vec_capacity node.value.piece }
-    requires fits { total (pieces left) + (length node.value.piece.items + total (pieces right)) < 2 ^ 64 }
-    ensures pieces { pieces result ≡ pieces left ++ node.value.piece.items ∷ pieces right }
+    requires fits { total (pieces left) + (length node.value.piece + total (pieces right)) < 2 ^ 64 }
+    ensures pieces { pieces result ≡ pieces left ++ node.value.piece ∷ pieces right }
     ensures sound { IsSound result }
 {
     match right {
@@ -138,12 +147,11 @@ pub fn turn_left<T: Drop>(left: Tree<T>, node: Box<Node<T>>, right: Tree<T>) -> 
 
 // The tree of `left`, the piece of `node` and `right`, whatever their heights.
 #[tactic(auto, using(crate::proofs::Laws::total_append, crate::proofs::Laws::append_cons, crate::proofs::Laws::length_cut))]
-pub fn join<T: Drop>(left: Tree<T>, node: Box<Node<T>>, right: Tree<T>) -> Tree<T>
+pub fn join(left: Tree, node: Box<Node>, right: Tree) -> Tree
     requires left { IsSound left }
     requires right { IsSound right }
-    requires room { PIECE ≤ vec_capacity node.value.piece }
-    requires fits { total (pieces left) + (length node.value.piece.items + total (pieces right)) < 2 ^ 64 }
-    ensures pieces { pieces result ≡ pieces left ++ node.value.piece.items ∷ pieces right }
+    requires fits { total (pieces left) + (length node.value.piece + total (pieces right)) < 2 ^ 64 }
+    ensures pieces { pieces result ≡ pieces left ++ node.value.piece ∷ pieces right }
     ensures sound { IsSound result }
 {
     if left.height() > right.height().saturating_add(2) {

@@ -2,13 +2,13 @@
 use Rattle.std.proofs.Common.{◌≡◌, Bool, true, false, ◌&&◌, refl, sym, ap, ◌∙◌, Option, None, Some, option_map}
 use Rattle.std.specs.FinMap.{get}
 use Rattle.std.specs.Cmp.{both_ways}
-use Rattle.doc_items.specs.Maps.{Key, Map, same_value, each, matches}
+use Rattle.doc_items.specs.Maps.{Key, Map, matches}
 use Rattle.doc_items.specs.Changes.{KeyChange, ChangeSet, fits_old, agrees}
 use Rattle.doc_items.specs.declared.item.Content.{Content}
 use Rattle.doc_items.specs.declared.item.Content.TheVariants.{Character, Start, End}
 use Rattle.doc_items.specs.declared.item.Item.{Item}
 use Rattle.doc_items.proofs.Maps.{matches_at, matches_all, get-each}
-use Rattle.doc_op.specs.Actions.{AttributeChange, Unchanged, old_values}
+use Rattle.doc_op.specs.Actions.{Unchanged, old_values}
 use Rattle.doc_op.specs.Apply.{content_agrees, named}
 use Rattle.op_validity.specs.declared.demand.Demand.{Demand}
 use Rattle.op_validity.specs.declared.demand.Demand.TheVariants.{Keep as KeepOne, Update as UpdateOne, Replace as ReplaceOne, Character as DeleteCharacter, Start as DeleteStart, End as DeleteEnd}

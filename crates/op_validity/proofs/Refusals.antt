@@ -1,6 +1,5 @@
 -- What is refused isn't valid.
 use Rattle.std.proofs.Common.{◌≡◌, ◌≢◌, ℕ, ◌+◌, Bool, true, false, cond, List, [], ◌∷◌, length, refl, sym, ap, ◌∙◌, arith, Option, Some, None, is_none}
-use Rattle.std.specs.Option.{option_map}
 use Rattle.doc_items.specs.declared.item.Item.{Item}
 use Rattle.doc_op.specs.declared.component.Component.{Component}
 use Rattle.doc_op.specs.Actions.{Action, Keep, Ins, Del, actions}

@@ -2,7 +2,7 @@
 --     same-refl, same-trans, stops-back     a step behind others
 --     taken, missed, ended                  one item
 --     same-inserted                         insertions take no item
-use Rattle.std.proofs.Common.{zero, ◌<◌, ◌≤◌, drop, get_or, drop-cons, add-one, add-zero, replicate, subst, ◌≡◌, ◌≢◌, ℕ, suc, ◌+◌, Bool, true, false, cond, List, [], ◌∷◌, ◌++◌, length, map, refl, sym, ap, ◌∙◌, arith, Option, None, Some, is_some, option_map, append_assoc}
+use Rattle.std.proofs.Common.{zero, ◌<◌, ◌≤◌, drop, get_or, drop-cons, add-one, add-zero, replicate, subst, ◌≡◌, ℕ, suc, ◌+◌, Bool, true, false, cond, List, [], ◌∷◌, ◌++◌, length, map, refl, sym, ap, ◌∙◌, arith, Option, None, Some, is_some, option_map}
 use Rattle.std.proofs.lemmas.Bool.{and_from}
 use Rattle.doc_items.specs.Changes.{ChangeSet, none_running}
 use Rattle.doc_items.proofs.ChangeSets.{agrees_none}
@@ -10,7 +10,6 @@ use Rattle.op_validity.proofs.Demands.{unchanged}
 use Rattle.doc_items.specs.declared.item.Content.TheVariants.{Character}
 use Rattle.doc_items.specs.declared.item.Item.{Item}
 use Rattle.doc_op.specs.Actions.{Action, Keep, Ins, Del, keep, insertion, new_values}
-use Rattle.doc_op.specs.Lengths.{input_len}
 use Rattle.doc_op.specs.Apply.{keeps, kept, fits, apply, mismatch_from}
 use Rattle.op_validity.specs.declared.demand.Demand.{Demand}
 use Rattle.op_validity.specs.declared.demand.Demand.TheVariants.{Keep as KeepOne, Update as UpdateOne, Replace as ReplaceOne, Character as DeleteCharacter, Start as DeleteStart, End as DeleteEnd}

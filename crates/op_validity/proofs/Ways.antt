@@ -4,7 +4,6 @@
 --     valid_parts, valid_is     structured, and applies
 use Rattle.std.proofs.Common.{◌≡◌, ℕ, ◌+◌, ◌<◌, List, [], ◌∷◌, ◌++◌, length, take, drop, get_or, drop-cons, add-one, refl, sym, ap, ◌∙◌, true≢false, Bool, true, false, cond, Option, Some, None, IsSome, is_none}
 use Rattle.std.proofs.Math.Seq.{take-suc}
-use Rattle.doc_items.specs.Changes.{ChangeSet}
 use Rattle.doc_op.specs.declared.component.Component.{Component}
 use Rattle.doc_op.specs.declared.component.Component.TheVariants.{Retain, Characters, ElementStart, ElementEnd, DeleteCharacters, DeleteElementStart, DeleteElementEnd, ReplaceAttributes, UpdateAttributes, AnnotationBoundary}
 use Rattle.doc_items.specs.declared.item.Item.{Item}

@@ -1,2 +1,4 @@
+pub mod Edits
 pub mod Refused
+pub mod Sources
 pub mod Walks

@@ -7,7 +7,8 @@
 --     IsPassable u c          a boundary fits where u runs
 --     Same p items a q left b     behind a at place p of a document stands what stands behind b at place q
 --     Stops e p items a       the actions are refused there
---     Gives items made a left more b     what the actions a make of the items, the actions b make of the items left
+--     Gives items made a left more b     what the actions a make of the items, the actions b make of the items left, which
+--                             are the last of them
 use Rattle.std.specs.Prelude.{◌≡◌, ◌≢◌, ◌+◌, ℕ, List, [], ◌∷◌, ◌++◌, length, Bool, true, is_some, Option, None, Some}
 use Rattle.doc_items.specs.Changes.{ChangeSet, change_set, IsAscending, Fits}
 use Rattle.doc_items.specs.declared.item.Content.{Content}
@@ -18,6 +19,7 @@ use Rattle.doc_op.specs.declared.component.Component.TheVariants.{UpdateAttribut
 use Rattle.doc_op.specs.Actions.{Action, Keep, Ins, Del, Update, Replace, keep, deletion}
 use Rattle.doc_op.specs.Lengths.{input_len}
 use Rattle.doc_op.specs.Apply.{content_agrees, same_content, keeps, kept, fits, apply, mismatch_from}
+use Rattle.op_validity.specs.Sources.{IsTail}
 use Rattle.op_validity.specs.declared.demand.Demand.{Demand}
 use Rattle.op_validity.specs.declared.demand.Demand.TheVariants.{Keep as KeepOne, Update as UpdateOne, Replace as ReplaceOne, Character as DeleteCharacter, Start as DeleteStart, End as DeleteEnd}
 use Rattle.op_validity.specs.declared.fault.CheckFault.{CheckFault}
@@ -80,4 +82,5 @@ Stops WrongLength p items a = (mismatch_from p a items ≡ None) × (input_len a
 Stops Memory p items a = Unit {0}
 
 pub record Gives (items made : List Item) (a : List Action) (left more : List Item) (b : List Action) : Type 0 where
+  pub tail : IsTail left items
   pub run : (out : List Item) → apply a items ≡ Some out → (rest : List Item) × (apply b left ≡ Some rest) × (made ++ out ≡ more ++ rest)

@@ -2,12 +2,16 @@
 #![tactic(auto)]
 
 mod demand;
+mod edits;
 mod fault;
+mod pieces;
 mod rebuild;
+mod source;
 #[cfg(test)]
 mod tests;
 mod validity;
 mod walk;
 
 pub use fault::CheckFault;
+pub use pieces::{apply_rope, check_rope, edits_of};
 pub use validity::{apply, check};

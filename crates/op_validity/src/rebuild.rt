@@ -2,9 +2,11 @@ ghost use Rattle.std.specs.Prelude.{◌≡◌, ◌++◌, ◌∷◌, [], List, ma
 ghost use Rattle.doc_items.specs.Changes.{change_set, put};
 ghost use Rattle.doc_items.specs.declared.item.Content.TheVariants.{Character, Start};
 ghost use Rattle.doc_op.specs.Actions.{Action, keep, insertion, deletion, component_actions, new_values};
+ghost use Rattle.op_validity.specs.Sources.{ahead};
 ghost use Rattle.op_validity.specs.Walks.{Gives, demand_action, with_left};
 
 use crate::demand::Demand;
+use crate::source::Source;
 use doc_items::{Attributes, Changes, Content, Item, Memory, Notes, Text};
 use doc_op::Component;
 use std::alloc::Global;
@@ -12,13 +14,12 @@ use std::alloc::Global;
 /// The items that are left of a document to which an operation applies, and those made so far of the others.
 #[derive(Drop)]
 pub(crate) struct Rebuild<'a> {
-    pub rest: &'a [Item],
+    pub rest: Source<'a>,
     pub items: Vec<Item>,
 }
 
 impl Rebuild<'_> {
     /// Does what a component says with the items that it takes.
-    #[tactic(auto, using(crate::proofs::Gives::starts))]
     pub fn step(
         &mut self,
         alloc: Global,
@@ -26,7 +27,7 @@ impl Rebuild<'_> {
         component: &Component,
     ) -> Result<(), Memory>
         ensures { OnOk result ((more : List Action)
-            → Gives self.old.rest.now self.old.items.items (component_actions (change_set running.now) component.now ++ more) self.new.rest.now self.new.items.items more) }
+            → Gives (ahead self.old.rest) self.old.items.items (component_actions (change_set running.now) component.now ++ more) (ahead self.new.rest) self.new.items.items more) }
     {
         match component {
             Component::Retain(count) => self.keep(alloc, running, *count),
@@ -53,7 +54,7 @@ impl Rebuild<'_> {
     #[tactic(auto, using(crate::proofs::Gives::starts))]
     fn keep(&mut self, alloc: Global, running: &Changes, count: u64) -> Result<(), Memory>
         ensures { OnOk result ((more : List Action)
-            → Gives self.old.rest.now self.old.items.items (replicate count (keep (change_set running.now)) ++ more) self.new.rest.now self.new.items.items more) }
+            → Gives (ahead self.old.rest) self.old.items.items (replicate count (keep (change_set running.now)) ++ more) (ahead self.new.rest) self.new.items.items more) }
     {
         let mut left = count;
         while left > 0 {
@@ -65,7 +66,7 @@ impl Rebuild<'_> {
 
     fn delete(&mut self, alloc: Global, running: &Changes, text: &Text) -> Result<(), Memory>
         ensures { OnOk result ((more : List Action)
-            → Gives self.old.rest.now self.old.items.items (map (λ c. deletion (change_set running.now) (Character c)) text.now ++ more) self.new.rest.now self.new.items.items more) }
+            → Gives (ahead self.old.rest) self.old.items.items (map (λ c. deletion (change_set running.now) (Character c)) text.now ++ more) (ahead self.new.rest) self.new.items.items more) }
     {
         let chars = text.to_chars(alloc)?;
         self.delete_each(alloc, running, chars.as_slice())?;
@@ -80,7 +81,7 @@ impl Rebuild<'_> {
         chars: &[char],
     ) -> Result<(), Memory>
         ensures { OnOk result ((more : List Action)
-            → Gives self.old.rest.now self.old.items.items (map (λ c. deletion (change_set running.now) (Character c)) chars.now ++ more) self.new.rest.now self.new.items.items more) }
+            → Gives (ahead self.old.rest) self.old.items.items (map (λ c. deletion (change_set running.now) (Character c)) chars.now ++ more) (ahead self.new.rest) self.new.items.items more) }
     {
         for c in chars {
             self.give(alloc, running, Demand::Character(*c))?;
@@ -90,7 +91,7 @@ impl Rebuild<'_> {
 
     fn insert_text(&mut self, alloc: Global, running: &Changes, text: &Text) -> Result<(), Memory>
         ensures { OnOk result ((more : List Action)
-            → Gives self.old.rest.now self.old.items.items (map (λ c. insertion (change_set running.now) (Character c)) text.now ++ more) self.new.rest.now self.new.items.items more) }
+            → Gives (ahead self.old.rest) self.old.items.items (map (λ c. insertion (change_set running.now) (Character c)) text.now ++ more) (ahead self.new.rest) self.new.items.items more) }
     {
         let chars = text.to_chars(alloc)?;
         self.insert_each(alloc, running, chars.as_slice())?;
@@ -105,7 +106,7 @@ impl Rebuild<'_> {
         chars: &[char],
     ) -> Result<(), Memory>
         ensures { OnOk result ((more : List Action)
-            → Gives self.old.rest.now self.old.items.items (map (λ c. insertion (change_set running.now) (Character c)) chars.now ++ more) self.new.rest.now self.new.items.items more) }
+            → Gives (ahead self.old.rest) self.old.items.items (map (λ c. insertion (change_set running.now) (Character c)) chars.now ++ more) (ahead self.new.rest) self.new.items.items more) }
     {
         for c in chars {
             self.insert(alloc, running, Content::Character(*c))?;
@@ -121,7 +122,7 @@ impl Rebuild<'_> {
         attributes: &Attributes,
     ) -> Result<(), Memory>
         ensures { OnOk result ((more : List Action)
-            → Gives self.old.rest.now self.old.items.items (insertion (change_set running.now) (Start kind.now attributes.now) ∷ more) self.new.rest.now self.new.items.items more) }
+            → Gives (ahead self.old.rest) self.old.items.items (insertion (change_set running.now) (Start kind.now attributes.now) ∷ more) (ahead self.new.rest) self.new.items.items more) }
     {
         let kind = kind.copy(alloc)?;
         let attributes = attributes.copy()?;
@@ -133,7 +134,7 @@ impl Rebuild<'_> {
     #[tactic(auto, using(crate::proofs::Gives::starts))]
     fn insert(&mut self, alloc: Global, running: &Changes, content: Content) -> Result<(), Memory>
         ensures { OnOk result ((more : List Action)
-            → Gives self.old.rest.now self.old.items.items (insertion (change_set running.now) content ∷ more) self.new.rest.now self.new.items.items more) }
+            → Gives (ahead self.old.rest) self.old.items.items (insertion (change_set running.now) content ∷ more) (ahead self.new.rest) self.new.items.items more) }
     {
         let notes = new_notes(alloc, running)?;
         self.items.push(Item { content, notes })?;
@@ -143,20 +144,20 @@ impl Rebuild<'_> {
     // Does what a demand says with the next item.
     fn give(&mut self, alloc: Global, running: &Changes, demand: Demand<'_>) -> Result<(), Memory>
         ensures { OnOk result ((more : List Action)
-            → Gives self.old.rest.now self.old.items.items (demand_action (change_set running.now) demand.entry ∷ more) self.new.rest.now self.new.items.items more) }
+            → Gives (ahead self.old.rest) self.old.items.items (demand_action (change_set running.now) demand.entry ∷ more) (ahead self.new.rest) self.new.items.items more) }
     {
-        let Some((item, rest)) = self.rest.split_first() else {
+        let Some(item) = self.rest.first() else {
             return Ok(());
         };
         let left = demand.leaves(alloc, running, item)?;
         self.push(left)?;
-        self.rest = rest;
+        self.rest.skip(1);
         Ok(())
     }
 
     fn push(&mut self, left: Option<Item>) -> Result<(), Memory>
         ensures items { OnOk result (self.new.items.items ≡ with_left self.old.items.items left) }
-        ensures rest { self.new.rest ≡ self.old.rest }
+        ensures rest { ahead self.new.rest ≡ ahead self.old.rest }
     {
         match left {
             Some(item) => {

@@ -1,6 +1,7 @@
-use crate::{CheckFault, apply, check};
+use crate::{CheckFault, apply, apply_rope, check, check_rope};
 use doc_items::{Attributes, Boundary, Change, Changes, Content, Document, Item, Keys, Text};
 use doc_op::{Builder, Component, DocOp, OpFault};
+use doc_rope::Rope;
 use std::alloc::{AllocError, Global};
 use std::test::Fail;
 
@@ -218,5 +219,130 @@ fn changes_run_until_they_end(rt: HostRuntime) -> Result<(), Fail> {
         shown.push(';')?;
     }
     assert_eq!(rt; shown.as_str(), "b1d1;a2b1c2d1e2;b3c2e2;é4;;");
+    Ok(())
+}
+
+// "+ab" inserts, "-ab" deletes, "==" retains two items, "[k:v" begins that the absent annotation k becomes v, and "]k" ends it.
+fn component(alloc: Global, word: &str) -> Result<Component, AllocError> {
+    if let Some(letters) = word.strip_prefix('+') {
+        return Ok(Component::Characters(text(alloc, letters)?));
+    }
+    if let Some(letters) = word.strip_prefix('-') {
+        return Ok(Component::DeleteCharacters(text(alloc, letters)?));
+    }
+    if let Some(change) = word.strip_prefix('[') {
+        let (key, new) = change.split_once(':').unwrap_or((change, ""));
+        return boundary(alloc, key, "", new);
+    }
+    if let Some(key) = word.strip_prefix(']') {
+        return step(alloc, key, "", "");
+    }
+    Ok(Component::Retain(word.len() as u64))
+}
+
+fn words(alloc: Global, words: &str) -> Result<DocOp, OpFault> {
+    let mut builder = Builder::new(alloc);
+    for word in words.split_whitespace() {
+        builder.add(alloc, component(alloc, word)?)?;
+    }
+    Ok(builder.finish())
+}
+
+// Each item with all its annotations.
+fn whole(alloc: Global, document: &Document) -> Result<String, AllocError> {
+    let mut whole = String::new(alloc);
+    for item in document.as_slice() {
+        match &item.content {
+            Content::Character(c) => whole.push(*c)?,
+            Content::Start { .. } => whole.push('<')?,
+            Content::End => whole.push('>')?,
+        }
+        whole.push_str(annotations(alloc, item)?.as_str())?;
+    }
+    Ok(whole)
+}
+
+// Operations one behind the other, and the document that another program gave for them.
+#[test]
+fn pieces_become_what_a_plain_document_becomes(rt: HostRuntime) -> Result<(), Fail> {
+    let alloc = rt.alloc();
+    let rows = [
+        ("+x", "[b:1 +zöy ]b =", "====", "zb1öb1yb1x"),
+        ("+𝄞zz", "= [b: = ]b =", "-𝄞 ==", "zz"),
+        ("+öxöyy", "== [é: = ]é = -y", "====", "öxöy"),
+        ("+y", "[a:2 = ]a", "=", "ya2"),
+        ("+xöö [a:1 +𝄞 ]a", "====", "====", "xöö𝄞a1"),
+    ];
+    for (first, second, third, want) in rows {
+        let mut document = Document::new(alloc);
+        let mut rope = Rope::new(alloc);
+        for op in [first, second, third] {
+            let op = words(alloc, op)?;
+            apply(alloc, &op, &mut document)?;
+            apply_rope(alloc, &op, &mut rope)?;
+        }
+        assert_eq!(rt; whole(alloc, &document)?.as_str(), want);
+        assert_eq!(rt; whole(alloc, &rope.list(alloc)?)?.as_str(), want);
+    }
+    Ok(())
+}
+
+#[test]
+fn refused_pieces_stay(rt: HostRuntime) -> Result<(), Fail> {
+    let alloc = rt.alloc();
+    let mut rope = Rope::new(alloc);
+    apply_rope(alloc, &words(alloc, "+ab")?, &mut rope)?;
+    let rows = [
+        ("+x = -c", CheckFault::Mismatch(1)),
+        ("== -b", CheckFault::WrongLength),
+        ("-a", CheckFault::WrongLength),
+    ];
+    for (op, want) in rows {
+        let op = words(alloc, op)?;
+        assert_eq!(rt; check_rope(alloc, &op, &rope), Err(want));
+        assert_eq!(rt; apply_rope(alloc, &op, &mut rope), Err(want));
+    }
+    let end = operation(alloc, [Component::Retain(2), Component::ElementEnd])?;
+    let broken = CheckFault::NotStructured(1);
+    assert_eq!(rt; apply_rope(alloc, &end, &mut rope), Err(broken));
+    assert_eq!(rt; whole(alloc, &rope.list(alloc)?)?.as_str(), "ab");
+    Ok(())
+}
+
+// Deletes the letter at the place behind two new ones, and changes the annotations of the two behind it.
+fn edit(alloc: Global, place: u64, len: u64) -> Result<DocOp, OpFault> {
+    let mut builder = Builder::new(alloc);
+    builder.add(alloc, Component::Retain(place))?;
+    for word in ["+xy", "-a", "[b:1", "==", "]b"] {
+        builder.add(alloc, component(alloc, word)?)?;
+    }
+    builder.add(
+        alloc,
+        Component::Retain(len.saturating_sub(place).saturating_sub(3)),
+    )?;
+    Ok(builder.finish())
+}
+
+// Pieces meet at the places 76 and 588.
+#[test]
+fn edits_across_pieces(rt: HostRuntime) -> Result<(), Fail> {
+    let alloc = rt.alloc();
+    let mut letters = String::new(alloc);
+    for _ in 0..1100 {
+        letters.push('a')?;
+    }
+    let mut builder = Builder::new(alloc);
+    builder.add(alloc, Component::Characters(text(alloc, letters.as_str())?))?;
+    let start = builder.finish();
+    for place in [1, 74, 75, 76, 586, 587, 588, 1096] {
+        let mut document = Document::new(alloc);
+        apply(alloc, &start, &mut document)?;
+        let mut rope = Rope::from_list(alloc, document.copy(alloc)?)?;
+        let op = edit(alloc, place, 1100)?;
+        apply(alloc, &op, &mut document)?;
+        apply_rope(alloc, &op, &mut rope)?;
+        let want = whole(alloc, &document)?;
+        assert_eq!(rt; whole(alloc, &rope.list(alloc)?)?.as_str(), want.as_str());
+    }
     Ok(())
 }

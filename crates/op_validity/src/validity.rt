@@ -1,14 +1,17 @@
-ghost use Rattle.std.specs.Prelude.{◌≡◌, ◌≢◌, List, IsSome, None, Some, OnOk, OnErr, IfOk, IfErr};
+ghost use Rattle.std.specs.Prelude.{◌≡◌, ◌≢◌, ◌≤◌, List, length, IsSome, None, Some, OnOk, OnErr, IfOk, IfErr};
 ghost use Rattle.doc_items.specs.Balance.{Balanced};
+ghost use Rattle.doc_items.specs.Limits.{max_count};
 ghost use Rattle.doc_items.specs.Changes.{change_set};
 ghost use Rattle.doc_op.specs.Apply.{apply as applied, valid};
 ghost use Rattle.doc_items.specs.declared.item.Item.{Item};
 ghost use Rattle.doc_op.specs.Actions.{actions, running_after};
 ghost use Rattle.op_validity.specs.Refused.{IsRefused};
+ghost use Rattle.op_validity.specs.Sources.{ahead};
 ghost use Rattle.op_validity.specs.Walks.{IsPassable};
 
 use crate::CheckFault;
 use crate::rebuild::Rebuild;
+use crate::source::Source;
 use crate::walk::Walk;
 use annotation_track::Track;
 use doc_items::{Document, Item, Memory};
@@ -23,21 +26,23 @@ pub fn check(alloc: Global, op: &DocOp, document: &Document) -> Result<(), Check
     ensures refused { IfErr result (λ e. IsRefused e op.now document.now) }
     ensures invalid { IfErr result (λ e. e ≢ CheckFault.Memory → valid op.now document.now ≡ None) }
 {
-    match walk_over(alloc, op, document) {
+    match walk_over(alloc, op, Source::Plain(document.as_slice())) {
         Ok(()) => Ok(()),
         Err(fault) => Err(fault),
     }
 }
 
-fn walk_over(alloc: Global, op: &DocOp, document: &Document) -> Result<(), CheckFault>
-    ensures ok { OnOk result (IsSome (valid op.now document.now)) }
-    ensures refused { IfErr result (λ e. IsRefused e op.now document.now) }
+/// `check` on the items of a document, in pieces or not.
+pub(crate) fn walk_over(alloc: Global, op: &DocOp, items: Source<'_>) -> Result<(), CheckFault>
+    requires { length (ahead items) ≤ max_count }
+    ensures ok { OnOk result (IsSome (valid op.now (ahead items.entry))) }
+    ensures refused { IfErr result (λ e. IsRefused e op.now (ahead items.entry)) }
 {
     if let Some(place) = op.first_break() {
         return Err(CheckFault::NotStructured(place));
     }
     let mut walk = Walk {
-        rest: document.as_slice(),
+        rest: items,
         place: 0,
     };
     let mut track = Track::new(alloc);
@@ -45,7 +50,7 @@ fn walk_over(alloc: Global, op: &DocOp, document: &Document) -> Result<(), Check
         walk.step(alloc, track.running(), component)?;
         pass(alloc, &mut track, component)?;
     }
-    if walk.rest.is_empty() {
+    if walk.rest.len() == 0 {
         Ok(())
     } else {
         Err(CheckFault::WrongLength)
@@ -74,7 +79,7 @@ fn rebuilt(alloc: Global, op: &DocOp, document: &Document) -> Result<Vec<Item>, 
     ensures { IfOk result (λ items. (out : List Item) → applied (actions op.now) document.now ≡ Some out → items.items ≡ out) }
 {
     let mut build = Rebuild {
-        rest: document.as_slice(),
+        rest: Source::Plain(document.as_slice()),
         items: Vec::with_capacity(alloc, op.output_len() as usize)?,
     };
     let mut track = Track::new(alloc);
@@ -85,8 +90,8 @@ fn rebuilt(alloc: Global, op: &DocOp, document: &Document) -> Result<Vec<Item>, 
     Ok(build.items)
 }
 
-// Goes past a component: at a boundary its ends stop, and its changes run.
-fn pass(alloc: Global, track: &mut Track, component: &Component) -> Result<(), Memory>
+/// Goes past a component: at a boundary its ends stop, and its changes run.
+pub(crate) fn pass(alloc: Global, track: &mut Track, component: &Component) -> Result<(), Memory>
     requires { IsPassable (change_set track.old) component.now }
     ensures { OnOk result (change_set track.new ≡ running_after (change_set track.old) component.now) }
 {

@@ -6,18 +6,20 @@ ghost use Rattle.doc_op.specs.Actions.{Action, keep, insertion, deletion, compon
 
 use crate::CheckFault;
 use crate::demand::Demand;
-use doc_items::{Changes, Item, Text};
+use crate::source::Source;
+use doc_items::{Changes, Text};
 use doc_op::Component;
 use std::alloc::Global;
 
 /// A walk over a document: the items that are left, and the place of the first of them.
-#[derive(Clone, Copy)]
+#[derive(Drop)]
 pub(crate) struct Walk<'a> {
-    pub rest: &'a [Item],
+    pub rest: Source<'a>,
     pub place: u64,
 }
 
 impl Walk<'_> {
+    ghost use Rattle.op_validity.specs.Sources.{ahead};
     ghost use Rattle.op_validity.specs.Walks.{Same, Stops, IsFit, IsFitDemand, demand_action};
 
     /// Goes past the items that a component takes, if they agree with it.
@@ -29,11 +31,11 @@ impl Walk<'_> {
     ) -> Result<(), CheckFault>
         requires running { IsAscending running.now }
         requires fit { IsFit component.now }
-        requires bound { self.old.place + length self.old.rest.now ≤ max_count }
+        requires bound { self.old.place + length (ahead self.old.rest) ≤ max_count }
         ensures step { (more : List Action) → MatchResult result
-            (λ _. Same self.old.place self.old.rest.now (component_actions (change_set running.now) component.now ++ more) self.new.place self.new.rest.now more)
-            (λ e. Stops e self.old.place self.old.rest.now (component_actions (change_set running.now) component.now ++ more)) }
-        ensures bound { self.new.place + length self.new.rest.now ≤ max_count }
+            (λ _. Same self.old.place (ahead self.old.rest) (component_actions (change_set running.now) component.now ++ more) self.new.place (ahead self.new.rest) more)
+            (λ e. Stops e self.old.place (ahead self.old.rest) (component_actions (change_set running.now) component.now ++ more)) }
+        ensures bound { self.new.place + length (ahead self.new.rest) ≤ max_count }
     {
         match component {
             Component::Retain(count) => self.keep(running, *count),
@@ -56,11 +58,11 @@ impl Walk<'_> {
     // Goes past the next items, if they agree with the running changes.
     fn keep(&mut self, running: &Changes, count: u64) -> Result<(), CheckFault>
         requires running { IsAscending running.now }
-        requires bound { self.old.place + length self.old.rest.now ≤ max_count }
+        requires bound { self.old.place + length (ahead self.old.rest) ≤ max_count }
         ensures step { (more : List Action) → MatchResult result
-            (λ _. Same self.old.place self.old.rest.now (replicate count (keep (change_set running.now)) ++ more) self.new.place self.new.rest.now more)
-            (λ e. Stops e self.old.place self.old.rest.now (replicate count (keep (change_set running.now)) ++ more)) }
-        ensures bound { self.new.place + length self.new.rest.now ≤ max_count }
+            (λ _. Same self.old.place (ahead self.old.rest) (replicate count (keep (change_set running.now)) ++ more) self.new.place (ahead self.new.rest) more)
+            (λ e. Stops e self.old.place (ahead self.old.rest) (replicate count (keep (change_set running.now)) ++ more)) }
+        ensures bound { self.new.place + length (ahead self.new.rest) ≤ max_count }
     {
         if running.as_slice().is_empty() {
             self.skip(count)
@@ -71,27 +73,27 @@ impl Walk<'_> {
 
     // Goes past the next items, which agree, since no changes run.
     fn skip(&mut self, count: u64) -> Result<(), CheckFault>
-        requires { self.old.place + length self.old.rest.now ≤ max_count }
+        requires { self.old.place + length (ahead self.old.rest) ≤ max_count }
         ensures step { (more : List Action) → MatchResult result
-            (λ _. Same self.old.place self.old.rest.now (replicate count (keep none_running) ++ more) self.new.place self.new.rest.now more)
-            (λ e. Stops e self.old.place self.old.rest.now (replicate count (keep none_running) ++ more)) }
-        ensures bound { self.new.place + length self.new.rest.now ≤ max_count }
+            (λ _. Same self.old.place (ahead self.old.rest) (replicate count (keep none_running) ++ more) self.new.place (ahead self.new.rest) more)
+            (λ e. Stops e self.old.place (ahead self.old.rest) (replicate count (keep none_running) ++ more)) }
+        ensures bound { self.new.place + length (ahead self.new.rest) ≤ max_count }
     {
-        if count > self.rest.len() as u64 {
+        if count > self.rest.len() {
             return Err(CheckFault::WrongLength);
         }
-        self.rest = &self.rest[count as usize..];
+        self.rest.skip(count);
         self.place += count;
         Ok(())
     }
 
     fn keep_each(&mut self, running: &Changes, count: u64) -> Result<(), CheckFault>
         requires running { IsAscending running.now }
-        requires bound { self.old.place + length self.old.rest.now ≤ max_count }
+        requires bound { self.old.place + length (ahead self.old.rest) ≤ max_count }
         ensures step { (more : List Action) → MatchResult result
-            (λ _. Same self.old.place self.old.rest.now (replicate count (keep (change_set running.now)) ++ more) self.new.place self.new.rest.now more)
-            (λ e. Stops e self.old.place self.old.rest.now (replicate count (keep (change_set running.now)) ++ more)) }
-        ensures bound { self.new.place + length self.new.rest.now ≤ max_count }
+            (λ _. Same self.old.place (ahead self.old.rest) (replicate count (keep (change_set running.now)) ++ more) self.new.place (ahead self.new.rest) more)
+            (λ e. Stops e self.old.place (ahead self.old.rest) (replicate count (keep (change_set running.now)) ++ more)) }
+        ensures bound { self.new.place + length (ahead self.new.rest) ≤ max_count }
     {
         let mut left = count;
         while left > 0 {
@@ -104,11 +106,11 @@ impl Walk<'_> {
     // Goes past the next items, if they are these characters and agree with the running changes.
     fn delete(&mut self, alloc: Global, running: &Changes, text: &Text) -> Result<(), CheckFault>
         requires running { IsAscending running.now }
-        requires bound { self.old.place + length self.old.rest.now ≤ max_count }
+        requires bound { self.old.place + length (ahead self.old.rest) ≤ max_count }
         ensures step { (more : List Action) → MatchResult result
-            (λ _. Same self.old.place self.old.rest.now (map (λ c. deletion (change_set running.now) (Character c)) text.now ++ more) self.new.place self.new.rest.now more)
-            (λ e. Stops e self.old.place self.old.rest.now (map (λ c. deletion (change_set running.now) (Character c)) text.now ++ more)) }
-        ensures bound { self.new.place + length self.new.rest.now ≤ max_count }
+            (λ _. Same self.old.place (ahead self.old.rest) (map (λ c. deletion (change_set running.now) (Character c)) text.now ++ more) self.new.place (ahead self.new.rest) more)
+            (λ e. Stops e self.old.place (ahead self.old.rest) (map (λ c. deletion (change_set running.now) (Character c)) text.now ++ more)) }
+        ensures bound { self.new.place + length (ahead self.new.rest) ≤ max_count }
     {
         let chars = text.to_chars(alloc)?;
         self.delete_each(running, chars.as_slice())
@@ -116,11 +118,11 @@ impl Walk<'_> {
 
     fn delete_each(&mut self, running: &Changes, chars: &[char]) -> Result<(), CheckFault>
         requires running { IsAscending running.now }
-        requires bound { self.old.place + length self.old.rest.now ≤ max_count }
+        requires bound { self.old.place + length (ahead self.old.rest) ≤ max_count }
         ensures step { (more : List Action) → MatchResult result
-            (λ _. Same self.old.place self.old.rest.now (map (λ c. deletion (change_set running.now) (Character c)) chars.now ++ more) self.new.place self.new.rest.now more)
-            (λ e. Stops e self.old.place self.old.rest.now (map (λ c. deletion (change_set running.now) (Character c)) chars.now ++ more)) }
-        ensures bound { self.new.place + length self.new.rest.now ≤ max_count }
+            (λ _. Same self.old.place (ahead self.old.rest) (map (λ c. deletion (change_set running.now) (Character c)) chars.now ++ more) self.new.place (ahead self.new.rest) more)
+            (λ e. Stops e self.old.place (ahead self.old.rest) (map (λ c. deletion (change_set running.now) (Character c)) chars.now ++ more)) }
+        ensures bound { self.new.place + length (ahead self.new.rest) ≤ max_count }
     {
         for c in chars {
             self.take(running, Demand::Character(*c))?;
@@ -132,19 +134,19 @@ impl Walk<'_> {
     fn take(&mut self, running: &Changes, demand: Demand<'_>) -> Result<(), CheckFault>
         requires running { IsAscending running.now }
         requires fit { IsFitDemand demand }
-        requires bound { self.old.place + length self.old.rest.now ≤ max_count }
+        requires bound { self.old.place + length (ahead self.old.rest) ≤ max_count }
         ensures step { (more : List Action) → MatchResult result
-            (λ _. Same self.old.place self.old.rest.now (demand_action (change_set running.now) demand.entry ∷ more) self.new.place self.new.rest.now more)
-            (λ e. Stops e self.old.place self.old.rest.now (demand_action (change_set running.now) demand.entry ∷ more)) }
-        ensures bound { self.new.place + length self.new.rest.now ≤ max_count }
+            (λ _. Same self.old.place (ahead self.old.rest) (demand_action (change_set running.now) demand.entry ∷ more) self.new.place (ahead self.new.rest) more)
+            (λ e. Stops e self.old.place (ahead self.old.rest) (demand_action (change_set running.now) demand.entry ∷ more)) }
+        ensures bound { self.new.place + length (ahead self.new.rest) ≤ max_count }
     {
-        let Some((item, rest)) = self.rest.split_first() else {
+        let Some(item) = self.rest.first() else {
             return Err(CheckFault::WrongLength);
         };
         if !demand.is_met(running, item) {
             return Err(CheckFault::Mismatch(self.place));
         }
-        self.rest = rest;
+        self.rest.skip(1);
         self.place += 1;
         Ok(())
     }

@@ -3,4 +3,4 @@ use Rattle.doc_rope.specs.Pieces.{pieces}
 use Rattle.doc_rope.proofs.ends.+take_out.Given as goal
 
 abbrev pub decreases-take_out : goal.decreases-take_out
-decreases-take_out g l = length (pieces l.tree)
+decreases-take_out l = length (pieces l.tree)

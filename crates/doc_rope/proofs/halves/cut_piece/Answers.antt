@@ -3,11 +3,10 @@ use Rattle.doc_rope.specs.Pieces.{pieces}
 use Rattle.doc_rope.proofs.Seams.{middle_at_most, packed_tail}
 use Rattle.doc_rope.proofs.halves.cut_piece.Goals as goal
 
-pub move_tail-requires-clause-room : goal.move_tail-requires-clause-room
-move_tail-requires-clause-room g c =
-    let h = middle_at_most (pieces c.args.left) c.args.node.value.piece.items (pieces c.args.right) c.requires.packed in
-    let r = c.requires.room in
+pub cut-requires-clause-room : goal.cut-requires-clause-room
+cut-requires-clause-room c =
+    let h = middle_at_most (pieces c.args.left) c.args.node.value.piece (pieces c.args.right) c.requires.packed in
     grind arith
 
 pub concat-after-requires-clause-packed : goal.concat-after-requires-clause-packed
-concat-after-requires-clause-packed g c = packed_tail (pieces c.args.left) c.args.node.value.piece.items (pieces c.args.right) c.requires.packed
+concat-after-requires-clause-packed c = packed_tail (pieces c.args.left) c.args.node.value.piece (pieces c.args.right) c.requires.packed

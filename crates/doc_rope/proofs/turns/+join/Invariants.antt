@@ -3,4 +3,4 @@ use Rattle.doc_rope.specs.Pieces.{pieces}
 use Rattle.doc_rope.proofs.turns.+join.Given as goal
 
 abbrev pub decreases-join : goal.decreases-join
-decreases-join g l = length (pieces l.left) + length (pieces l.right)
+decreases-join l = length (pieces l.left) + length (pieces l.right)

@@ -1,4 +1,4 @@
-use Rattle.std.proofs.Common.{◌≡◌, length, List, sym, ap, subst, ◌∙◌, refl, arith}
+use Rattle.std.proofs.Common.{length, List, sym, ap, subst, ◌∙◌, refl, arith}
 use Rattle.doc_items.specs.Balance.{Balanced}
 use Rattle.doc_items.specs.declared.item.Item.{Item}
 use Rattle.doc_op.specs.Actions.{actions}

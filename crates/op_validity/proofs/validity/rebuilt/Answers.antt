@@ -4,6 +4,7 @@ use Rattle.doc_items.specs.declared.item.Item.{Item}
 use Rattle.doc_op.specs.declared.component.Component.{Component}
 use Rattle.doc_op.specs.Actions.{Action, component_actions, running_after, running, actions, actions_from}
 use Rattle.doc_op.specs.Refusals.{IsBuilt}
+use Rattle.op_validity.specs.Sources.{ahead}
 use Rattle.op_validity.specs.Walks.{IsPassable, Gives}
 use Rattle.op_validity.proofs.Gives.{gives_refl, gives_trans}
 use Rattle.op_validity.proofs.Ways.{passable_at, running_next, actions_next}
@@ -34,6 +35,6 @@ loop-component-preserved c =
     record {
       track = c.in_ok-pass.ensures ∙ ap (λ w. running_after w d) c.loop-component.invariant.track ∙ running_next cs i d c.loop-component-test.true c.component-item.is;
       gives = gives_trans _ _ _ _ _ _ (actions cs) (component_actions (running (take i cs)) d ++ more) more
-          (subst (λ (a : List Action). Gives c.args.document.now [] (actions cs) c.loop-component.build.rest.now c.loop-component.build.items.items a) (actions_next cs i d c.loop-component-test.true c.component-item.is) c.loop-component.invariant.gives)
-          (subst (λ (w : ChangeSet). Gives c.loop-component.build.rest.now c.loop-component.build.items.items (component_actions w d ++ more) c.step.new.self.rest.now c.step.new.self.items.items more) u (c.in_ok-step.ensures more));
+          (subst (λ (a : List Action). Gives c.args.document.now [] (actions cs) (ahead c.loop-component.build.rest) c.loop-component.build.items.items a) (actions_next cs i d c.loop-component-test.true c.component-item.is) c.loop-component.invariant.gives)
+          (subst (λ (w : ChangeSet). Gives (ahead c.loop-component.build.rest) c.loop-component.build.items.items (component_actions w d ++ more) (ahead c.step.new.self.rest) c.step.new.self.items.items more) u (c.in_ok-step.ensures more));
     }

@@ -3,6 +3,7 @@ use Rattle.doc_items.specs.Changes.{ChangeSet, change_set}
 use Rattle.doc_op.specs.declared.component.Component.{Component}
 use Rattle.doc_op.specs.Actions.{Action, component_actions, running_after, running, actions, actions_from}
 use Rattle.doc_op.specs.Refusals.{IsBuilt}
+use Rattle.op_validity.specs.Sources.{ahead}
 use Rattle.op_validity.specs.Walks.{IsPassable, Same}
 use Rattle.op_validity.proofs.Walks.{same-trans}
 use Rattle.op_validity.proofs.Ways.{fit_at, passable_at, running_next, actions_next}
@@ -29,7 +30,7 @@ loop-component-preserved c =
     record {
       track = c.in_ok-pass.ensures ∙ ap (λ w. running_after w d) c.loop-component.invariant.track ∙ running_next cs i d c.loop-component-test.true c.component-item.is;
       same = same-trans _ _ _ _ _ _ (actions cs) (component_actions (running (take i cs)) d ++ more) more
-          (subst (λ (a : List Action). Same 0 c.args.document.now (actions cs) c.loop-component.walk.place c.loop-component.walk.rest.now a) (actions_next cs i d c.loop-component-test.true c.component-item.is) c.loop-component.invariant.same)
-          (subst (λ (w : ChangeSet). Same c.loop-component.walk.place c.loop-component.walk.rest.now (component_actions w d ++ more) c.step.new.self.place c.step.new.self.rest.now more) u (c.in_ok-step.ensures.step more));
+          (subst (λ (a : List Action). Same 0 (ahead c.args.items) (actions cs) c.loop-component.walk.place (ahead c.loop-component.walk.rest) a) (actions_next cs i d c.loop-component-test.true c.component-item.is) c.loop-component.invariant.same)
+          (subst (λ (w : ChangeSet). Same c.loop-component.walk.place (ahead c.loop-component.walk.rest) (component_actions w d ++ more) c.step.new.self.place (ahead c.step.new.self.rest) more) u (c.in_ok-step.ensures.step more));
       bound = c.in_ok-step.ensures.bound;
     }

@@ -1,5 +1,6 @@
 use Rattle.std.proofs.Common.{◌≡◌, ℕ, ◌+◌, List, [], ◌++◌, map, drop, subst}
 use Rattle.std.proofs.lemmas.List.{drop_all}
+use Rattle.op_validity.specs.Sources.{ahead}
 use Rattle.op_validity.specs.Walks.{Gives}
 use Rattle.doc_items.specs.Changes.{change_set}
 use Rattle.doc_items.specs.declared.item.Content.TheVariants.{Character}
@@ -19,4 +20,4 @@ pub returns : goal.returns
 returns c =
     let f : ℕ → Action = λ x. deletion (change_set c.args.running.now) (Character x) in
     let none : drop c.loop-c.c-index c.args.chars.now ≡ [] = drop_all c.loop-c.c-index c.args.chars.now c.loop-c-test.false in
-    λ more. subst (λ (cs : List ℕ). Gives c.args.self.now.rest.now c.args.self.now.items.items (map f c.args.chars.now ++ more) c.loop-c.self.rest.now c.loop-c.self.items.items (map f cs ++ more)) none (c.loop-c.invariant more)
+    λ more. subst (λ (cs : List ℕ). Gives (ahead c.args.self.now.rest) c.args.self.now.items.items (map f c.args.chars.now ++ more) (ahead c.loop-c.self.rest) c.loop-c.self.items.items (map f cs ++ more)) none (c.loop-c.invariant more)

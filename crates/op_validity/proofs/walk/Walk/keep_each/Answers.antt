@@ -1,7 +1,7 @@
 use Rattle.std.proofs.Common.{◌≡◌, ◌+◌, ◌-◌, ◌++◌, replicate, arith}
 use Rattle.std.proofs.lemmas.Result.{err_from_is_err_and}
 use Rattle.doc_items.specs.Changes.{change_set}
-use Rattle.doc_op.specs.Actions.{Action, keep}
+use Rattle.doc_op.specs.Actions.{keep}
 use Rattle.op_validity.proofs.Walks.{run_more, run_stops, replicate_next}
 use Rattle.op_validity.proofs.walk.Walk.keep_each.Goals as goal
 

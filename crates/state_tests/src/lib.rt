@@ -1,0 +1,5 @@
+//! Tests of states of wavelets, and of snapshots.
+#![tactic(auto)]
+
+#[cfg(test)]
+mod states;

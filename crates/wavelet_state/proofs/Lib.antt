@@ -1,0 +1,4 @@
+mod Drafts
+mod Entries
+mod Parts
+mod Stretches

@@ -1,0 +1,39 @@
+-- What operations make of the two parts of a state, while documents may be there that are empty.
+--     seen roles documents       the state: the documents that aren't empty
+--     whole roles documents      the state of these documents, of which none is empty
+--     parts, parts_code          the two parts, and the code of a state
+--     IsRefused s as f           the fault f tells the first of the acts that doesn't apply
+--     IsRefusedFrom k s as f     so it does, counted from k
+use Rattle.std.specs.Prelude.{◌≡◌, ℕ, ◌+◌, List, None, refl}
+use Rattle.std.specs.Coded.{Coded, code_by, coded_list, coded_ℕ, coded×}
+use Rattle.std.specs.FinMap.{code}
+use Rattle.doc_items.specs.Maps.{Map}
+use Rattle.doc_items.specs.declared.item.Item.{Item}
+use Rattle.wavelet_op.specs.Acts.{Act}
+use Rattle.wavelet_op.specs.States.{State, run, first_invalid}
+use Rattle.wavelet_op.specs.declared.fault.WaveletFault.{WaveletFault}
+use Rattle.wavelet_op.specs.declared.fault.WaveletFault.TheVariants.{OpInvalid, CountTooLarge, Conflict, DontFit, Memory}
+use Rattle.wavelet_op.specs.declared.role.Role.{Role}
+use Rattle.wavelet_state.specs.Parts.{trimmed}
+
+abbrev pub seen : Map Role → Map (List Item) → State
+seen roles documents = record { roles = roles; documents = trimmed documents }
+
+abbrev pub whole : Map Role → Map (List Item) → State
+whole roles documents = record { roles = roles; documents = documents }
+
+abbrev pub IsRefusedFrom : ℕ → State → List Act → WaveletFault → Type 0
+IsRefusedFrom k s acts (OpInvalid j) = (j ≡ k + first_invalid s acts) × (run s acts ≡ None)
+IsRefusedFrom k s acts CountTooLarge = ⊥
+IsRefusedFrom k s acts (Conflict j) = ⊥
+IsRefusedFrom k s acts (DontFit place) = ⊥
+IsRefusedFrom k s acts Memory = Unit {0}
+
+abbrev pub IsRefused : State → List Act → WaveletFault → Type 0
+IsRefused s acts f = IsRefusedFrom 0 s acts f
+
+abbrev pub parts : State → Map Role × Map (List Item)
+parts s = (s.roles, s.documents)
+
+abbrev pub parts_code : Coded Role → Coded Item → Coded State
+parts_code role item = code_by (Map Role × Map (List Item)) (coded× (code (coded_list coded_ℕ) role) (code (coded_list coded_ℕ) (coded_list item))) parts (λ p. whole p.0 p.1) (λ _. refl)

@@ -1,0 +1,15 @@
+//! The state of a wavelet, with its documents in pieces, and how operations and deltas apply to it.
+#![tactic(auto)]
+
+mod apply;
+mod documents;
+mod draft;
+mod fault;
+mod roles;
+mod snapshot;
+mod state;
+mod stretch;
+
+pub use apply::{apply_delta, apply_op};
+pub use snapshot::{MAX_INSERTED, Snapshot};
+pub use state::WaveletState;

@@ -1,0 +1,149 @@
+// The state of a wavelet.
+ghost use Rattle.std.specs.Prelude.{◌≡◌, ◌↔◌, ◌≤◌, IsTrue, is_some, Some, IfSome, IfOk, IfErr, OnOk, OnErr, slice_get, length};
+ghost use Rattle.std.specs.Option.{option_copied};
+ghost use Rattle.std.specs.FinMap as finite;
+ghost use Rattle.doc_items.specs.Balance.{Balanced};
+ghost use Rattle.wavelet_op.specs.Acts.{meaning, meanings};
+ghost use Rattle.wavelet_op.specs.States.{apply_act, document_of, empty_state, kept, role_of, run};
+ghost use Rattle.wavelet_state.specs.Drafts.{IsRefused};
+ghost use Rattle.wavelet_state.specs.Parts.{item_count, IsStepFault};
+
+use crate::documents::Documents;
+use crate::draft::Draft;
+use crate::roles::Roles;
+use doc_items::{Document, Memory};
+use doc_rope::Rope;
+use std::alloc::Global;
+use std::marker::Model;
+use wave_base::{Address, DocumentName};
+use wavelet_op::{Role, WaveletFault, WaveletOp};
+
+/// The state of a wavelet: its participants with their roles, and its documents. Each document is balanced, and one that is empty
+/// isn't kept.
+#[derive(Drop)]
+pub struct WaveletState {
+    draft: Draft,
+}
+
+impl Model for WaveletState {
+    ghost use Rattle.std.specs.Prelude.{List, refl};
+    ghost use Rattle.std.specs.Coded.{coded_list, coded_ℕ, coded×, code_by};
+    ghost use Rattle.std.specs.FinMap.{code};
+    ghost use Rattle.doc_items.specs.declared.item.Item.{Item};
+    ghost use Rattle.doc_items.specs.contracts.item.Item as item_row;
+    ghost use Rattle.wavelet_op.specs.States.{State};
+    ghost use Rattle.wavelet_op.specs.contracts.role.Role as role_row;
+    ghost use Rattle.wavelet_state.specs.Drafts.{whole, parts, parts_code};
+    ghost use Rattle.wavelet_state.specs.Parts.{IsTrim};
+
+    ghost Value = { State };
+
+    ghost coded = { parts_code role_row.the_row.coded item_row.the_row.coded };
+
+    ghost view = { λ s. whole s.draft.roles s.draft.documents };
+
+    ghost invariant = { λ s. IsTrim s.draft.documents };
+}
+
+impl WaveletState {
+    /// The state without participants and documents.
+    pub fn new(alloc: Global) -> WaveletState
+        ensures { result ≡ empty_state }
+    {
+        WaveletState {
+            draft: Draft {
+                roles: Roles::new(alloc),
+                documents: Documents::new(alloc),
+            },
+        }
+    }
+
+    /// Whether the address is a participant.
+    pub fn has(&self, address: &Address) -> bool
+        ensures { result ≡ is_some (role_of self.now address.now) }
+    {
+        self.role(address).is_some()
+    }
+
+    /// The address's role; None exactly where it is no participant.
+    pub fn role(&self, address: &Address) -> Option<Role>
+        ensures { result ≡ role_of self.now address.now }
+    {
+        self.draft.roles.get(address)
+    }
+
+    /// The participant at a place in byte order; None exactly where the place isn't below the number of participants.
+    pub fn participant(&self, place: u64) -> Option<&Address>
+        ensures { option_copied result ≡ slice_get (finite.keys self.now.roles) place }
+    {
+        self.draft.roles.at(place as usize)
+    }
+
+    /// A copy of the document; None exactly where it is empty. The error is want of memory.
+    pub fn document(&self, alloc: Global, name: &DocumentName) -> Result<Option<Document>, Memory>
+        ensures value { IfOk result (λ d. d ≡ kept (document_of self.now name.now)) }
+        ensures balanced { Balanced (document_of self.now name.now) }
+    {
+        match self.rope(name) {
+            Some(rope) => Ok(Some(rope.list(alloc)?)),
+            None => Ok(None),
+        }
+    }
+
+    /// The document in pieces; None exactly where it is empty.
+    pub fn rope(&self, name: &DocumentName) -> Option<&Rope>
+        ensures value { option_copied result ≡ kept (document_of self.now name.now) }
+        ensures balanced { Balanced (document_of self.now name.now) }
+    {
+        self.draft.documents.get(name)
+    }
+
+    /// The name at a place in byte order, of the documents that aren't empty; None exactly where the place isn't below their
+    /// number.
+    pub fn document_name(&self, place: u64) -> Option<&DocumentName>
+        ensures { option_copied result ≡ slice_get (finite.keys self.now.documents) place }
+    {
+        self.draft.documents.at(place as usize)
+    }
+
+    /// Whether all documents together have at most so many items.
+    pub fn fits(&self, limit: u64) -> bool
+        ensures { IsTrue result ↔ (item_count self.now.documents ≤ limit) }
+    {
+        self.draft.documents.fit(limit)
+    }
+
+    /// An equal state.
+    pub fn copy(&self, alloc: Global) -> Result<WaveletState, Memory>
+        ensures { IfOk result (λ s. s ≡ self.now) }
+    {
+        let draft = self.draft.copy(alloc)?;
+        Ok(WaveletState { draft })
+    }
+
+    /// Applies one operation. Refusals, `Memory` included, leave the state as it was.
+    pub(crate) fn apply(&mut self, alloc: Global, op: &WaveletOp) -> Result<(), WaveletFault>
+        ensures ok { OnOk result (apply_act self.old (meaning op.now) ≡ Some self.new) }
+        ensures refused { IfErr result (IsStepFault 0 (apply_act self.old (meaning op.now))) }
+        ensures kept { OnErr result (self.new ≡ self.old) }
+    {
+        self.draft.step(alloc, op, 0)
+    }
+
+    /// Applies operations in turn. Refusals, `Memory` included, leave the state as it was.
+    pub(crate) fn apply_all(&mut self, alloc: Global, ops: &[WaveletOp]) -> Result<(), WaveletFault>
+        requires { length ops.now ≤ 1000 }
+        ensures ok { OnOk result (run self.old (meanings ops.now) ≡ Some self.new) }
+        ensures refused { IfErr result (IsRefused self.old (meanings ops.now)) }
+        ensures kept { OnErr result (self.new ≡ self.old) }
+    {
+        let roles = self.draft.roles.copy(alloc)?;
+        match self.draft.run(alloc, ops, 0) {
+            Ok(()) => Ok(()),
+            Err(fault) => {
+                self.draft.roles = roles;
+                Err(fault)
+            }
+        }
+    }
+}
