@@ -75,10 +75,13 @@ pub unasked : (h : HistoryOf) (d : DeltaOf) → IsFitting h d → may_write (sta
 unasked h d f e = (f.starts, λ l. let n = last_next h d l in true≢false (sym (subst (λ p. may_write (standing h.deltas p d.id.author (acts_of d)) ≡ true) (here_is h d n) n.author) ∙ e))
 
 pub invalid : (h : HistoryOf) (d : DeltaOf) → IsFitting h d → run (head_of h).state (acts_of d) ≡ None → IsRefused h d NotLegal
-invalid h d f e = (f.starts, λ l.
-    let n = last_next h d l in
-    let a = behind_point n.here n.after d n.goes in
-    no_value (sym (ap (λ (p : Point). run p.state (acts_of d)) (here_is h d n) ∙ e) ∙ a.goes))
+invalid h d f e = (
+  f.starts,
+  λ l.
+      let n = last_next h d l in
+      let a = behind_point n.here n.after d n.goes in
+      no_value (sym (ap (λ (p : Point). run p.state (acts_of d)) (here_is h d n) ∙ e) ∙ a.goes),
+)
 
 pub not_run : (h : HistoryOf) (d : DeltaOf) (f : HistoryFault) → IsFitting h d → IsInvalid (head_of h).state (acts_of d) f → IsRefused h d f
 not_run h d (NotNext have got) a u = absurd u

@@ -175,11 +175,7 @@ impl History {
 
     /// The delta with what it leads to, for `commit`; there is room for it then. The refusals are those of `push_applied`. All but
     /// the room stays as it was.
-    pub fn prepare(
-        &mut self,
-        alloc: Global,
-        delta: AppliedDelta,
-    ) -> Result<Prepared, HistoryFault>
+    pub fn prepare(&mut self, alloc: Global, delta: AppliedDelta) -> Result<Prepared, HistoryFault>
         ensures ok { IfOk result (λ p. (p.delta ≡ delta) × IsReady self.old delta (record { at = p.step.to; state = p.state; count = p.step.inserted })) }
         ensures room { OnOk result (0 < self.new.spare) }
         ensures refused { IfErr result (IsRefused self.old delta) }

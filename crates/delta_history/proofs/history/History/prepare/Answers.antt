@@ -10,7 +10,7 @@ returns-clause-ok c =
     let asked = c.in_ok-step.ensures.ok in
     let head = ap (λ (h : HistoryOf). (head_of h).state) (sym c.self.view_is) ∙ c.self.invariant ∙ sym c.in_ok-state.ensures in
     if_ok c.lead.result c.lead.ensures.delta c.lead.ensures.step c.lead.ensures.state
-      (λ p same step goes. (same, ready_step c.args.self.now c.args.delta p.step c.in_ok-state.state p.state c.step.ensures.legal asked.0 (step ∙ asked.1) head goes))
+    (λ p same step goes. (same, ready_step c.args.self.now c.args.delta p.step c.in_ok-state.state p.state c.step.ensures.legal asked.0 (step ∙ asked.1) head goes))
 
 pub returns-clause-refused : goal.returns-clause-refused
 returns-clause-refused c =
