@@ -1,17 +1,17 @@
 -- The next delta of a history, from what is tested of it.
 --     ready             it may come next, and where it leads
 --     unfit, unasked, invalid     why the longer history isn't legal
-use Rattle.std.proofs.Common.{◌≡◌, ◌≢◌, ℕ, ◌+◌, ◌≤◌, true, false, List, [], ◌∷◌, ◌++◌, length, Option, Some, None, Result, Ok, Err, IfOk, IfErr, refl, sym, ap, subst, ◌∙◌, true≢false, unwrap_or}
+use Rattle.std.proofs.Common.{◌≡◌, ◌+◌, ◌≤◌, true, false, [], ◌∷◌, ◌++◌, length, Some, None, Result, Ok, Err, IfOk, IfErr, sym, ap, subst, ◌∙◌, true≢false, unwrap_or}
 use Rattle.std.specs.Option.{option_map}
-use Rattle.doc_op.proofs.Applying.{no_value, same_Some}
-use Rattle.wavelet_op.specs.Acts.{Act, inserted}
+use Rattle.doc_op.proofs.Applying.{no_value}
+use Rattle.wavelet_op.specs.Acts.{inserted}
 use Rattle.wavelet_op.specs.Deltas.{DeltaOf}
 use Rattle.wavelet_op.specs.States.{State, run}
 use Rattle.delta_history.specs.declared.fault.HistoryFault.{HistoryFault}
 use Rattle.delta_history.specs.declared.fault.HistoryFault.TheVariants.{NotNext, NotLegal, Memory}
 use Rattle.delta_history.specs.Histories.{HistoryOf, head_of, IsSameHistory, IsGrown}
 use Rattle.delta_history.specs.Legal.{standing, may_write, IsNext, IsLegal}
-use Rattle.delta_history.specs.Points.{Point, start, acts_of, point_behind, next_point, replay, end_of}
+use Rattle.delta_history.specs.Points.{Point, start, acts_of, point_behind, next_point, end_of}
 use Rattle.delta_history.specs.Pushes.{IsAsked, IsInvalid, IsReady, IsRefused}
 use Rattle.delta_history.specs.Steps.{IsFitting, IsUnfit, step_behind}
 use Rattle.delta_history.specs.declared.step.Step.{Step}

@@ -1,4 +1,4 @@
-use Rattle.std.proofs.Common.{◌≡◌, Some, sym, ap, subst, ◌∙◌, refl}
+use Rattle.std.proofs.Common.{sym, ap, subst, ◌∙◌}
 use Rattle.wavelet_op.specs.Acts.{meanings}
 use Rattle.wavelet_op.specs.Deltas.{DeltaOf}
 use Rattle.wavelet_op.specs.States.{run}
