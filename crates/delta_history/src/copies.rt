@@ -33,7 +33,8 @@ pub trait Copies {
     /// their number.
     fn hosted(&self, place: u64) -> Option<&WaveletName>
         ensures value { option_copied result ≡ slice_get (hosts self.now) place }
-        ensures there { IfSome result (λ n. IsSome (copies self.now n.now)) };
+        ensures there { IfSome result (λ n. IsSome (copies self.now n.now)) }
+        ensures ascending { AreAscending (hosts self.now) };
 
     /// Whether the copy of that name noted a drop, and has taken no delta since.
     fn dropped(&self, name: &WaveletName) -> bool
@@ -43,7 +44,4 @@ pub trait Copies {
     fn outcome(&self, name: &WaveletName, id: &DeltaId) -> Option<Verdict>
         ensures value { result ≡ outcomes self.now name.now id.now }
         ensures kept { IsKeptOutcome (copies self.now name.now) id.now result };
-
-    /// The names hosted here are in byte order.
-    ghost ascending: { (here : Self) → AreAscending (hosts here) };
 }

@@ -25,10 +25,7 @@ pub(crate) fn lead_on(
 }
 
 /// The state behind the deltas, which are valid in turn from the empty state on.
-pub(crate) fn state_behind(
-    alloc: Global,
-    deltas: &[AppliedDelta],
-) -> Result<WaveletState, Memory>
+pub(crate) fn state_behind(alloc: Global, deltas: &[AppliedDelta]) -> Result<WaveletState, Memory>
     requires { IsSome (run_all empty_state deltas.now) }
     ensures { IfOk result (λ s. run_all empty_state deltas.now ≡ Some s) }
 {

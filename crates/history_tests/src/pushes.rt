@@ -55,22 +55,33 @@ fn versions_and_ids_are_found(rt: HostRuntime) -> Result<(), Fail> {
     Ok(())
 }
 
+fn is_not_next(outcome: Result<(), HistoryFault>) -> bool {
+    match outcome {
+        Err(HistoryFault::NotNext { .. }) => true,
+        _ => false,
+    }
+}
+
+fn is_not_legal(outcome: Result<(), HistoryFault>) -> bool {
+    match outcome {
+        Err(HistoryFault::NotLegal) => true,
+        _ => false,
+    }
+}
+
+// What becomes of the first delta where it is there already, and starts at this version.
+fn again(alloc: Global, from: HashedVersion) -> Result<Result<(), HistoryFault>, Fail> {
+    let mut history = after_first(alloc)?;
+    let delta = first(alloc, from)?;
+    Ok(history.push_applied(alloc, delta))
+}
+
 #[test]
 fn a_delta_is_taken_once(rt: HostRuntime) -> Result<(), Fail> {
     let alloc = rt.alloc();
-    let mut history = after_first(alloc)?;
     let start = empty(alloc)?.head();
-    match history.push_applied(alloc, first(alloc, start)?) {
-        Err(HistoryFault::NotNext { have, got }) => {
-            assert!(rt; is_same(have, BEHIND_FIRST) && is_same(got, start));
-        }
-        _ => assert!(rt; false, "a delta at the start"),
-    }
-    match history.push_applied(alloc, first(alloc, BEHIND_FIRST)?) {
-        Err(HistoryFault::NotLegal) => {}
-        _ => assert!(rt; false, "an id that isn't new"),
-    }
-    assert!(rt; history.deltas().len() == 1);
+    assert!(rt; is_not_next(again(alloc, start)?));
+    assert!(rt; is_not_legal(again(alloc, BEHIND_FIRST)?));
     Ok(())
 }
 
@@ -79,17 +90,42 @@ fn a_delta_is_taken_once(rt: HostRuntime) -> Result<(), Fail> {
 const ROWS: [(&str, &str, Option<&str>); 9] = [
     ("bob@a.com", "add alice@a.com", None),
     ("alice@a.com", "noop; add alice@a.com", None),
-    ("alice@a.com", "add alice@a.com; add bob@a.com", Some("alice@a.com full; bob@a.com full; ")),
-    ("alice@a.com", "b+1: +hi", Some("alice@a.com full; bob@a.com full; b+1: hi; ")),
+    (
+        "alice@a.com",
+        "add alice@a.com; add bob@a.com",
+        Some("alice@a.com full; bob@a.com full; "),
+    ),
+    (
+        "alice@a.com",
+        "b+1: +hi",
+        Some("alice@a.com full; bob@a.com full; b+1: hi; "),
+    ),
     ("alice@a.com", "b+1: 3 +!", None),
-    ("alice@a.com", "b+1: 2 +!", Some("alice@a.com full; bob@a.com full; b+1: hi!; ")),
-    ("bob@a.com", "b+1: 3 +?; role bob@a.com full read", Some("alice@a.com full; bob@a.com read; b+1: hi!?; ")),
+    (
+        "alice@a.com",
+        "b+1: 2 +!",
+        Some("alice@a.com full; bob@a.com full; b+1: hi!; "),
+    ),
+    (
+        "bob@a.com",
+        "b+1: 3 +?; role bob@a.com full read",
+        Some("alice@a.com full; bob@a.com read; b+1: hi!?; "),
+    ),
     ("bob@a.com", "b+1: 4 +.", None),
-    ("alice@a.com", "b+1: -hi 2; noop", Some("alice@a.com full; bob@a.com read; b+1: !?; ")),
+    (
+        "alice@a.com",
+        "b+1: -hi 2; noop",
+        Some("alice@a.com full; bob@a.com read; b+1: !?; "),
+    ),
 ];
 
 // Takes the delta in, and tells whether it is in.
-fn take(alloc: Global, history: &mut History, delta: AppliedDelta, prepares: bool) -> Result<bool, Fail> {
+fn take(
+    alloc: Global,
+    history: &mut History,
+    delta: AppliedDelta,
+    prepares: bool,
+) -> Result<bool, Fail> {
     if !prepares {
         return Ok(history.push_applied(alloc, delta).is_ok());
     }
@@ -102,20 +138,32 @@ fn take(alloc: Global, history: &mut History, delta: AppliedDelta, prepares: boo
     }
 }
 
+// Whether the delta of these words is taken where a state is wanted, and leads to it.
+fn leads_to(
+    alloc: Global,
+    history: &mut History,
+    number: u64,
+    row: &(&str, &str, Option<&str>),
+) -> Result<bool, Fail> {
+    let (author, words, want) = *row;
+    let delta = delta_at(alloc, author, number.min(9), history.head(), words)?;
+    let taken = take(alloc, history, delta, author == "alice@a.com")?;
+    let shown = shown_state(alloc, history.state())?;
+    Ok(match want {
+        Some(want) => taken && shown.as_str() == want,
+        None => !taken,
+    })
+}
+
 #[test]
 fn deltas_in_turn(rt: HostRuntime) -> Result<(), Fail> {
     let alloc = rt.alloc();
     let mut history = empty(alloc)?;
-    let mut number = 0u64;
-    for (author, words, want) in ROWS {
-        number += 1;
-        let delta = delta_at(alloc, author, number, history.head(), words)?;
-        let taken = take(alloc, &mut history, delta, author == "alice@a.com")?;
-        assert!(rt; taken == want.is_some(), "{words}");
-        if let Some(want) = want {
-            let shown = shown_state(alloc, history.state())?;
-            assert!(rt; shown.as_str() == want, "{words}");
-        }
+    for (number, row) in ROWS.iter().enumerate() {
+        assert!(rt;
+            leads_to(alloc, &mut history, number as u64, row)?,
+            "at {number}"
+        );
     }
     Ok(())
 }

@@ -50,15 +50,16 @@ const EDITS: [(&str, &str, &str); 39] = [
 ];
 
 // The history with the state that it had behind each delta.
-struct Told {
+#[derive(Drop)]
+struct Replay {
     history: History,
     states: Vec<String>,
 }
 
-impl Told {
-    fn new(alloc: Global) -> Result<Told, Fail> {
+impl Replay {
+    fn new(alloc: Global) -> Result<Replay, Fail> {
         let name = WaveletName::parse(alloc, "a.com/w1/a.com/conv+root")?;
-        let mut told = Told {
+        let mut told = Replay {
             history: History::new(alloc, name),
             states: Vec::new(alloc),
         };
@@ -84,8 +85,8 @@ impl Told {
     }
 }
 
-fn told(alloc: Global) -> Result<Told, Fail> {
-    let mut told = Told::new(alloc)?;
+fn told(alloc: Global) -> Result<Replay, Fail> {
+    let mut told = Replay::new(alloc)?;
     for letter in ["a", "b", "c"] {
         for (number, (begin, second, third)) in EDITS.iter().enumerate() {
             let document = format!(in alloc; "{letter}+{number}")?;
@@ -97,7 +98,13 @@ fn told(alloc: Global) -> Result<Told, Fail> {
     Ok(told)
 }
 
-fn is_told(rt: &impl Abort, alloc: Global, told: &Told, version: u64, want: &str) -> Result<(), Fail> {
+fn is_told(
+    rt: &impl Abort,
+    alloc: Global,
+    told: &Replay,
+    version: u64,
+    want: &str,
+) -> Result<(), Fail> {
     match told.history.state_at(alloc, version)? {
         Some(state) => {
             let shown = shown_state(alloc, &state)?;

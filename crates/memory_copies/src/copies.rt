@@ -19,8 +19,12 @@ impl Model for MemoryCopies {
     ghost use Rattle.delta_history.specs.Copying.{AreAscending};
     ghost use Rattle.memory_copies.specs.Holding.{names_of};
     ghost use Rattle.memory_copies.specs.declared.held.Held.{Held};
+    ghost use Rattle.memory_copies.specs.contracts.held.Held as held_row;
+    ghost use Rattle.std.specs.Coded.{codes};
 
     ghost Value = { List Held };
+
+    ghost coded = { Prim.hlevel (codes, held_row.the_row.coded) };
 
     ghost view = { λ c. c.list.items };
 
@@ -116,7 +120,6 @@ impl MemoryCopies {
 impl Copies for MemoryCopies {
     ghost use Rattle.std.specs.Prelude.{◌≡◌};
     ghost use Rattle.memory_copies.specs.Holding.{held_of, shown_copy, shown_hosts, is_dropped, known};
-    ghost use Rattle.memory_copies.proofs.Holding.{hosts_ascend};
 
     ghost copies = { λ c n. shown_copy (held_of c n) };
 
@@ -142,6 +145,7 @@ impl Copies for MemoryCopies {
     fn hosted(&self, place: u64) -> Option<&WaveletName>
         ensures value { option_copied result ≡ slice_get (shown_hosts self.now) place }
         ensures there { IfSome result (λ n. IsSome (shown_copy (held_of self.now n.now))) }
+        ensures ascending { AreAscending (shown_hosts self.now) }
     {
         host(self.list.as_slice(), place)
     }
@@ -168,6 +172,4 @@ impl Copies for MemoryCopies {
             None => noted(held.noted.as_slice(), id),
         }
     }
-
-    ghost ascending = { hosts_ascend };
 }

@@ -4,7 +4,7 @@ use thiserror::Error;
 use wave_base::BaseFault;
 
 /// Why words aren't read.
-#[derive(Debug, Error)]
+#[derive(Debug, Drop, Error)]
 pub enum WordsFault {
     /// There are none, or more than 1,000 operations.
     #[error("not 1 to 1,000 operations")]

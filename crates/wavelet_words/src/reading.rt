@@ -48,7 +48,9 @@ fn one(alloc: Global, words: &str) -> Result<WaveletOp, WordsFault> {
 pub fn operations(alloc: Global, words: &str) -> Result<Ops, WordsFault> {
     let mut list = Vec::new(alloc);
     for word in words.split("; ") {
-        list.push(one(alloc, word)?)?;
+        if list.push(one(alloc, word)?).is_err() {
+            return Err(WordsFault::Memory);
+        }
     }
     match Ops::new(list) {
         Some(ops) => Ok(ops),

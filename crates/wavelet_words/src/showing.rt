@@ -4,11 +4,7 @@ use std::alloc::Global;
 use wavelet_op::Role;
 use wavelet_state::WaveletState;
 
-fn push_participants(
-    alloc: Global,
-    state: &WaveletState,
-    out: &mut String,
-) -> Result<(), Memory> {
+fn push_participants(alloc: Global, state: &WaveletState, out: &mut String) -> Result<(), Memory> {
     for place in 0..u64::MAX {
         let Some(address) = state.participant(place) else {
             return Ok(());
