@@ -46,21 +46,28 @@ pub text_balanced : (m : Map Key) (text : List ℕ) → Balanced (with_notes m (
 text_balanced m [] = refl
 text_balanced m (c ∷ text) = (tt, text_balanced m text)
 
--- an operation that inserts with the annotations left of the place is the edit
+-- an operation that inserts with these annotations is the edit
+pub inserts_with : (op : List Component) (items : List Item) (place n : ℕ) (contents : List Content) (u : ChangeSet) (m : Map Key) → u ≡ from_absent m → n ≡ length items
+    → place ≤ length items → Balanced (with_notes m contents)
+    → actions op ≡ around place (map (insertion u) contents) (n - place) → op ≡ normal_form (actions op)
+    → IsEdit op (plan items place 0 (map Ins (with_notes m contents))) items (replaced items place 0 (with_notes m contents))
+inserts_with op items place n contents u m e f h b is normal =
+    let new = with_notes m contents in
+    made items place 0 (map Ins new) new op (omega (arith, h)) (insertion_takes new b)
+    (is ∙ (λ i. around place (map (insertion (e i)) contents) (f i - place)) ∙ ap (λ a. around place a (length items - place)) (inserted_items m contents)
+    ∙ ap (around place (map Ins new)) (omega arith))
+    normal
+
+-- one that inserts with the annotations left of the place
 pub inserts : (op : List Component) (items : List Item) (place n : ℕ) (contents : List Content) (u : ChangeSet) → u ≡ from_absent (left_notes items place) → n ≡ length items
     → place ≤ length items → Balanced (with_notes (left_notes items place) contents)
     → actions op ≡ around place (map (insertion u) contents) (n - place) → op ≡ normal_form (actions op)
     → IsEdit op (plan items place 0 (map Ins (with_notes (left_notes items place) contents))) items (replaced items place 0 (with_notes (left_notes items place) contents))
-inserts op items place n contents u e f h b is normal =
-    let new = with_notes (left_notes items place) contents in
-    made items place 0 (map Ins new) new op (omega (arith, h)) (insertion_takes new b)
-    (is ∙ (λ i. around place (map (insertion (e i)) contents) (f i - place)) ∙ ap (λ a. around place a (length items - place)) (inserted_items (left_notes items place) contents)
-    ∙ ap (around place (map Ins new)) (omega arith))
-    normal
+inserts op items place n contents u e f h b is normal = inserts_with op items place n contents u (left_notes items place) e f h b is normal
 
 -- ---- the annotations left of a place
 
-no_notes : (u : ChangeSet) → u ≡ none_running → u ≡ from_absent empty
+pub no_notes : (u : ChangeSet) → u ≡ none_running → u ≡ from_absent empty
 no_notes u e = e ∙ alike _ _ (λ q. get-empty (slice_cmp nat_cmp) q ∙ sym (get-each fresh empty q ∙ ap (option_map fresh) (get-empty (slice_cmp nat_cmp) q)))
 
 pub nothing_left : (items : List Item) (place : ℕ) (u : ChangeSet) → u ≡ none_running → place ≡ 0 → u ≡ from_absent (left_notes items place)

@@ -5,6 +5,7 @@
 --     with_notes m contents      items of these contents, each with these annotations
 --     new_text, typed            a text's characters as new items;  the items with them at a place
 --     new_element, with_element  an element's start and end as new items;  the items with them at a place
+--     bare, with_contents        items of these contents without annotations;  the items with them at a place
 --     erased                     the items without a range
 --     noted, annotated           an item, and the items of a range, with one annotation set or taken away
 --     attributes_of, attributes_at   the attributes of an element's start;  of the one at a place
@@ -46,6 +47,12 @@ new_element items place kind attributes = with_notes (left_notes items place) (S
 
 abbrev pub with_element : List Item → ℕ → List ℕ → Map Key → List Item
 with_element items place kind attributes = replaced items place 0 (new_element items place kind attributes)
+
+abbrev pub bare : List Content → List Item
+bare contents = with_notes empty contents
+
+abbrev pub with_contents : List Item → ℕ → List Content → List Item
+with_contents items place contents = replaced items place 0 (bare contents)
 
 -- ---- items that are there
 

@@ -3,19 +3,20 @@
 --     around before acts behind  actions with items that stay before and behind them
 --     plan items from count acts actions on a range of the items; all others stay
 --     one_change key old new     the change of one key
---     typing, erasing, annotating, adding_element, setting_attribute     the actions of the edits
+--     typing, erasing, annotating, adding_element, adding_contents, setting_attribute     the actions of the edits
 --     IsEdit op acts items out   an operation in normal form of these actions, structured, that makes this of the items
 use Rattle.std.specs.Prelude.{◌≡◌, ℕ, ◌+◌, ◌-◌, List, ◌++◌, length, map, replicate, Option, Some, option_and_then}
 use Rattle.std.specs.FinMap.{get, empty, insert}
 use Rattle.doc_items.specs.Maps.{Key, Map}
 use Rattle.doc_items.specs.Changes.{ChangeSet, none_running}
+use Rattle.doc_items.specs.declared.item.Content.{Content}
 use Rattle.doc_items.specs.declared.item.Item.{Item}
 use Rattle.doc_op.specs.declared.component.Component.{Component}
 use Rattle.doc_op.specs.Actions.{Action, Keep, Ins, Del, Unchanged, Update, keep, actions}
 use Rattle.doc_op.specs.Apply.{valid}
 use Rattle.doc_op.specs.Normal.{normal_form}
 use Rattle.doc_op.specs.Structure.{Structured}
-use Rattle.op_build.specs.Edits.{range, attributes_of, new_text, new_element}
+use Rattle.op_build.specs.Edits.{range, attributes_of, new_text, new_element, bare}
 
 abbrev pub retained : ℕ → List Action
 retained count = replicate count (keep none_running)
@@ -48,6 +49,9 @@ typing items place text = plan items place 0 (map Ins (new_text items place text
 
 abbrev pub adding_element : List Item → ℕ → List ℕ → Map Key → List Action
 adding_element items place kind attributes = plan items place 0 (map Ins (new_element items place kind attributes))
+
+abbrev pub adding_contents : List Item → ℕ → List Content → List Action
+adding_contents items place contents = plan items place 0 (map Ins (bare contents))
 
 abbrev pub erasing : List Item → ℕ → ℕ → List Action
 erasing items from count = plan items from count (map erase_one (range items from count))

@@ -3,6 +3,7 @@
 
 mod annotation;
 mod attribute;
+mod contents;
 mod element;
 mod erasure;
 mod fault;
@@ -14,6 +15,7 @@ mod typing;
 
 pub use annotation::annotate;
 pub use attribute::set_attribute;
+pub use contents::insert_contents;
 pub use element::insert_element;
 pub use erasure::erase;
 pub use fault::BuildFault;
