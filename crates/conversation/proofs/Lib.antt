@@ -1,1 +1,4 @@
+pub mod Ends
+pub mod Growing
 pub mod Readings
+pub mod Searching

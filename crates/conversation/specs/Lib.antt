@@ -1,1 +1,4 @@
+pub mod Edits
+pub mod Refusals
+pub mod Search
 pub mod Trees

@@ -12,6 +12,7 @@
 --     part_at d m, node_at d m what stands at this depth
 --     shown r i                the node that an item adds
 --     tree r items             the nodes of the items
+--     behind r items           how far the manifest is read behind them
 --     thread_tree items        the tree of a manifest
 use Rattle.std.specs.Prelude.{ℕ, zero, suc, ◌+◌, ◌-◌, ◌%◌, ◌==◌, Bool, true, false, cond, ◌&&◌, not, List, [], ◌∷◌, ◌++◌, Some, is_some, unwrap_or, codes}
 use Rattle.std.specs.FinMap.{get}
@@ -83,6 +84,10 @@ shown r i = shown_content r i.content
 abbrev pub tree : Reading → List Item → List Node
 tree r [] = []
 tree r (i ∷ items) = shown r i ++ tree (step r i) items
+
+abbrev pub behind : Reading → List Item → Reading
+behind r [] = r
+behind r (i ∷ items) = behind (step r i) items
 
 abbrev pub thread_tree : List Item → List Node
 thread_tree items = tree start items

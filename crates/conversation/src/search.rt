@@ -1,0 +1,92 @@
+// Where a node of the tree stands in its manifest.
+ghost use Rattle.std.specs.Prelude.{◌≡◌, ◌+◌, ◌<◌, ◌≤◌, true, false, length, drop, MatchOption};
+ghost use Rattle.doc_items.specs.Balance.{Balanced, BalancedFrom};
+ghost use Rattle.conversation.specs.Edits.{has};
+ghost use Rattle.conversation.specs.Search.{is_wanted, ends_here, IsFound, IsEnd};
+ghost use Rattle.conversation.specs.Trees.{node_at, shown, thread_tree};
+
+use crate::reading::Reading;
+use doc_items::{Attributes, Content, Item};
+use op_build::Items;
+
+/// The start of a node: its place, and how far the manifest is read behind it.
+#[derive(Clone, Copy, Drop)]
+pub(crate) struct Found {
+    pub place: u64,
+    pub reading: Reading,
+}
+
+// Whether the node of this depth is the thread, or else the blip, of the id.
+fn is_wanted(depth: u64, attributes: &Attributes, thread: bool, id: &str) -> bool
+    ensures { result ≡ is_wanted thread id.now (node_at depth attributes.now) }
+{
+    let is_thread = depth % 2 != 0;
+    is_thread == thread && attributes.get("id").unwrap_or("") == id
+}
+
+// Whether the item begins the node that is wanted.
+fn begins(reading: &Reading, item: &Item, thread: bool, id: &str) -> bool
+    ensures { result ≡ has (is_wanted thread id.now) (shown reading.now item.now) }
+{
+    let Content::Start { kind, attributes } = &item.content else {
+        return false;
+    };
+    if reading.inside == 0 || !reading.enters(kind, attributes) {
+        return false;
+    }
+    is_wanted(reading.inside - 1, attributes, thread, id)
+}
+
+/// The first thread, or else the first blip, of the id; None exactly where there is none.
+pub(crate) fn find<D: Items>(manifest: &D, thread: bool, id: &str) -> Option<Found>
+    requires { Balanced (D.items manifest.now) }
+    ensures { MatchOption result (has (is_wanted thread id.now) (thread_tree (D.items manifest.now)) ≡ false) (IsFound (is_wanted thread id.now) (D.items manifest.now)) }
+{
+    let mut reading = Reading::new();
+    for place in 0..manifest.len() {
+        let Some(item) = manifest.item(place) else {
+            return None;
+        };
+        let is_here = begins(&reading, item, thread, id);
+        reading.pass(item);
+        if is_here {
+            return Some(Found { place, reading });
+        }
+    }
+    None
+}
+
+// Whether the item ends the element of the tree that was begun last where `inside` were open.
+fn is_end(reading: &Reading, item: &Item, inside: u64) -> bool
+    ensures { result ≡ ends_here reading.now item.now.content inside }
+{
+    match &item.content {
+        Content::Character(_) => false,
+        Content::Start { .. } => false,
+        Content::End => reading.passed == 0 && reading.inside == inside,
+    }
+}
+
+/// How many items behind a place, up to which the manifest is read, the element ends that was begun last.
+pub(crate) fn end_behind<D: Items>(manifest: &D, from: u64, begun: Reading) -> u64
+    requires from { from ≤ length (D.items manifest.now) }
+    requires inside { 0 < begun.inside }
+    requires bound { begun.inside ≤ from }
+    requires found { begun.found ≡ true }
+    requires passed { begun.passed ≡ 0 }
+    requires balanced { BalancedFrom (begun.inside + begun.passed) (drop from (D.items manifest.now)) }
+    ensures end { IsEnd begun (drop from (D.items manifest.now)) result }
+    ensures within { from + result < length (D.items manifest.now) }
+{
+    let mut reading = begun;
+    for behind in 0..manifest.len() - from {
+        let Some(item) = manifest.item(from + behind) else {
+            unreachable!()
+        };
+        if is_end(&reading, item, begun.inside) {
+            return behind;
+        }
+        reading.pass(item);
+    }
+    unreachable!()
+}
