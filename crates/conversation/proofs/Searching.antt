@@ -2,11 +2,12 @@
 --     slice_drop                    an item behind a front
 --     step_balanced                 what is open is what the rest still ends
 --     IsOne, one_shown              an item that begins the node that is looked for
-use Rattle.std.proofs.Common.{◌≡◌, ◌+◌, ◌==◌, ◌||◌, ℕ, zero, suc, Bool, true, false, cond, List, [], ◌∷◌, drop, slice_get, Option, Some, None, refl, sym, ap, subst, ◌∙◌, arith, true≢false}
+use Rattle.std.proofs.Common.{◌≡◌, ◌<◌, ◌+◌, ◌==◌, length, ◌||◌, ℕ, zero, suc, Bool, true, false, cond, List, [], ◌∷◌, drop, slice_get, Option, Some, None, refl, sym, ap, subst, ◌∙◌, arith, true≢false}
 use Rattle.std.proofs.Math.Bool.{or-false}
 use Rattle.std.proofs.lemmas.Bool.{and_parts}
 use Rattle.std.proofs.lemmas.Bool.Decides.{Decides-eqb}
 use Rattle.doc_items.specs.Balance.{BalancedFrom}
+use Rattle.doc_items.specs.Maps.{Key, Map}
 use Rattle.doc_items.specs.declared.item.Content.{Content}
 use Rattle.doc_items.specs.declared.item.Content.TheVariants.{Character, Start, End}
 use Rattle.doc_items.specs.declared.item.Item.{Item}
@@ -14,12 +15,18 @@ use Rattle.conversation.specs.declared.node.Node.{Node}
 use Rattle.conversation.specs.declared.reading.Reading.{Reading}
 use Rattle.conversation.specs.Edits.{has}
 use Rattle.conversation.specs.Trees.{enters, enters_at, opened, passed, step_content, step, node_at, nodes_at, shown_content}
+use Rattle.doc_op.proofs.Applying.{no_value}
 use Rattle.conversation.proofs.Readings.{next_item, balanced_step}
 
 pub slice_drop : (items : List Item) (n k : ℕ) → slice_get (drop n items) k ≡ slice_get items (n + k)
 slice_drop items zero k = ap (slice_get items) (omega arith)
 slice_drop [] (suc n) k = refl
 slice_drop (x ∷ items) (suc n) k = let at : suc (n + k) ≡ suc n + k = omega arith in slice_drop items n k ∙ ap (slice_get (x ∷ items)) at
+
+pub inside_list : (items : List Item) (k : ℕ) (i : Item) → slice_get items k ≡ Some i → k < length items
+inside_list [] k i e = no_value e
+inside_list (x ∷ items) zero i e = omega arith
+inside_list (x ∷ items) (suc k) i e = let r = inside_list items k i e in omega (arith, r)
 
 pub step_balanced : (r r' : Reading) (items : List Item) (k : ℕ) (i : Item) → slice_get items k ≡ Some i → r' ≡ step r i → BalancedFrom (r.inside + r.passed) (drop k items) → BalancedFrom (r'.inside + r'.passed) (drop (k + 1) items)
 step_balanced r r' items k i e s b =
@@ -28,6 +35,8 @@ step_balanced r r' items k i e s b =
 
 pub record IsOne (test : Node → Bool) (r : Reading) (c : Content) : Type 0 where
   pub node : Node
+  pub attributes : Map Key
+  pub is : node ≡ node_at node.depth attributes
   pub shows : shown_content r c ≡ node ∷ []
   pub passes : test node ≡ true
   pub found : (step_content r c).found ≡ true
@@ -46,6 +55,8 @@ one_shown test r (Start kind m) h = go (enters r kind m) refl h
         let two : r.inside + 1 ≡ d + 2 = omega (arith, f) in
         record {
           node = node_at d m;
+          attributes = m;
+          is = refl;
           shows = ap (λ t. cond t (nodes_at r.inside m) []) e ∙ ap (λ n. nodes_at n m) f;
           passes = sym (or-false (test (node_at d m))) ∙ h;
           found = ap (λ t. (cond {A = Reading} t (opened r) (passed r)).found) e;

@@ -1,3 +1,4 @@
+pub mod Contents
 pub mod Edits
 pub mod Refusals
 pub mod Search

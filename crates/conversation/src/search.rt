@@ -2,12 +2,23 @@
 ghost use Rattle.std.specs.Prelude.{◌≡◌, ◌+◌, ◌<◌, ◌≤◌, true, false, length, drop, MatchOption};
 ghost use Rattle.doc_items.specs.Balance.{Balanced, BalancedFrom};
 ghost use Rattle.conversation.specs.Edits.{has};
-ghost use Rattle.conversation.specs.Search.{is_wanted, ends_here, IsFound, IsEnd};
+ghost use Rattle.conversation.specs.Search.{is_kind_at, is_wanted, ends_here, IsFound, IsEnd};
 ghost use Rattle.conversation.specs.Trees.{node_at, shown, thread_tree};
 
 use crate::reading::Reading;
 use doc_items::{Attributes, Content, Item};
 use op_build::Items;
+
+/// What node is looked for.
+#[derive(Clone, Copy, Debug, Drop, PartialEq, Eq)]
+pub(crate) enum Want {
+    /// A blip.
+    OfBlip,
+    /// A thread.
+    OfThread,
+    /// A blip or a thread.
+    OfAny,
+}
 
 /// The start of a node: its place, and how far the manifest is read behind it.
 #[derive(Clone, Copy, Drop)]
@@ -16,17 +27,27 @@ pub(crate) struct Found {
     pub reading: Reading,
 }
 
-// Whether the node of this depth is the thread, or else the blip, of the id.
-fn is_wanted(depth: u64, attributes: &Attributes, thread: bool, id: &str) -> bool
-    ensures { result ≡ is_wanted thread id.now (node_at depth attributes.now) }
+// Whether a node of this depth is of the kind that is wanted.
+fn is_kind(depth: u64, want: Want) -> bool
+    ensures { result ≡ is_kind_at depth want }
 {
-    let is_thread = depth % 2 != 0;
-    is_thread == thread && attributes.get("id").unwrap_or("") == id
+    match want {
+        Want::OfBlip => depth % 2 == 0,
+        Want::OfThread => depth % 2 != 0,
+        Want::OfAny => true,
+    }
+}
+
+// Whether the node of this depth, with these attributes, is wanted.
+fn is_wanted(depth: u64, attributes: &Attributes, want: Want, id: &str) -> bool
+    ensures { result ≡ is_wanted want id.now (node_at depth attributes.now) }
+{
+    is_kind(depth, want) && attributes.get("id").unwrap_or("") == id
 }
 
 // Whether the item begins the node that is wanted.
-fn begins(reading: &Reading, item: &Item, thread: bool, id: &str) -> bool
-    ensures { result ≡ has (is_wanted thread id.now) (shown reading.now item.now) }
+fn begins(reading: &Reading, item: &Item, want: Want, id: &str) -> bool
+    ensures { result ≡ has (is_wanted want id.now) (shown reading.now item.now) }
 {
     let Content::Start { kind, attributes } = &item.content else {
         return false;
@@ -34,20 +55,20 @@ fn begins(reading: &Reading, item: &Item, thread: bool, id: &str) -> bool
     if reading.inside == 0 || !reading.enters(kind, attributes) {
         return false;
     }
-    is_wanted(reading.inside - 1, attributes, thread, id)
+    is_wanted(reading.inside - 1, attributes, want, id)
 }
 
-/// The first thread, or else the first blip, of the id; None exactly where there is none.
-pub(crate) fn find<D: Items>(manifest: &D, thread: bool, id: &str) -> Option<Found>
+/// The first node of the id that is wanted; None exactly where there is none.
+pub(crate) fn find<D: Items>(manifest: &D, want: Want, id: &str) -> Option<Found>
     requires { Balanced (D.items manifest.now) }
-    ensures { MatchOption result (has (is_wanted thread id.now) (thread_tree (D.items manifest.now)) ≡ false) (IsFound (is_wanted thread id.now) (D.items manifest.now)) }
+    ensures { MatchOption result (has (is_wanted want id.now) (thread_tree (D.items manifest.now)) ≡ false) (IsFound (is_wanted want id.now) (D.items manifest.now)) }
 {
     let mut reading = Reading::new();
     for place in 0..manifest.len() {
         let Some(item) = manifest.item(place) else {
             return None;
         };
-        let is_here = begins(&reading, item, thread, id);
+        let is_here = begins(&reading, item, want, id);
         reading.pass(item);
         if is_here {
             return Some(Found { place, reading });

@@ -8,7 +8,7 @@ use Rattle.conversation.proofs.search.find.Given as goal
 abbrev pub invariant-loop-place : goal.invariant-loop-place
 invariant-loop-place g l = record {
   reading : l.reading ≡ behind start (take l.place (g.D.Items.items l.manifest));
-  none : has (is_wanted l.thread l.id) (tree start (take l.place (g.D.Items.items l.manifest))) ≡ false;
+  none : has (is_wanted l.want l.id) (tree start (take l.place (g.D.Items.items l.manifest))) ≡ false;
   balanced : BalancedFrom (l.reading.inside + l.reading.passed) (drop l.place (g.D.Items.items l.manifest));
   inside : l.reading.inside ≤ l.place;
   passed : l.reading.passed ≤ l.place;
