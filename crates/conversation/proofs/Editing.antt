@@ -25,7 +25,7 @@ use Rattle.doc_op.specs.declared.component.Component.{Component}
 use Rattle.doc_op.specs.Actions.{Action, actions}
 use Rattle.doc_op.specs.Normal.{normal_form}
 use Rattle.doc_op.specs.Structure.{Structured}
-use Rattle.op_build.specs.Edits.{bare, attributed, attributed_content}
+use Rattle.op_build.specs.Edits.{bare, range, attributed, attributed_content, with_attribute}
 use Rattle.op_build.specs.Plans.{IsEdit}
 use Rattle.conversation.specs.declared.fault.ConversationFault.{ConversationFault}
 use Rattle.conversation.specs.declared.fault.ConversationFault.TheVariants.{NoBlip, TakenId, CountTooLarge, Memory}
@@ -38,7 +38,7 @@ use Rattle.conversation.specs.Contents.{IsStart, id_of, thread_of, IsReply, IsNe
 use Rattle.conversation.specs.Edits.{named, is_blip_part, is_blip, has, is_taken, a_blip, a_thread, reply_nodes, next_nodes, as_deleted, deleted}
 use Rattle.conversation.specs.Refusals.{IsTreeEdit, IsTaken, IsTakenFault, IsAppendFault, AreNew, IsReplyRefused}
 use Rattle.conversation.specs.Search.{IsFound}
-use Rattle.conversation.specs.Trees.{start, kind_at, enters, enters_at, opened, passed, step_content, step, holds, part_at, node_at, nodes_at, shown_content, shown, tree, behind, thread_tree}
+use Rattle.conversation.specs.Trees.{start, is_named, kind_at, enters, enters_at, opened, passed, step_content, step, holds, part_at, node_at, nodes_at, shown_content, shown, tree, behind, thread_tree}
 use Rattle.conversation.proofs.Entering.{even_next, even_two, odd_next, blip_parity, from, item, enter, behind_enter, leave, behind_leave}
 use Rattle.conversation.proofs.Placing.{IsNew}
 use Rattle.conversation.proofs.Readings.{next_item, tree_append, tree_next, behind_next}
@@ -153,19 +153,7 @@ reply_length inline t n cs c = ap length c.is
 pub reply_new : (r : Reading) (d : ℕ) (inline : Bool) (t n : Key) (cs : List Content) → r.found ≡ true → r.inside ≡ d + 2 → r.passed ≡ 0 → (d % 2 == 0) ≡ true → IsReply inline t n cs → IsNew r (bare cs) (reply_nodes inline t n d)
 reply_new r d inline t n cs f g p even c = subst (λ z. IsNew z (bare cs) (reply_nodes inline t n d)) (sym (at_depth r d f g p)) (subst (λ z. IsNew (from (d + 1)) (bare z) (reply_nodes inline t n d)) (sym is) (record { shows = shows; same = same }))
   where
-    k1 : List ℕ
-    k1 = c.begins.kind
-
-    k2 : List ℕ
-    k2 = c.holds.kind
-
-    abbrev m1 : Map Key
-    m1 = thread_of inline t
-
-    abbrev m2 : Map Key
-    m2 = id_of n
-
-    is : cs ≡ Start c.begins.kind m1 ∷ Start c.holds.kind m2 ∷ End ∷ End ∷ []
+    is : cs ≡ Start c.begins.kind (thread_of inline t) ∷ Start c.holds.kind (id_of n) ∷ End ∷ End ∷ []
     is = c.is ∙ (λ i. c.begins.is i ∷ c.holds.is i ∷ End ∷ End ∷ [])
 
     two : d + 2 ≡ suc (d + 1)
@@ -183,21 +171,18 @@ reply_new r d inline t n cs f g p even c = subst (λ z. IsNew z (bare cs) (reply
     second : encode_utf8_all c.holds.kind ≡ kind_at (suc (d + 1))
     second = c.holds.spells ∙ kind_even (suc (d + 1)) again
 
-    abbrev ends : List Item
-    ends = item End empty ∷ item End empty ∷ []
-
-    shows : tree (from (d + 1)) (item (Start c.begins.kind m1) empty ∷ item (Start c.holds.kind m2) empty ∷ ends) ≡ reply_nodes inline t n d
+    shows : tree (from (d + 1)) (item (Start c.begins.kind (thread_of inline t)) empty ∷ item (Start c.holds.kind (id_of n)) empty ∷ (item End empty ∷ item End empty ∷ [])) ≡ reply_nodes inline t n d
     shows =
-        enter (d + 1) c.begins.kind m1 empty t (item (Start c.holds.kind m2) empty ∷ ends) first (thread_id inline t)
-        ∙ ap (λ z. node_at (d + 1) m1 ∷ z) (enter (suc (d + 1)) c.holds.kind m2 empty n ends second (id_there n))
-        ∙ ap (λ z. node_at (d + 1) m1 ∷ node_at (suc (d + 1)) m2 ∷ z) (leave (suc (d + 1)) empty (item End empty ∷ []) ∙ leave (d + 1) empty [])
+        enter (d + 1) c.begins.kind (thread_of inline t) empty t (item (Start c.holds.kind (id_of n)) empty ∷ (item End empty ∷ item End empty ∷ [])) first (thread_id inline t)
+        ∙ ap (λ z. node_at (d + 1) (thread_of inline t) ∷ z) (enter (suc (d + 1)) c.holds.kind (id_of n) empty n (item End empty ∷ item End empty ∷ []) second (id_there n))
+        ∙ ap (λ z. node_at (d + 1) (thread_of inline t) ∷ node_at (suc (d + 1)) (id_of n) ∷ z) (leave (suc (d + 1)) empty (item End empty ∷ []) ∙ leave (d + 1) empty [])
         ∙ (λ i. thread_node (d + 1) inline t odd i ∷ blip_node (suc (d + 1)) n again i ∷ [])
         ∙ ap (λ e. a_thread inline t (d + 1) ∷ a_blip n e ∷ []) (sym two)
 
-    same : behind (from (d + 1)) (item (Start c.begins.kind m1) empty ∷ item (Start c.holds.kind m2) empty ∷ ends) ≡ from (d + 1)
+    same : behind (from (d + 1)) (item (Start c.begins.kind (thread_of inline t)) empty ∷ item (Start c.holds.kind (id_of n)) empty ∷ (item End empty ∷ item End empty ∷ [])) ≡ from (d + 1)
     same =
-        behind_enter (d + 1) c.begins.kind m1 empty t (item (Start c.holds.kind m2) empty ∷ ends) first (thread_id inline t)
-        ∙ behind_enter (suc (d + 1)) c.holds.kind m2 empty n ends second (id_there n)
+        behind_enter (d + 1) c.begins.kind (thread_of inline t) empty t (item (Start c.holds.kind (id_of n)) empty ∷ (item End empty ∷ item End empty ∷ [])) first (thread_id inline t)
+        ∙ behind_enter (suc (d + 1)) c.holds.kind (id_of n) empty n (item End empty ∷ item End empty ∷ []) second (id_there n)
         ∙ behind_leave (suc (d + 1)) empty (item End empty ∷ []) ∙ behind_leave (d + 1) empty []
 
 -- ---- a blip's depth
@@ -206,3 +191,88 @@ pub blip_depth : (items : List Item) (f : Found) (b : Key) (found : IsFound (is_
 blip_depth items f b found =
     let part = (and_parts (is_blip_part found.node.part) (named b found.node.id) found.passes).0 in
     blip_parity found.node.depth found.attributes (sym (ap (λ (n : Node). is_blip_part n.part) found.is) ∙ part)
+
+-- ---- a blip that is deleted
+
+still_id : (m : Map Key) → get (set_key m (codes "deleted") (Some (codes "true"))) (codes "id") ≡ get m (codes "id")
+still_id m = get-insert nat_list_cmp_total m (codes "deleted") (codes "true") (codes "id")
+
+is_deleted : (m : Map Key) → holds (set_key m (codes "deleted") (Some (codes "true"))) (codes "deleted") ≡ true
+is_deleted m = ap (λ o. same_value o (Some (codes "true"))) (get-insert nat_list_cmp_total m (codes "deleted") (codes "true") (codes "deleted"))
+
+abbrev gone : Map Key → Map Key
+gone m = set_key m (codes "deleted") (Some (codes "true"))
+
+still_at : (found : Bool) (inside : ℕ) (kind : List ℕ) (m : Map Key) → enters_at found inside kind (gone m) ≡ enters_at found inside kind m
+still_at found zero kind m = refl
+still_at found (suc d) kind m = ap (λ o. is_named kind (kind_at d) && is_some o) (still_id m)
+
+still_enters : (r : Reading) (kind : List ℕ) (m : Map Key) → enters r kind (gone m) ≡ enters r kind m
+still_enters r kind m = ap (λ t. (r.passed == 0) && t) (still_at r.found r.inside kind m)
+
+deleted_node : (d : ℕ) (m : Map Key) → is_blip_part (part_at d m) ≡ true → node_at d (gone m) ≡ as_deleted (node_at d m)
+deleted_node d m p =
+    let part = ap (λ t. cond t (Blip (holds (gone m) (codes "deleted"))) (Thread (holds (gone m) (codes "inline")))) (blip_parity d m p) ∙ ap Blip (is_deleted m) in
+    let id = ap (λ o. unwrap_or o []) (still_id m) in
+    λ i. record { depth = d; part = part i; id = id i }
+
+pub record IsDeletion (r : Reading) (c c' : Content) (n : Node) : Type 0 where
+  pub shows : shown_content r c' ≡ as_deleted n ∷ []
+  pub same : step_content r c' ≡ step_content r c
+
+head_of : {x y : Node} {xs ys : List Node} → x ∷ xs ≡ y ∷ ys → x ≡ y
+head_of {x} e = ap (λ l. first_or l) e
+  where
+    first_or : List Node → Node
+    first_or [] = x
+    first_or (z ∷ zs) = z
+
+no_node : {A : Type 0} {n : Node} {ns : List Node} → [] ≡ n ∷ ns → A
+no_node e = absurd (true≢false (sym (ap filled e)))
+  where
+    filled : List Node → Bool
+    filled [] = false
+    filled (z ∷ zs) = true
+
+deletion : (r : Reading) (c : Content) (n : Node) → is_blip_part n.part ≡ true → shown_content r c ≡ n ∷ [] → IsDeletion r c (attributed_content (codes "deleted") (Some (codes "true")) c) n
+deletion r (Character x) n p e = no_node e
+deletion r End n p e = no_node e
+deletion r (Start kind m) n p e = go (enters r kind m) refl e
+  where
+    at : enters r kind m ≡ true → (k : ℕ) → r.inside ≡ k → nodes_at k m ≡ n ∷ [] → IsDeletion r (Start kind m) (Start kind (gone m)) n
+    at t zero f h = no_node h
+    at t (suc d) f h =
+        let is : node_at d m ≡ n = head_of h in
+        let blip = subst (λ (z : Node). is_blip_part z.part ≡ true) (sym is) p in
+        record {
+          shows = ap (λ b. cond b (nodes_at r.inside (gone m)) []) (still_enters r kind m ∙ t) ∙ ap (λ k. nodes_at k (gone m)) f ∙ ap (λ z. z ∷ []) (deleted_node d m blip ∙ ap as_deleted is);
+          same = ap (λ b. cond b (opened r) (passed r)) (still_enters r kind m);
+        }
+
+    go : (t : Bool) → enters r kind m ≡ t → cond t (nodes_at r.inside m) [] ≡ n ∷ [] → IsDeletion r (Start kind m) (Start kind (gone m)) n
+    go true t h = at t r.inside refl h
+    go false t h = no_node h
+
+deleted_here : (b : Key) (front : List Node) (n : Node) (back : List Node) → has (is_blip b) front ≡ false → is_blip b n ≡ true → deleted b (front ++ n ∷ back) ≡ Some (front ++ as_deleted n ∷ back)
+deleted_here b [] n back h p = ap (λ t. cond t (Some (as_deleted n ∷ back)) (option_map (λ z. n ∷ z) (deleted b back))) p
+deleted_here b (x ∷ front) n back h p =
+    let q = or_parts (is_blip b x) (has (is_blip b) front) h in
+    ap (λ t. cond t (Some (as_deleted x ∷ (front ++ n ∷ back))) (option_map (λ z. x ∷ z) (deleted b (front ++ n ∷ back)))) q.0
+    ∙ ap (option_map (λ z. x ∷ z)) (deleted_here b front n back q.1 p)
+
+pub deleted_item : (items : List Item) (f : Found) (b : Key) (found : IsFound (is_blip b) items f) → deleted b (thread_tree items) ≡ Some (thread_tree (with_attribute items f.place (codes "deleted") (Some (codes "true"))))
+deleted_item items f b found =
+    let before = take f.place items in
+    let rest = drop (f.place + 1) items in
+    let r = behind start before in
+    let new : Item = attributed (codes "deleted") (Some (codes "true")) found.item in
+    let blip = (and_parts (is_blip_part found.node.part) (named b found.node.id) found.passes).0 in
+    let d = deletion r found.item.content found.node blip found.shows in
+    let stands : range items f.place 1 ≡ found.item ∷ [] = ap (take 1) (next_item items f.place found.item found.here) in
+    let tail = tree (step r found.item) rest in
+    let made : thread_tree (with_attribute items f.place (codes "deleted") (Some (codes "true"))) ≡ tree start before ++ as_deleted found.node ∷ tail =
+            ap (λ z. tree start (before ++ map (attributed (codes "deleted") (Some (codes "true"))) z ++ rest)) stands
+            ∙ ap (tree start) (append_assoc before (new ∷ []) rest)
+            ∙ tree_append start before (new ∷ rest)
+            ∙ (λ i. tree start before ++ (d.shows i ++ tree (d.same i) rest)) in
+    ap (deleted b) (at_node items f (is_blip b) found) ∙ deleted_here b (tree start before) found.node tail found.none found.passes ∙ ap Some (sym made)
