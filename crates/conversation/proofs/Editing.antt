@@ -1,11 +1,11 @@
 -- Edits of a manifest, and of its tree.
---     has_there, found_has, none_has     whether a node is in the tree
+--     has_there, found_has, there_is     whether a node is in the tree
 --     tree_edit                 an operation that makes of the tree what it should
 --     weaker, reply_taken, reply_full     refusals
 --     nest                      new elements end what they begin
---     reply_new, next_new       what new elements show
---     deleted_item              a blip that is deleted
-use Rattle.std.proofs.Common.{◌≡◌, ◌⊎◌, ◌≤◌, ◌<◌, ◌+◌, ◌-◌, ◌%◌, ◌==◌, ◌&&◌, ◌||◌, ℕ, zero, suc, Bool, true, false, cond, codes, List, [], ◌∷◌, ◌++◌, length, map, take, drop, slice_get, Option, Some, None, is_some, unwrap_or, refl, sym, ap, subst, ◌∙◌, arith, true≢false, append_assoc}
+--     reply_new, reply_length   what new elements show
+--     blip_depth, deleted_item  a blip, and one that is deleted
+use Rattle.std.proofs.Common.{◌≡◌, ◌⊎◌, ◌≤◌, ◌<◌, ◌+◌, ◌-◌, ◌%◌, ◌==◌, ◌&&◌, ◌||◌, ℕ, zero, suc, Bool, true, false, cond, codes, List, [], ◌∷◌, ◌++◌, length, map, take, drop, slice_get, Option, Some, None, is_some, MatchOption, unwrap_or, refl, sym, ap, subst, ◌∙◌, arith, true≢false, append_assoc}
 use Rattle.std.proofs.lemmas.List.{take-append-drop}
 use Rattle.std.proofs.lemmas.Bool.{and_parts, or_parts}
 use Rattle.std.proofs.lemmas.Cmp.{nat_list_cmp_total}
@@ -276,3 +276,7 @@ deleted_item items f b found =
             ∙ tree_append start before (new ∷ rest)
             ∙ (λ i. tree start before ++ (d.shows i ++ tree (d.same i) rest)) in
     ap (deleted b) (at_node items f (is_blip b) found) ∙ deleted_here b (tree start before) found.node tail found.none found.passes ∙ ap Some (sym made)
+
+pub there_is : (items : List Item) (test : Node → Bool) (o : Option Found) → MatchOption o (has test (thread_tree items) ≡ false) (IsFound test items) → is_some o ≡ has test (thread_tree items)
+there_is items test None h = sym h
+there_is items test (Some f) h = sym (found_has items f test h)
