@@ -104,7 +104,7 @@ reply_full items b t n m Memory h a f k = tt
 same_map : {m m' : Map Key} → m ≡ m' → (k : Key) → get m k ≡ get m' k
 same_map e k = ap (λ z. get z k) e
 
-id_there : (id : Key) → get (id_of id) (codes "id") ≡ Some id
+pub id_there : (id : Key) → get (id_of id) (codes "id") ≡ Some id
 id_there id = get-insert nat_list_cmp_total empty (codes "id") id (codes "id")
 
 no_deleted : (id : Key) → get (id_of id) (codes "deleted") ≡ None
@@ -121,7 +121,7 @@ thread_inline : (inline : Bool) (id : Key) → holds (thread_of inline id) (code
 thread_inline false id = ap (λ o. same_value o (Some (codes "true"))) (no_inline id)
 thread_inline true id = ap (λ o. same_value o (Some (codes "true"))) (get-insert nat_list_cmp_total (id_of id) (codes "inline") (codes "true") (codes "inline"))
 
-blip_node : (e : ℕ) (n : Key) → (e % 2 == 0) ≡ true → node_at e (id_of n) ≡ a_blip n e
+pub blip_node : (e : ℕ) (n : Key) → (e % 2 == 0) ≡ true → node_at e (id_of n) ≡ a_blip n e
 blip_node e n p =
     let part = ap (λ t. cond t (Blip (holds (id_of n) (codes "deleted"))) (Thread (holds (id_of n) (codes "inline")))) p ∙ ap Blip (ap (λ o. same_value o (Some (codes "true"))) (no_deleted n)) in
     let id = ap (λ o. unwrap_or o []) (id_there n) in
@@ -133,7 +133,7 @@ thread_node e inline t p =
     let id = ap (λ o. unwrap_or o []) (thread_id inline t) in
     λ i. record { depth = e; part = part i; id = id i }
 
-kind_even : (e : ℕ) → (e % 2 == 0) ≡ true → codes "blip" ≡ kind_at e
+pub kind_even : (e : ℕ) → (e % 2 == 0) ≡ true → codes "blip" ≡ kind_at e
 kind_even e p = sym (ap (λ t. cond t (codes "blip") (codes "thread")) p)
 
 kind_odd : (e : ℕ) → (e % 2 == 0) ≡ false → codes "thread" ≡ kind_at e

@@ -5,3 +5,4 @@ pub mod Searching
 pub mod Entering
 pub mod Placing
 pub mod Editing
+pub mod Rooting

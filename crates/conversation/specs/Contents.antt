@@ -3,6 +3,7 @@
 --     id_of id, thread_of inline id     the attributes of a new blip, and of a new thread
 --     IsReply inline t n cs     a thread with one blip
 --     IsNext n cs               one blip
+--     IsFirst n cs              a conversation with one blip
 use Rattle.std.specs.Prelude.{◌≡◌, Bool, true, false, cond, codes, List, [], ◌∷◌, Some}
 use Rattle.std.specs.FinMap.{empty}
 use Rattle.std.specs.Str.{encode_utf8_all}
@@ -34,3 +35,10 @@ pub record IsNext (n : Key) (cs : List Content) : Type 0 where
   pub blip : Content
   pub is : cs ≡ blip ∷ End ∷ []
   pub begins : IsStart (codes "blip") (id_of n) blip
+
+pub record IsFirst (n : Key) (cs : List Content) : Type 0 where
+  pub root : Content
+  pub blip : Content
+  pub is : cs ≡ root ∷ blip ∷ End ∷ End ∷ []
+  pub begins : IsStart (codes "conversation") empty root
+  pub holds : IsStart (codes "blip") (id_of n) blip

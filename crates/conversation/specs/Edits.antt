@@ -7,7 +7,8 @@
 --     grown test new ns        the first node that passes the test has new ones behind all that is below it; None where none passes
 --     a_blip, a_thread         a new node
 --     replied inline b t n ns  the blip b has one thread more, t, with the blip n
---     continued t n ns         the thread t has one blip more, n; the empty id is that of the root thread
+--     is_there t ns            the thread t is there; the empty id is that of the root thread, which always is
+--     continued t n ns         the thread t has one blip more, n
 --     deleted b ns             the blip b is deleted
 use Rattle.std.specs.Prelude.{ℕ, ◌+◌, ◌==◌, nat_le, Bool, true, false, cond, ◌&&◌, ◌||◌, List, [], ◌∷◌, ◌++◌, Option, Some, None}
 use Rattle.std.specs.Cmp.Lexicographic.{pointwise}
@@ -67,6 +68,10 @@ next_nodes n d = a_blip n (d + 1) ∷ []
 
 abbrev pub replied : Bool → Key → Key → Key → List Node → Option (List Node)
 replied inline b t n ns = grown (is_blip b) (reply_nodes inline t n) ns
+
+abbrev pub is_there : Key → List Node → Bool
+is_there [] ns = true
+is_there (c ∷ cs) ns = has (is_thread (c ∷ cs)) ns
 
 abbrev pub continued : Key → Key → List Node → Option (List Node)
 continued [] n ns = Some (ns ++ a_blip n 0 ∷ [])

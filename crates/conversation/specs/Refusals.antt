@@ -2,8 +2,9 @@
 --     IsTreeEdit op items o     the operation applies to the items and makes of their tree the other one
 --     IsAppended op items f cs  the operation inserts the contents at the end of the element that begins at f
 --     IsTaken, IsMissing, IsTakenFault, IsAppendFault     why an edit can't be made
+--     next_len t items          how many items one blip more takes
 --     IsReplyRefused, IsNextRefused, IsDeleteRefused     in the order in which it is told
-use Rattle.std.specs.Prelude.{◌≡◌, ◌≢◌, ◌⊎◌, ℕ, ◌+◌, ◌<◌, Bool, true, false, List, length, drop, Option, Some, None}
+use Rattle.std.specs.Prelude.{◌≡◌, ◌⊎◌, ℕ, ◌+◌, ◌<◌, Bool, true, false, cond, List, [], ◌∷◌, length, drop, Option, Some}
 use Rattle.doc_items.specs.Limits.{max_count}
 use Rattle.doc_items.specs.Maps.{Key}
 use Rattle.doc_items.specs.declared.item.Content.{Content}
@@ -13,11 +14,11 @@ use Rattle.doc_op.specs.Actions.{actions}
 use Rattle.doc_op.specs.Apply.{valid}
 use Rattle.doc_op.specs.Normal.{normal_form}
 use Rattle.doc_op.specs.Structure.{Structured}
-use Rattle.conversation.specs.Edits.{named, is_blip, has, is_taken, continued}
+use Rattle.conversation.specs.Edits.{named, is_blip, has, is_taken, is_there}
 use Rattle.op_build.specs.Edits.{with_contents}
 use Rattle.op_build.specs.Plans.{adding_contents, IsEdit}
 use Rattle.conversation.specs.Search.{IsEnd}
-use Rattle.conversation.specs.Trees.{thread_tree}
+use Rattle.conversation.specs.Trees.{start, behind, thread_tree}
 use Rattle.conversation.specs.declared.search.Found.{Found}
 use Rattle.conversation.specs.declared.fault.ConversationFault.{ConversationFault}
 use Rattle.conversation.specs.declared.fault.ConversationFault.TheVariants.{NoBlip, TakenId, CountTooLarge, Memory}
@@ -68,10 +69,15 @@ IsReplyRefused items b t n (TakenId id) = (has (is_blip b) (thread_tree items) �
 IsReplyRefused items b t n CountTooLarge = (has (is_blip b) (thread_tree items) ≡ true) × AreNew (thread_tree items) t n × (max_count < length items + 4)
 IsReplyRefused items b t n Memory = Unit {0}
 
+-- how many items a blip takes at the end of a thread, with the conversation where there is none yet
+abbrev pub next_len : Key → List Item → ℕ
+next_len [] items = cond (behind start items).found 2 4
+next_len (c ∷ cs) items = 2
+
 abbrev pub IsNextRefused : List Item → Key → Key → ConversationFault → Type 0
-IsNextRefused items t n (NoBlip id) = (id ≡ t) × (continued t n (thread_tree items) ≡ None)
-IsNextRefused items t n (TakenId id) = (id ≡ n) × (continued t n (thread_tree items) ≢ None) × (is_taken n (thread_tree items) ≡ true)
-IsNextRefused items t n CountTooLarge = (continued t n (thread_tree items) ≢ None) × (is_taken n (thread_tree items) ≡ false) × (max_count < length items + 4)
+IsNextRefused items t n (NoBlip id) = (id ≡ t) × (is_there t (thread_tree items) ≡ false)
+IsNextRefused items t n (TakenId id) = (id ≡ n) × (is_there t (thread_tree items) ≡ true) × (is_taken n (thread_tree items) ≡ true)
+IsNextRefused items t n CountTooLarge = (is_there t (thread_tree items) ≡ true) × (is_taken n (thread_tree items) ≡ false) × (max_count < length items + next_len t items)
 IsNextRefused items t n Memory = Unit {0}
 
 abbrev pub IsDeleteRefused : List Item → Key → ConversationFault → Type 0

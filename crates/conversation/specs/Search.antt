@@ -6,6 +6,8 @@
 --     IsBegun items f           an element of the tree begins at its place, and how far the manifest is read behind its start
 --     IsFound test items f      the start of the first node that passes the test, and how far the manifest is read behind it
 --     ends_here r c b           the content ends the element of the tree that was begun last where b were open
+--     IsRoot items f            the start of the conversation, before which the tree has no node
+--     IsRootless items          there is no conversation
 --     IsEnd r items k           the item at k ends the element that was begun last before the items, where r is read
 use Rattle.std.specs.Prelude.{◌≡◌, ℕ, ◌+◌, ◌<◌, ◌≤◌, ◌%◌, ◌==◌, ◌&&◌, not, Bool, true, false, List, [], ◌∷◌, length, take, drop, slice_get, Some}
 use Rattle.doc_items.specs.Balance.{BalancedFrom}
@@ -71,3 +73,16 @@ pub record IsEnd (r : Reading) (items : List Item) (k : ℕ) : Type 0 where
   pub ends : item.content ≡ End
   pub same : behind r (take k items) ≡ r
   pub within : AreWithin r.inside (tree r (take k items))
+
+pub record IsRoot (items : List Item) (f : Found) : Type 0 where
+  pub item : Item
+  pub here : slice_get items f.place ≡ Some item
+  pub empty : tree start (take f.place items) ≡ []
+  pub shows : shown (behind start (take f.place items)) item ≡ []
+  pub reading : f.reading ≡ step (behind start (take f.place items)) item
+  pub inside : f.reading.inside ≡ 1
+  pub begun : IsBegun items f
+
+pub record IsRootless (items : List Item) : Type 0 where
+  pub whole : behind start items ≡ start
+  pub empty : tree start items ≡ []

@@ -1,6 +1,6 @@
 // The contents that an edit inserts.
 ghost use Rattle.std.specs.Prelude.{◌≡◌, codes, IfOk};
-ghost use Rattle.conversation.specs.Contents.{IsStart, id_of, thread_of, IsReply, IsNext};
+ghost use Rattle.conversation.specs.Contents.{IsStart, id_of, thread_of, IsReply, IsNext, IsFirst};
 
 use doc_items::{Attributes, Content, Memory, Text};
 use std::alloc::Global;
@@ -56,4 +56,14 @@ pub(crate) fn next_contents(alloc: Global, blip: &str) -> Result<[Content; 2], M
     let attributes = id_of(alloc, blip)?;
     let inner = start(alloc, "blip", attributes)?;
     Ok([inner, Content::End])
+}
+
+/// A conversation with one blip.
+pub(crate) fn first_contents(alloc: Global, blip: &str) -> Result<[Content; 4], Memory>
+    ensures { IfOk result (IsFirst blip.now) }
+{
+    let outer = start(alloc, "conversation", Attributes::new(alloc))?;
+    let attributes = id_of(alloc, blip)?;
+    let inner = start(alloc, "blip", attributes)?;
+    Ok([outer, inner, Content::End, Content::End])
 }

@@ -1,14 +1,14 @@
 // The operations on a manifest.
-ghost use Rattle.std.specs.Prelude.{◌≡◌, ◌+◌, ◌<◌, true, false, length, IfOk, IfErr, OnOk, MatchOption};
+ghost use Rattle.std.specs.Prelude.{◌≡◌, ◌≢◌, ◌+◌, [], ◌<◌, true, false, length, IfOk, IfErr, OnOk, MatchOption};
 ghost use Rattle.doc_items.specs.Balance.{Balanced};
-ghost use Rattle.conversation.specs.Edits.{is_taken, replied, deleted};
-ghost use Rattle.conversation.specs.Refusals.{IsTreeEdit, IsAppended, AreNew, IsTaken, IsMissing, IsTakenFault, IsAppendFault, IsReplyRefused, IsDeleteRefused};
-ghost use Rattle.conversation.specs.Search.{IsBegun};
+ghost use Rattle.conversation.specs.Edits.{is_taken, replied, continued, deleted};
+ghost use Rattle.conversation.specs.Refusals.{IsTreeEdit, IsAppended, AreNew, IsTaken, IsMissing, IsTakenFault, IsAppendFault, IsReplyRefused, IsNextRefused, IsDeleteRefused};
+ghost use Rattle.conversation.specs.Search.{IsBegun, IsRootless};
 ghost use Rattle.conversation.specs.Trees.{thread_tree};
 ghost use Rattle.op_build.specs.Edits.{bare};
 
-use crate::contents::reply_contents;
-use crate::search::{Found, Want, end_behind, find};
+use crate::contents::{first_contents, next_contents, reply_contents};
+use crate::search::{Found, Want, end_behind, find, find_root};
 use crate::{ConversationFault, Id};
 use doc_items::Content;
 use doc_op::DocOp;
@@ -165,6 +165,96 @@ pub fn delete_blip<D: Items>(
     };
     match set_attribute(alloc, manifest, found.place, "deleted", Some("true")) {
         Ok(op) => Ok(op),
+        Err(BuildFault::Memory) => Err(ConversationFault::Memory),
+        Err(_) => unreachable!(),
+    }
+}
+
+/// The operation that appends a new blip to the thread; the empty text names the root thread. Where there is no conversation yet the
+/// operation appends one to the document. Refusals, in this order: `NoBlip` where the thread isn't in the tree; `TakenId` where a blip
+/// or thread has the new id; `CountTooLarge` where the manifest would have more than `MAX_COUNT` items.
+pub fn continue_thread<D: Items>(
+    alloc: Global,
+    manifest: &D,
+    thread: &str,
+    new_blip: &str,
+) -> Result<DocOp, ConversationFault>
+    requires { Balanced (D.items manifest.now) }
+    ensures edit { IfOk result (λ op. IsTreeEdit op (D.items manifest.now) (continued thread.now new_blip.now (thread_tree (D.items manifest.now)))) }
+    ensures new { OnOk result (is_taken new_blip.now (thread_tree (D.items manifest.now)) ≡ false) }
+    ensures refused { IfErr result (IsNextRefused (D.items manifest.now) thread.now new_blip.now) }
+{
+    if thread.is_empty() {
+        continue_root(alloc, manifest, new_blip)
+    } else {
+        continue_named(alloc, manifest, thread, new_blip)
+    }
+}
+
+// A thread of the tree goes on.
+fn continue_named<D: Items>(
+    alloc: Global,
+    manifest: &D,
+    thread: &str,
+    new_blip: &str,
+) -> Result<DocOp, ConversationFault>
+    requires balanced { Balanced (D.items manifest.now) }
+    requires named { thread.now ≢ [] }
+    ensures edit { IfOk result (λ op. IsTreeEdit op (D.items manifest.now) (continued thread.now new_blip.now (thread_tree (D.items manifest.now)))) }
+    ensures new { OnOk result (is_taken new_blip.now (thread_tree (D.items manifest.now)) ≡ false) }
+    ensures refused { IfErr result (IsNextRefused (D.items manifest.now) thread.now new_blip.now) }
+{
+    let Some(found) = find(manifest, Want::OfThread, thread) else {
+        return Err(no_blip(alloc, thread));
+    };
+    if is_taken(manifest, new_blip) {
+        return Err(taken_id(alloc, new_blip));
+    }
+    let contents = next_contents(alloc, new_blip)?;
+    match append(alloc, manifest, &found, &contents) {
+        Ok(op) => Ok(op),
+        Err(fault) => Err(fault),
+    }
+}
+
+// The root thread goes on.
+fn continue_root<D: Items>(
+    alloc: Global,
+    manifest: &D,
+    new_blip: &str,
+) -> Result<DocOp, ConversationFault>
+    requires { Balanced (D.items manifest.now) }
+    ensures edit { IfOk result (λ op. IsTreeEdit op (D.items manifest.now) (continued [] new_blip.now (thread_tree (D.items manifest.now)))) }
+    ensures new { OnOk result (is_taken new_blip.now (thread_tree (D.items manifest.now)) ≡ false) }
+    ensures refused { IfErr result (IsNextRefused (D.items manifest.now) [] new_blip.now) }
+{
+    if is_taken(manifest, new_blip) {
+        return Err(taken_id(alloc, new_blip));
+    }
+    let Some(found) = find_root(manifest) else {
+        return begin(alloc, manifest, new_blip);
+    };
+    let contents = next_contents(alloc, new_blip)?;
+    match append(alloc, manifest, &found, &contents) {
+        Ok(op) => Ok(op),
+        Err(fault) => Err(fault),
+    }
+}
+
+// The conversation begins, with one blip.
+fn begin<D: Items>(
+    alloc: Global,
+    manifest: &D,
+    new_blip: &str,
+) -> Result<DocOp, ConversationFault>
+    requires { IsRootless (D.items manifest.now) }
+    ensures edit { IfOk result (λ op. IsTreeEdit op (D.items manifest.now) (continued [] new_blip.now (thread_tree (D.items manifest.now)))) }
+    ensures refused { IfErr result (IsAppendFault (length (D.items manifest.now) + 4)) }
+{
+    let contents = first_contents(alloc, new_blip)?;
+    match insert_contents(alloc, manifest, manifest.len(), &contents) {
+        Ok(op) => Ok(op),
+        Err(BuildFault::CountTooLarge) => Err(ConversationFault::CountTooLarge),
         Err(BuildFault::Memory) => Err(ConversationFault::Memory),
         Err(_) => unreachable!(),
     }

@@ -9,7 +9,7 @@ mod node;
 mod reading;
 mod search;
 
-pub use edits::{delete_blip, inline_reply, reply_to};
+pub use edits::{continue_thread, delete_blip, inline_reply, reply_to};
 pub use fault::ConversationFault;
 pub use manifest::read_manifest;
 pub use node::{Id, Node, Part, Threads};

@@ -2,7 +2,7 @@
 ghost use Rattle.std.specs.Prelude.{◌≡◌, ◌+◌, ◌<◌, ◌≤◌, true, false, length, drop, MatchOption};
 ghost use Rattle.doc_items.specs.Balance.{Balanced, BalancedFrom};
 ghost use Rattle.conversation.specs.Edits.{has};
-ghost use Rattle.conversation.specs.Search.{is_kind_at, is_wanted, ends_here, IsFound, IsEnd};
+ghost use Rattle.conversation.specs.Search.{is_kind_at, is_wanted, ends_here, IsFound, IsRoot, IsRootless, IsEnd};
 ghost use Rattle.conversation.specs.Trees.{node_at, shown, thread_tree};
 
 use crate::reading::Reading;
@@ -71,6 +71,24 @@ pub(crate) fn find<D: Items>(manifest: &D, want: Want, id: &str) -> Option<Found
         let is_here = begins(&reading, item, want, id);
         reading.pass(item);
         if is_here {
+            return Some(Found { place, reading });
+        }
+    }
+    None
+}
+
+/// The start of the conversation; None exactly where there is none.
+pub(crate) fn find_root<D: Items>(manifest: &D) -> Option<Found>
+    requires { Balanced (D.items manifest.now) }
+    ensures { MatchOption result (IsRootless (D.items manifest.now)) (IsRoot (D.items manifest.now)) }
+{
+    let mut reading = Reading::new();
+    for place in 0..manifest.len() {
+        let Some(item) = manifest.item(place) else {
+            unreachable!()
+        };
+        reading.pass(item);
+        if reading.found {
             return Some(Found { place, reading });
         }
     }
