@@ -139,7 +139,7 @@ kind_even e p = sym (ap (λ t. cond t (codes "blip") (codes "thread")) p)
 kind_odd : (e : ℕ) → (e % 2 == 0) ≡ false → codes "thread" ≡ kind_at e
 kind_odd e p = sym (ap (λ t. cond t (codes "blip") (codes "thread")) p)
 
-at_depth : (r : Reading) (d : ℕ) → r.found ≡ true → r.inside ≡ d + 2 → r.passed ≡ 0 → r ≡ from (d + 1)
+pub at_depth : (r : Reading) (d : ℕ) → r.found ≡ true → r.inside ≡ d + 2 → r.passed ≡ 0 → r ≡ from (d + 1)
 at_depth r d f n p = let at : r.inside ≡ suc (d + 1) = omega (arith, n) in λ i. record { found = f i; inside = at i; passed = p i }
 
 pub nest : (inline : Bool) (t n : Key) (cs : List Content) → IsReply inline t n cs → Balanced (bare cs)

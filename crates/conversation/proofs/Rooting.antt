@@ -4,6 +4,7 @@
 --     rootless                      there is none
 --     after_root                    nothing of the tree stands behind it
 --     next_new, root_placed, first_placed     one blip more
+--     next_missing, next_taken, next_full     why it isn't added
 use Rattle.std.proofs.Common.{◌≡◌, ◌≢◌, ◌≤◌, ◌<◌, ◌+◌, ◌-◌, ◌%◌, ◌==◌, ◌&&◌, ℕ, zero, suc, Bool, true, false, cond, not, codes, List, [], ◌∷◌, ◌++◌, length, take, drop, slice_get, Option, Some, None, refl, sym, ap, subst, ◌∙◌, arith, true≢false, append_assoc, append-nil, take-add, drop-drop}
 use Rattle.std.proofs.lemmas.List.{take-append-drop}
 use Rattle.std.proofs.lemmas.Bool.{and_parts, and_right}
@@ -22,8 +23,11 @@ use Rattle.std.specs.Str.{encode_utf8_all}
 use Rattle.doc_items.specs.Balance.{Balanced}
 use Rattle.op_build.specs.Edits.{bare, replaced}
 use Rattle.conversation.specs.Contents.{id_of, IsNext, IsFirst}
-use Rattle.conversation.specs.Edits.{named, is_thread_part, is_thread, has, is_there, grown, a_blip, next_nodes, continued}
-use Rattle.conversation.specs.Refusals.{next_len}
+use Rattle.conversation.specs.Edits.{named, is_taken, is_thread_part, is_thread, has, is_there, grown, a_blip, next_nodes, continued}
+use Rattle.conversation.specs.Refusals.{next_len, IsMissing, IsTakenFault, IsAppendFault, IsNextRefused}
+use Rattle.conversation.specs.declared.fault.ConversationFault.{ConversationFault}
+use Rattle.conversation.specs.declared.fault.ConversationFault.TheVariants.{NoBlip, TakenId, CountTooLarge, Memory}
+use Rattle.doc_items.specs.Limits.{max_count}
 use Rattle.conversation.specs.Search.{IsFound, IsRoot, IsRootless, IsEnd}
 use Rattle.conversation.specs.declared.search.Found.{Found}
 use Rattle.conversation.proofs.Editing.{kind_even, blip_node, id_there}
@@ -241,3 +245,26 @@ first_placed items n cs none c =
             (λ i. take_whole items i ++ bare cs ++ tail i) ∙ append-nil (items ++ bare cs) in
     ap (λ z. Some (z ++ a_blip n 0 ∷ [])) none.empty
     ∙ ap Some (sym (ap (tree start) whole ∙ tree_append start items (bare cs) ∙ (λ i. none.empty i ++ tree (none.whole i) (bare cs)) ∙ first_shows n cs c))
+
+-- ---- refusals
+
+pub next_missing : (items : List Item) (t n : Key) (e : ConversationFault) → is_there t (thread_tree items) ≡ false → IsMissing t e → IsNextRefused items t n e
+next_missing items t n (NoBlip id) h k = (k, h)
+next_missing items t n (TakenId id) h k = absurd k
+next_missing items t n CountTooLarge h k = absurd k
+next_missing items t n Memory h k = tt
+
+pub next_taken : (items : List Item) (t n : Key) (e : ConversationFault) → is_there t (thread_tree items) ≡ true → is_taken n (thread_tree items) ≡ true → IsTakenFault (λ i. i ≡ n) e → IsNextRefused items t n e
+next_taken items t n (NoBlip id) h a k = absurd k
+next_taken items t n (TakenId id) h a k = (k, h, a)
+next_taken items t n CountTooLarge h a k = absurd k
+next_taken items t n Memory h a k = tt
+
+pub next_full : (items : List Item) (t n : Key) (m : ℕ) (e : ConversationFault) → is_there t (thread_tree items) ≡ true → is_taken n (thread_tree items) ≡ false → m ≡ length items + next_len t items → IsAppendFault m e → IsNextRefused items t n e
+next_full items t n m (NoBlip id) h a f k = absurd k
+next_full items t n m (TakenId id) h a f k = absurd k
+next_full items t n m CountTooLarge h a f k = (h, a, subst (λ z. max_count < z) f k)
+next_full items t n m Memory h a f k = tt
+
+pub next_length : (n : Key) (cs : List Content) → IsNext n cs → length cs ≡ 2
+next_length n cs c = ap length c.is
