@@ -271,10 +271,10 @@ deleted_item items f b found =
     let stands : range items f.place 1 ≡ found.item ∷ [] = ap (take 1) (next_item items f.place found.item found.here) in
     let tail = tree (step r found.item) rest in
     let made : thread_tree (with_attribute items f.place (codes "deleted") (Some (codes "true"))) ≡ tree start before ++ as_deleted found.node ∷ tail =
-            ap (λ z. tree start (before ++ map (attributed (codes "deleted") (Some (codes "true"))) z ++ rest)) stands
-            ∙ ap (tree start) (append_assoc before (new ∷ []) rest)
-            ∙ tree_append start before (new ∷ rest)
-            ∙ (λ i. tree start before ++ (d.shows i ++ tree (d.same i) rest)) in
+    ap (λ z. tree start (before ++ map (attributed (codes "deleted") (Some (codes "true"))) z ++ rest)) stands
+    ∙ ap (tree start) (append_assoc before (new ∷ []) rest)
+    ∙ tree_append start before (new ∷ rest)
+    ∙ (λ i. tree start before ++ (d.shows i ++ tree (d.same i) rest)) in
     ap (deleted b) (at_node items f (is_blip b) found) ∙ deleted_here b (tree start before) found.node tail found.none found.passes ∙ ap Some (sym made)
 
 pub there_is : (items : List Item) (test : Node → Bool) (o : Option Found) → MatchOption o (has test (thread_tree items) ≡ false) (IsFound test items) → is_some o ≡ has test (thread_tree items)

@@ -82,7 +82,7 @@ module _ (items new : List Item) (f : Found) (test : Node → Bool) (k : ℕ) (f
   placed nodes n =
       let behind_new : drop (place + 0) items ≡ drop k rest = ap (λ z. drop z items) (omega arith) ∙ left in
       let grew : tree f.reading (new ++ drop (place + 0) items) ≡ nodes found.node.depth ++ back =
-              tree_append f.reading new (drop (place + 0) items) ∙ (λ i. n.shows i ++ tree (n.same i) (behind_new i)) in
+      tree_append f.reading new (drop (place + 0) items) ∙ (λ i. n.shows i ++ tree (n.same i) (behind_new i)) in
       ap (grown test nodes) whole
       ∙ grown_here test nodes front found.node inside back found.none found.passes within low
       ∙ ap Some (sym (ap (tree start) (append_assoc (take place items) new (drop (place + 0) items)) ∙ split (new ++ drop (place + 0) items) ∙ ap (λ z. front ++ found.node ∷ (inside ++ z)) grew))

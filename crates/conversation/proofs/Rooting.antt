@@ -207,7 +207,7 @@ module _ (items new : List Item) (f : Found) (k : ℕ) (root : IsRoot items f) (
   root_placed n is =
       let tail : drop (place + 0) items ≡ drop k rest = ap (λ z. drop z items) (omega arith) ∙ left in
       let grew : tree f.reading (new ++ drop (place + 0) items) ≡ a_blip n 0 ∷ [] =
-              tree_append f.reading new (drop (place + 0) items) ∙ (λ i. is.shows i ++ tree (is.same i) (tail i)) ∙ ap (λ z. (a_blip n 0 ∷ []) ++ z) behind_it in
+      tree_append f.reading new (drop (place + 0) items) ∙ (λ i. is.shows i ++ tree (is.same i) (tail i)) ∙ ap (λ z. (a_blip n 0 ∷ []) ++ z) behind_it in
       ap (λ z. Some (z ++ a_blip n 0 ∷ [])) whole
       ∙ ap Some (sym (ap (tree start) (append_assoc (take place items) new (drop (place + 0) items)) ∙ split (new ++ drop (place + 0) items) ∙ ap (λ z. inside ++ z) grew))
 
@@ -242,7 +242,7 @@ pub first_placed : (items : List Item) (n : Key) (cs : List Content) → IsRootl
 first_placed items n cs none c =
     let tail : drop (length items + 0) items ≡ [] = ap (λ z. drop z items) (omega arith) ∙ drop_all items in
     let whole : take (length items) items ++ bare cs ++ drop (length items + 0) items ≡ items ++ bare cs =
-            (λ i. take_whole items i ++ bare cs ++ tail i) ∙ append-nil (items ++ bare cs) in
+    (λ i. take_whole items i ++ bare cs ++ tail i) ∙ append-nil (items ++ bare cs) in
     ap (λ z. Some (z ++ a_blip n 0 ∷ [])) none.empty
     ∙ ap Some (sym (ap (tree start) whole ∙ tree_append start items (bare cs) ∙ (λ i. none.empty i ++ tree (none.whole i) (bare cs)) ∙ first_shows n cs c))
 

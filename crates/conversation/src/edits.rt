@@ -242,11 +242,7 @@ fn continue_root<D: Items>(
 }
 
 // The conversation begins, with one blip.
-fn begin<D: Items>(
-    alloc: Global,
-    manifest: &D,
-    new_blip: &str,
-) -> Result<DocOp, ConversationFault>
+fn begin<D: Items>(alloc: Global, manifest: &D, new_blip: &str) -> Result<DocOp, ConversationFault>
     requires { IsRootless (D.items manifest.now) }
     ensures edit { IfOk result (λ op. IsTreeEdit op (D.items manifest.now) (continued [] new_blip.now (thread_tree (D.items manifest.now)))) }
     ensures refused { IfErr result (IsAppendFault (length (D.items manifest.now) + 4)) }

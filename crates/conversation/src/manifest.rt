@@ -19,12 +19,7 @@ fn node_at(alloc: Global, depth: u64, attributes: &Attributes) -> Result<Node, M
 }
 
 // Adds the node that the item adds to the tree.
-fn show(
-    alloc: Global,
-    reading: &Reading,
-    item: &Item,
-    nodes: &mut Vec<Node>,
-) -> Result<(), Memory>
+fn show(alloc: Global, reading: &Reading, item: &Item, nodes: &mut Vec<Node>) -> Result<(), Memory>
     ensures { OnOk result (nodes.new.items ≡ nodes.old.items ++ shown reading.now item.now) }
 {
     let Content::Start { kind, attributes } = &item.content else {

@@ -1,0 +1,7 @@
+//! Tests of conversations.
+#![tactic(auto)]
+
+#[cfg(test)]
+mod edits;
+#[cfg(test)]
+mod trees;
