@@ -1,0 +1,8 @@
+//! The words of the program: which command they name.
+#![tactic(auto)]
+
+mod command;
+mod grammar;
+mod values;
+
+pub use command::{Command, WordsFault, read_words};
