@@ -198,12 +198,12 @@ front_ok a (Err e) fewer is = absurd (cc)
 
 compacted_text : (a : Act) (more fewer : List Act) → IsTextAct a → AreTextActs more → compact_by join a more ≡ Ok fewer → AreTextActs fewer
 compacted_text a [] fewer t s is = subst AreTextActs (same_Some (ap result_ok is)) (t, tt)
-compacted_text a (b ∷ more) fewer t s is = go (join a b) refl is
+compacted_text a (b ∷ more) fewer t s is = go (λ c u rest. compacted_text c more rest u s.1) (join a b) refl is
   where
-    go : (o : Option (Result Act Unfit)) → join a b ≡ o → go_on a b (λ c. compact_by join c more) o ≡ Ok fewer → AreTextActs fewer
-    go None h m = (let r = front_ok a (compact_by join b more) fewer m in subst AreTextActs r.2 (t, compacted_text b more r.0 s.0 s.1 r.1))
-    go (Some (Ok c)) h m = compacted_text c more fewer (joined_text a b c t s.0 h) s.1 m
-    go (Some (Err e)) h m = absurd (cc)
+    go : ((c : Act) → IsTextAct c → (rest : List Act) → compact_by join c more ≡ Ok rest → AreTextActs rest) → (o : Option (Result Act Unfit)) → join a b ≡ o → go_on a b (λ c. compact_by join c more) o ≡ Ok fewer → AreTextActs fewer
+    go again None h m = (let r = front_ok a (compact_by join b more) fewer m in subst AreTextActs r.2 (t, again b s.0 r.0 r.1))
+    go again (Some (Ok c)) h m = again c (joined_text a b c t s.0 h) fewer m
+    go again (Some (Err e)) h m = absurd (cc)
 
 compact_text : (acts fewer : List Act) → AreTextActs acts → compact acts ≡ Some fewer → AreTextActs fewer
 compact_text [] fewer t is = subst AreTextActs (same_Some is) tt

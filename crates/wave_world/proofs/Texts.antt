@@ -35,7 +35,7 @@ use Rattle.wave_world.specs.Texts.{AreTextsIn, IsTextChange, IsText, AreText}
 pub text_writable : (acts : List Action) → AreText acts → AreWritable acts
 text_writable [] t = tt
 text_writable (Keep u Unchanged ∷ acts) t = ((t.0).0, text_writable acts t.1)
-text_writable (Keep u (Update c) ∷ acts) t = (((t.0).0, (t.0).1), text_writable acts t.1)
+text_writable (Keep u (Update c) ∷ acts) t = (((t.0).0, ((t.0).1).0, ((t.0).1).1), text_writable acts t.1)
 text_writable (Keep u (Replace old new) ∷ acts) t = ((t.0).0, text_writable acts t.1)
 text_writable (Ins x ∷ acts) t = (t.0, text_writable acts t.1)
 text_writable (Del c n ∷ acts) t = (t.0, text_writable acts t.1)
