@@ -25,7 +25,7 @@ use Rattle.delta_history.specs.Verdicts.{op_of, ops_of, same_hash}
 use Rattle.delta_history.proofs.Points.{and_then_is, behind_point}
 use Rattle.node_rules.specs.declared.received.Received.TheVariants.{Advanced}
 use Rattle.node_rules.specs.Followers.{Flight, FollowerOf, run_all, inserted_all, flying, pending, screen, moved}
-use Rattle.node_rules.specs.Receiving.{Over, over, with_acts, is_own, is_within, Answered, advance_with, advance_within, advance_to, advance, receive_other, receive_own, receive_id, receive_flight, receive_hash, receive_gap, receive_old, receive}
+use Rattle.node_rules.specs.Receiving.{rebase, Over, over, with_acts, is_own, is_within, Answered, advance_with, advance_within, advance_to, advance, receive_other, receive_own, receive_id, receive_flight, receive_hash, receive_gap, receive_old, receive}
 use Rattle.node_rules.specs.Laws.{IsSmall, IsPlace, IsSound, AreOwn, IsMoved, Advances}
 use Rattle.node_rules.proofs.Room.{small_run}
 use Rattle.node_rules.proofs.Rebases.{IsFlown, IsOver, over_room}
@@ -92,8 +92,21 @@ pub record IsAdvance (f : FollowerOf) (d : DeltaOf) (q : Point) (r : Answered) :
 advance_by : (f : FollowerOf) (d : DeltaOf) (q : Point) (o : Option Over) → next_point f.here d ≡ Some q → is_within q d ≡ true → advance f d o ≡ advance_with f d q o
 advance_by f d q o n w = ap (advance_to f d o) n ∙ ap (advance_within f d o q) w
 
-other_is : (f : FollowerOf) (d : DeltaOf) (q : Point) → IsSound f → next_point f.here d ≡ Some q → is_within q d ≡ true → ((x : Flight) → f.flight ≡ Some x → d.id ≡ x.sent.id → ⊥) → IsAdvance f d q (receive_other f d)
-other_is f d q s n w not_own =
+-- the flight and the entries pass another's delta
+pub record IsPassing (f : FollowerOf) (d : DeltaOf) (q : Point) : Type 0 where
+  pub flight : Option Flight
+  pub queue : List (List Act)
+  pub left : List Act
+  pub over : over f.flight f.queue (acts_of d) ≡ Some ((flight, queue), left)
+  pub is : receive_other f d ≡ (Advanced, moved f q flight queue)
+  pub sound : IsSound (moved f q flight queue)
+  pub rebased : rebase (pending f) (acts_of d) ≡ Some (pending (moved f q flight queue), left)
+  pub shows : screen (moved f q flight queue) ≡ option_and_then (λ s. run s left) (screen f)
+  pub flown : (x : Flight) → f.flight ≡ Some x → IsFlown x (acts_of d) flight
+  pub none : f.flight ≡ None → flight ≡ None
+
+pub passing_is : (f : FollowerOf) (d : DeltaOf) (q : Point) → IsSound f → next_point f.here d ≡ Some q → is_within q d ≡ true → IsPassing f d q
+passing_is f d q s n w =
     let a = behind_point f.here q d n in
     let b = bounded q d w in
     let room : f.here.count + (inserted_all (pending f) + inserted (acts_of d)) ≤ max_count = omega (arith, s.held, b.held, a.count) in
@@ -101,24 +114,43 @@ other_is f d q s n w not_own =
     let g : FollowerOf = moved f q o.flight o.queue in
     let shows : screen g ≡ Some o.end = subst (λ z. run_all z (flying o.flight ++ o.queue) ≡ Some o.end) (sym a.same) o.goes in
     record {
-      after = g;
+      flight = o.flight;
+      queue = o.queue;
+      left = o.left;
+      over = o.defined;
       is = advance_by f d q (over f.flight f.queue (acts_of d)) n w ∙ ap (advance_with f d q) o.defined;
+      sound = record { place = place_behind f.here q d s.place n b.held; shown = o.end; is_shown = shows; held = omega (arith, o.small, s.held) };
+      rebased = o.rebased;
+      shows = shows ∙ sym (and_then_is (screen f) (λ z. run z o.left) s.shown s.is_shown ∙ o.left_goes);
+      flown = o.flown;
+      none = o.none;
+    }
+
+other_is : (f : FollowerOf) (d : DeltaOf) (q : Point) → IsSound f → next_point f.here d ≡ Some q → is_within q d ≡ true → ((x : Flight) → f.flight ≡ Some x → d.id ≡ x.sent.id → ⊥) → IsAdvance f d q (receive_other f d)
+other_is f d q s n w not_own =
+    let o = passing_is f d q s n w in
+    record {
+      after = moved f q o.flight o.queue;
+      is = o.is;
       here = refl;
       client = refl;
       next = refl;
-      sound = record { place = place_behind f.here q d s.place n b.held; shown = o.end; is_shown = shows; held = omega (arith, o.small, s.held) };
-      moves = record {
-        own = λ x i p. absurd (not_own x i p);
-        other = λ z. (o.left, o.rebased, shows ∙ sym (and_then_is (screen f) (λ z. run z o.left) s.shown s.is_shown ∙ o.left_goes));
-      };
+      sound = o.sound;
+      moves = record { own = λ x i p. absurd (not_own x i p); other = λ z. (o.left, o.rebased, o.shows) };
       landed = λ x i p. absurd (not_own x i p);
       waits = λ x i p. absurd (not_own x i p);
       flown = λ x i p. o.flown x i;
       none = o.none;
     }
 
-own_moves : (f : FollowerOf) (d : DeltaOf) (q : Point) (x : Flight) → IsSound f → next_point f.here d ≡ Some q → is_within q d ≡ true → AreNormal d.ops → f.flight ≡ Some x → d.id ≡ x.sent.id → acts_of d ≡ x.acts → IsAdvance f d q (receive_own f d x (is_own d x.acts))
-own_moves f d q x s n w normal e i same =
+-- the flight's own delta
+pub record IsLanding (f : FollowerOf) (d : DeltaOf) (q : Point) : Type 0 where
+  pub is : advance f d (Some ((None, f.queue), [])) ≡ (Advanced, moved f q None f.queue)
+  pub sound : IsSound (moved f q None f.queue)
+  pub shows : screen (moved f q None f.queue) ≡ screen f
+
+pub landing_is : (f : FollowerOf) (d : DeltaOf) (q : Point) (x : Flight) → IsSound f → next_point f.here d ≡ Some q → is_within q d ≡ true → f.flight ≡ Some x → acts_of d ≡ x.acts → IsLanding f d q
+landing_is f d q x s n w e same =
     let a = behind_point f.here q d n in
     let b = bounded q d w in
     let all : pending f ≡ x.acts ∷ f.queue = ap (λ m. flying m ++ f.queue) e in
@@ -126,16 +158,24 @@ own_moves f d q x s n w normal e i same =
     let few : inserted_all (x.acts ∷ f.queue) ≤ max_inserted = subst (λ z. inserted_all z ≤ max_inserted) all s.held in
     let u = and_then_some (run f.here.state x.acts) (λ t. run_all t f.queue) s.shown ran in
     let state : q.state ≡ u.0 = a.same ∙ same_Some (sym a.goes ∙ ap (run f.here.state) same ∙ u.1) in
-    let g : FollowerOf = moved f q None f.queue in
-    let shows : screen g ≡ Some s.shown = subst (λ t. run_all t f.queue ≡ Some s.shown) (sym state) u.2 in
+    let shows : run_all q.state f.queue ≡ Some s.shown = subst (λ t. run_all t f.queue ≡ Some s.shown) (sym state) u.2 in
     record {
-      after = g;
-      is = ap (receive_own f d x) (own_is d x.acts normal same) ∙ advance_by f d q (Some ((None, f.queue), [])) n w;
+      is = advance_by f d q (Some ((None, f.queue), [])) n w;
+      sound = record { place = place_behind f.here q d s.place n b.held; shown = s.shown; is_shown = shows; held = omega (arith, few) };
+      shows = shows ∙ sym s.is_shown;
+    }
+
+own_moves : (f : FollowerOf) (d : DeltaOf) (q : Point) (x : Flight) → IsSound f → next_point f.here d ≡ Some q → is_within q d ≡ true → AreNormal d.ops → f.flight ≡ Some x → d.id ≡ x.sent.id → acts_of d ≡ x.acts → IsAdvance f d q (receive_own f d x (is_own d x.acts))
+own_moves f d q x s n w normal e i same =
+    let o = landing_is f d q x s n w e same in
+    record {
+      after = moved f q None f.queue;
+      is = ap (receive_own f d x) (own_is d x.acts normal same) ∙ o.is;
       here = refl;
       client = refl;
       next = refl;
-      sound = record { place = place_behind f.here q d s.place n b.held; shown = s.shown; is_shown = shows; held = omega (arith, few) };
-      moves = record { own = λ y j p. shows ∙ sym s.is_shown; other = λ o. absurd (o x e i) };
+      sound = o.sound;
+      moves = record { own = λ y j p. o.shows; other = λ z. absurd (z x e i) };
       landed = λ y j p. refl;
       waits = λ y j p. refl;
       flown = λ y j p. absurd (p (i ∙ ap (λ (z : Flight). z.sent.id) (same_Some (sym e ∙ j))));
