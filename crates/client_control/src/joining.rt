@@ -81,6 +81,7 @@ fn in_a_row(
 }
 
 // Operations that are compacted, with others behind them; None where some can't be composed.
+#[tactic(auto, using(crate::proofs::Joinings::join_none, crate::proofs::Joinings::join_done))]
 fn join_some(
     alloc: Global,
     ops: &[WaveletOp],
@@ -104,10 +105,12 @@ fn join_some(
 }
 
 // The operations, where they are short enough for a submission.
+#[tactic(auto, using(crate::proofs::Joinings::fit_some, crate::proofs::Joinings::fit_none, crate::proofs::Joinings::count_is))]
 fn if_short(alloc: Global, ops: Ops) -> Result<Option<Ops>, Memory>
     requires { AreNormal ops }
     ensures { IfOk result (λ o. IsFit (meanings ops) o) }
 {
+    let _count = ops.len();
     if ops_len(alloc, &ops)? <= SUBMIT_BYTES {
         Ok(Some(ops))
     } else {
@@ -116,9 +119,10 @@ fn if_short(alloc: Global, ops: Ops) -> Result<Option<Ops>, Memory>
 }
 
 // The operations of this list, where they are few and short enough for a submission.
+#[tactic(auto, using(crate::proofs::Joinings::fit_many))]
 fn if_fits(alloc: Global, list: Vec<WaveletOp>) -> Result<Option<Ops>, Memory>
     requires { AreNormal list.items }
-    ensures { IfOk result (λ o. IsFit (meanings list.entry.items) o) }
+    ensures { IfOk result (λ o. IsFit (meanings list.items) o) }
 {
     match Ops::new(list) {
         Some(ops) => if_short(alloc, ops),
@@ -127,6 +131,7 @@ fn if_fits(alloc: Global, list: Vec<WaveletOp>) -> Result<Option<Ops>, Memory>
 }
 
 // Operations that are compacted with an entry behind them, where that fits.
+#[tactic(auto, using(crate::proofs::Joinings::join_first_none, crate::proofs::Joinings::join_last_none, crate::proofs::Joinings::join_fits))]
 fn join(alloc: Global, ops: &Ops, entry: &Ops) -> Result<Option<Ops>, Memory>
     requires { AreNormal ops.now }
     ensures { IfOk result (λ o. IsFitting (join_on (meanings ops.now) (meanings entry.now)) o) }
@@ -144,6 +149,7 @@ fn join(alloc: Global, ops: &Ops, entry: &Ops) -> Result<Option<Ops>, Memory>
 }
 
 // An entry alone, compacted, where that fits.
+#[tactic(auto, using(crate::proofs::Joinings::alone_fits))]
 fn first_alone(alloc: Global, entry: &Ops) -> Result<Option<Ops>, Memory>
     ensures { IfOk result (λ o. IsFitting (bounded_compact (meanings entry.now)) o) }
 {
@@ -154,9 +160,10 @@ fn first_alone(alloc: Global, entry: &Ops) -> Result<Option<Ops>, Memory>
 }
 
 // Operations that are compacted with as many entries as fit.
+#[tactic(auto, using(crate::proofs::Joinings::gather_stops, crate::proofs::Joinings::gather_goes))]
 fn gather_on(alloc: Global, ops: Ops, rest: &[Ops]) -> Result<Joint, Memory>
     requires { AreNormal ops }
-    ensures { IfOk result (λ g. IsGathering ops.entry rest.now g) }
+    ensures { IfOk result (λ g. IsGathering ops rest.now g) }
 {
     let mut ops = ops;
     for entries in 0..rest.len() {
@@ -172,6 +179,7 @@ fn gather_on(alloc: Global, ops: Ops, rest: &[Ops]) -> Result<Joint, Memory>
 }
 
 /// The first entry with as many of the others as fit; None where it alone doesn't.
+#[tactic(auto, using(crate::proofs::Joinings::gathering_is, crate::proofs::Joinings::gathered_none))]
 pub(crate) fn gather(alloc: Global, first: &Ops, rest: &[Ops]) -> Result<Option<Joint>, Memory>
     ensures { IfOk result (λ o. MatchOption o (gather (meanings first.now) (map meanings rest.now) ≡ None) (λ g. IsGathered first.now rest.now g)) }
 {

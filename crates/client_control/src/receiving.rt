@@ -7,7 +7,7 @@ ghost use Rattle.wavelet_op.specs.States.{run};
 ghost use Rattle.delta_history.specs.Points.{acts_of};
 ghost use Rattle.node_rules.specs.Receiving.{advance, receive_other, receive_flight, receive};
 ghost use Rattle.client_control.specs.Parts.{follower_of, with_ops};
-ghost use Rattle.client_control.specs.Steps.{IsMeeting, IsOver};
+ghost use Rattle.client_control.specs.Steps.{IsComparison, IsMeeting, IsOver};
 
 use crate::bytes::bytes;
 use crate::counts::{inserted, inserted_all};
@@ -89,17 +89,7 @@ impl Follower {
         if delta.id != flight.sent.id {
             return Ok(Meeting::Other);
         }
-        let mine = flight.ops.copy(alloc)?;
-        let own = as_flown(alloc, delta, mine)?;
-        let spelled_own = bytes(alloc, &own)?;
-        if spelled == spelled_own.as_slice() {
-            return Ok(Meeting::Own);
-        }
-        let theirs = delta.ops.copy(alloc)?;
-        Ok(Meeting::Clash {
-            mine: own.ops,
-            theirs,
-        })
+        compare(alloc, flight, delta, spelled)
     }
 
     // The answer where the follower doesn't advance: the first operation that isn't valid, or their number where all are.
@@ -196,6 +186,32 @@ impl Follower {
     }
 }
 
+// What the delta is to the flight, whose id it has.
+fn compare(
+    alloc: Global,
+    flight: &InFlight,
+    delta: &AppliedDelta,
+    spelled: &[u8],
+) -> Result<Meeting, Memory>
+    requires normal { AreNormal flight.now.ops }
+    requires bytes { spelled.now ≡ delta_bytes delta.now }
+    requires is { IsDelta delta.now }
+    ensures { IfOk result (λ m. IsComparison flight.now delta.now m) }
+{
+    let mine = flight.ops.copy(alloc)?;
+    let own = as_flown(alloc, delta, mine)?;
+    let spelled_own = bytes(alloc, &own)?;
+    let theirs = delta.ops.copy(alloc)?;
+    if spelled == spelled_own.as_slice() {
+        Ok(Meeting::Own)
+    } else {
+        Ok(Meeting::Clash {
+            mine: own.ops,
+            theirs,
+        })
+    }
+}
+
 // The delta with these operations in the place of its own.
 fn as_flown(alloc: Global, delta: &AppliedDelta, ops: Ops) -> Result<AppliedDelta, Memory>
     requires { AreNormal ops }
@@ -212,7 +228,7 @@ fn as_flown(alloc: Global, delta: &AppliedDelta, ops: Ops) -> Result<AppliedDelt
 
 // A screen behind operations; None where it wasn't kept, or can't be.
 fn moved(alloc: Global, shown: Option<WaveletState>, ops: &Ops) -> Option<WaveletState>
-    ensures { IfSome result (λ t. MatchOption shown.entry ⊥ (λ s. run s (meanings ops.now) ≡ Some t)) }
+    ensures { IfSome result (λ t. MatchOption shown ⊥ (λ s. run s (meanings ops.now) ≡ Some t)) }
 {
     let Some(shown) = shown else {
         return None;

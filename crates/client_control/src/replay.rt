@@ -33,7 +33,7 @@ pub(crate) fn run_all(
     queue: &[Ops],
 ) -> Result<WaveletState, Memory>
     requires { run_all state (map meanings queue.now) ≢ None }
-    ensures { IfOk result (λ t. run_all state.entry (map meanings queue.now) ≡ Some t) }
+    ensures { IfOk result (λ t. run_all state (map meanings queue.now) ≡ Some t) }
 {
     let mut state = state;
     for ops in queue {
@@ -49,7 +49,7 @@ pub(crate) fn run_flight(
     flight: &Option<InFlight>,
 ) -> Result<WaveletState, Memory>
     requires { run_all state (map meanings (ops_flying flight.now)) ≢ None }
-    ensures { IfOk result (λ t. run_all state.entry (map meanings (ops_flying flight.now)) ≡ Some t) }
+    ensures { IfOk result (λ t. run_all state (map meanings (ops_flying flight.now)) ≡ Some t) }
 {
     let Some(flight) = flight else {
         return Ok(state);
