@@ -13,6 +13,7 @@ use Rattle.wavelet_op.specs.Acts.{Act, Idle, Adds, Removes, Sets, Mutates, meani
 use Rattle.wavelet_op.specs.States.{State, document_of, with_document, is_structured, mutate, apply_act, run}
 use Rattle.wavelet_op.specs.declared.op.WaveletOp.{WaveletOp}
 use Rattle.wavelet_op.proofs.Partial.{and_then_some}
+use Rattle.wavelet_op.proofs.Passes.{split_first}
 use Rattle.wavelet_op.proofs.Structures.{is_structured-holds}
 use Rattle.node_rules.specs.Followers.{Flight, FollowerOf, run_all, flying, pending, screen}
 use Rattle.client_control.specs.declared.flight.InFlight.{InFlight}
@@ -70,6 +71,9 @@ pending_structured p s e = go p.flight e
     go (Some g) h =
         let m = and_then_some (run p.here.state (meanings g.ops)) (λ x. run_all x (map meanings p.queue)) s h in
         (All-cons (λ ops. AreStructuredActs (meanings ops)) g.ops [] (run_structured p.here.state m.0 (meanings g.ops) m.1) (All-nil (λ ops. AreStructuredActs (meanings ops))), entries_structured m.0 s p.queue m.2)
+
+pub flight_structured : (g : Option InFlight) (x : InFlight) → g ≡ Some x → AreStructured (ops_flying g) → AreStructuredActs (meanings x.ops)
+flight_structured g x e h = (split_first (λ ops. AreStructuredActs (meanings ops)) x.ops [] (subst (λ z. AreStructured (ops_flying z)) e h)).0
 
 -- ---- with nothing pending
 

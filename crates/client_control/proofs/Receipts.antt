@@ -8,8 +8,10 @@ use Rattle.std.specs.Option.{option_map, option_to_list}
 use Rattle.std.proofs.lemmas.Bool.{and_parts}
 use Rattle.doc_items.specs.Limits.{max_count}
 use Rattle.doc_op.proofs.Applying.{no_value, same_Some}
-use Rattle.wave_base.specs.Versions.{VersionAt}
-use Rattle.wavelet_codec.specs.Spelling.{delta_bytes}
+use Rattle.std.specs.Cmp.Lexicographic.{bytes_decides}
+use Rattle.wave_base.specs.Versions.{VersionAt, same_id}
+use Rattle.wavelet_codec.specs.Spelling.{delta_bytes, IsDelta}
+use Rattle.wavelet_codec.proofs.Deltas.{alike}
 use Rattle.wavelet_op.specs.Acts.{Act, meanings, inserted, AreNormal, AreStructuredActs}
 use Rattle.wavelet_op.specs.Deltas.{DeltaOf}
 use Rattle.wavelet_op.specs.States.{State, run, first_invalid}
@@ -18,17 +20,19 @@ use Rattle.delta_history.specs.Legal.{max_inserted, max_delta}
 use Rattle.delta_history.specs.Points.{Point, acts_of, version_behind, point_behind, next_point}
 use Rattle.delta_history.specs.Steps.{IsWithin}
 use Rattle.delta_history.proofs.Points.{and_then_is}
-use Rattle.node_rules.specs.declared.received.Received.TheVariants.{NotNext, Advanced}
+use Rattle.node_rules.specs.declared.received.Received.TheVariants.{OtherFlight, NotNext, Advanced}
 use Rattle.node_rules.specs.Followers.{Flight, FollowerOf, inserted_all, flying, pending, screen, moved}
 use Rattle.node_rules.specs.Laws.{IsSound}
-use Rattle.node_rules.specs.Receiving.{Over, over, is_within, no_room, advance_with, advance_within, advance_to, advance, receive_other}
-use Rattle.node_rules.proofs.Advances.{IsBounded, bounded, passing_is, landing_is}
+use Rattle.node_rules.specs.Receiving.{Over, over, is_within, no_room, advance_with, advance_within, with_acts, is_own, advance_to, advance, receive_other, receive_own, receive_id, receive_flight}
+use Rattle.node_rules.proofs.Advances.{ops_back, IsBounded, bounded, passing_is, landing_is}
 use Rattle.node_rules.proofs.Sounds.{le_true}
 use Rattle.client_control.specs.declared.flight.InFlight.{InFlight}
 use Rattle.client_control.specs.declared.past.Passed.{Passed}
+use Rattle.client_control.specs.declared.receiving.Meeting.{Meeting}
+use Rattle.client_control.specs.declared.receiving.Meeting.TheVariants.{Other, Own, Clash}
 use Rattle.client_control.specs.declared.step.Step.{Step}
 use Rattle.client_control.specs.Parts.{Parts, parts, flight_of, follower_of, with_ops, IsNormalFlight, IsKept}
-use Rattle.client_control.specs.Steps.{IsStep, IsOver}
+use Rattle.client_control.specs.Steps.{IsStep, IsOver, IsComparison, IsMeeting}
 use Rattle.client_control.proofs.Pending.{run_structured}
 use Rattle.std.proofs.lemmas.Bool.Decides.{nat_tests}
 use Rattle.std.proofs.lemmas.Bool.{and_from}
@@ -196,3 +200,45 @@ own_kept p d s t count now shown k h e own n =
       client = k.client;
       next = k.next;
     }
+
+-- ---- the flight's id
+
+same_delta : (d own : DeltaOf) (g : InFlight) → AreNormal g.ops → own ≡ record { id = d.id; from = d.from; time = d.time; ops = g.ops } → with_acts d (meanings g.ops) ≡ own
+same_delta d own g n e = (λ i. record { id = d.id; from = d.from; time = d.time; ops = ops_back g.ops n i }) ∙ sym e
+
+pub own_compared : (g : InFlight) (d own : DeltaOf) → AreNormal g.ops → own ≡ record { id = d.id; from = d.from; time = d.time; ops = g.ops } → IsDelta d → IsDelta own → delta_bytes d ≡ delta_bytes own → (is_own d (meanings g.ops) ≡ true) × (acts_of d ≡ meanings g.ops)
+own_compared g d own n e a b h =
+    let same = same_delta d own g n e in
+    let bytes : delta_bytes d ≡ delta_bytes (with_acts d (meanings g.ops)) = h ∙ ap delta_bytes (sym same) in
+    let ops : d.ops ≡ g.ops = (alike d own a b h).ops ∙ ap (λ (z : DeltaOf). z.ops) e in
+    ((bytes_decides (delta_bytes d) (delta_bytes (with_acts d (meanings g.ops)))).1 bytes, ap meanings ops)
+
+pub other_compared : (g : InFlight) (d own : DeltaOf) → AreNormal g.ops → own ≡ record { id = d.id; from = d.from; time = d.time; ops = g.ops } → (delta_bytes d ≡ delta_bytes own → ⊥) → is_own d (meanings g.ops) ≡ false
+other_compared g d own n e h = go (is_own d (meanings g.ops)) refl
+  where
+    go : (b : Bool) → is_own d (meanings g.ops) ≡ b → b ≡ false
+    go false q = refl
+    go true q = absurd (h ((bytes_decides (delta_bytes d) (delta_bytes (with_acts d (meanings g.ops)))).0 q ∙ ap delta_bytes (same_delta d own g n e)))
+
+pub compared : (p : Parts) (g : InFlight) (d : DeltaOf) (m : Meeting) → p.flight ≡ Some g → same_id d.id g.sent.id ≡ true → IsComparison g d m → IsMeeting (follower_of p) d m
+compared p g d m e i h = go m h
+  where
+    f : FollowerOf
+    f = follower_of p
+
+    at : f.flight ≡ Some (flight_of g)
+    at = ap (option_map flight_of) e
+
+    found : receive_flight f d f.flight ≡ receive_own f d (flight_of g) (is_own d (meanings g.ops))
+    found = ap (receive_flight f d) at ∙ ap (receive_id f d (flight_of g)) i
+
+    go : (m : Meeting) → IsComparison g d m → IsMeeting f d m
+    go Other k = absurd k
+    go Own k = (found ∙ ap (receive_own f d (flight_of g)) k.0, (flight_of g, at, k.1))
+    go (Clash mine theirs) k = found ∙ ap (receive_own f d (flight_of g)) k.0 ∙ (λ j. (OtherFlight (sym k.1 j) (sym k.2 j), f))
+
+pub met_none : (p : Parts) (d : DeltaOf) → p.flight ≡ None → IsMeeting (follower_of p) d Other
+met_none p d e = ap (λ z. receive_flight (follower_of p) d (option_map flight_of z)) e
+
+pub met_other : (p : Parts) (g : InFlight) (d : DeltaOf) → p.flight ≡ Some g → same_id d.id g.sent.id ≡ false → IsMeeting (follower_of p) d Other
+met_other p g d e i = ap (λ z. receive_flight (follower_of p) d (option_map flight_of z)) e ∙ ap (receive_id (follower_of p) d (flight_of g)) i

@@ -72,6 +72,7 @@ impl Follower {
         }
     }
 
+    #[tactic(auto, using(crate::proofs::Receipts::compared, crate::proofs::Receipts::met_none, crate::proofs::Receipts::met_other))]
     // What the delta is to the flight. It is the flight's own where both spell alike.
     fn meet(
         &self,
