@@ -250,3 +250,10 @@ gather_stops ops entry rest e = ap (λ o. option_map_or (λ more. gather_joined 
 
 pub gather_goes : (ops more entry : List WaveletOp) (rest : List (List WaveletOp)) → fit (join_on (meanings ops) (meanings entry)) ≡ Some (meanings more) → gather_joined (meanings ops) (map meanings (entry ∷ rest)) ≡ gather_joined (meanings more) (map meanings rest)
 gather_goes ops more entry rest e = ap (λ o. option_map_or (λ more. gather_joined more (map meanings rest)) o (meanings ops, map meanings (entry ∷ rest))) e
+
+pub short_is : (ops : List WaveletOp) (n : ℕ) → AreNormal ops → n ≡ capped (length (ops_bytes ops)) → nat_le n submit_bytes ≡ is_short (meanings ops)
+short_is ops n normal e = go (nat_le n submit_bytes) refl
+  where
+    go : (b : Bool) → nat_le n submit_bytes ≡ b → nat_le n submit_bytes ≡ is_short (meanings ops)
+    go true h = (let k : n ≤ submit_bytes = grind (arith, nat_tests) in h ∙ sym (true_le _ _ (omega (arith, bytes_same ops normal, e, k))))
+    go false h = (let k : submit_bytes < n = grind (arith, nat_tests) in h ∙ sym (false_le _ _ (omega (arith, bytes_same ops normal, e, k))))

@@ -52,6 +52,9 @@ true_lt a b h = grind (arith, nat_tests)
 false_lt : (a b : ℕ) → b ≤ a → nat_lt a b ≡ false
 false_lt a b h = grind (arith, nat_tests)
 
+pub few : (a b : ℕ) → nat_lt a b ≡ false → b ≤ a
+few a b h = grind (arith, nat_tests)
+
 -- ---- a new follower
 
 pub new_kept : (name author : Key) (client : ℕ) (at : VersionAt) (queue : List (List WaveletOp)) (shown : State) → client ≤ max_count → at ≡ record { version = 0; hash = zero_hash_of name } → queue ≡ [] → shown ≡ empty_state → IsKept (parts name author client at 0 empty_state None queue 1) 0 (Some shown)
@@ -201,12 +204,12 @@ pub record IsTaking (p : Parts) (first : List WaveletOp) (rest : List (List Wave
   pub queue : p.queue ≡ first ∷ rest
   pub gathered : IsGathered first rest g
   pub next : p.next ≤ max_count
-  pub sent : sent ≡ sent_by (follower_of p) (meanings g.ops)
+  pub is_sent : sent ≡ sent_by (follower_of p) (meanings g.ops)
 
 submitting_of : (p : Parts) (first : List WaveletOp) (rest : List (List WaveletOp)) (g : Joint) (sent : Submission) → IsTaking p first rest g sent → follower_of (flying_parts p (record { sent = sent; ops = g.ops }) (drop g.entries rest)) ≡ submitting (follower_of p) (meanings g.ops, map meanings (drop g.entries rest))
 submitting_of p first rest g sent t =
     let n : p.next + 1 ≡ suc p.next = omega arith in
-    λ i. record { name = p.name; client = p.client; here = p.here; flight = Some (record { sent = t.sent i; acts = meanings g.ops }); queue = map meanings (drop g.entries rest); next = n i }
+    λ i. record { name = p.name; client = p.client; here = p.here; flight = Some (record { sent = t.is_sent i; acts = meanings g.ops }); queue = map meanings (drop g.entries rest); next = n i }
 
 taking_is : (p : Parts) (first : List WaveletOp) (rest : List (List WaveletOp)) (g : Joint) (sent : Submission) → IsTaking p first rest g sent → IsSubmitting (follower_of p) (Some sent) (follower_of (flying_parts p (record { sent = sent; ops = g.ops }) (drop g.entries rest)))
 taking_is p first rest g sent t = record {
@@ -217,7 +220,7 @@ taking_is p first rest g sent t = record {
   is_queue = ap (map meanings) t.queue;
   is_taken = t.gathered.is;
   numbered = t.next;
-  is_sent = ap Some t.sent;
+  is_sent = ap Some t.is_sent;
   is_after = submitting_of p first rest g sent t;
 }
 

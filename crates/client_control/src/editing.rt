@@ -1,9 +1,9 @@
 // What a follower's user does.
-ghost use Rattle.std.specs.Prelude.{◌≡◌, true, false, Some, Ok, IfOk, IfErr, OnOk, OnErr};
-ghost use Rattle.wavelet_op.specs.Acts.{meanings};
+ghost use Rattle.std.specs.Prelude.{◌≡◌, ◌<◌, true, false, Some, Ok, IfOk, IfErr, OnOk, OnErr};
+ghost use Rattle.wavelet_op.specs.Acts.{meanings, AreNormal};
 ghost use Rattle.wavelet_op.specs.States.{run};
 ghost use Rattle.node_rules.specs.Followers.{screen};
-ghost use Rattle.node_rules.specs.Submitting.{IsFault, edit};
+ghost use Rattle.node_rules.specs.Submitting.{IsFault, is_short, edit};
 ghost use Rattle.client_control.specs.Parts.{follower_of};
 ghost use Rattle.client_control.specs.Steps.{IsInvalid, IsTried};
 
@@ -47,11 +47,10 @@ impl Follower {
     {
         let ops = ops.normal(alloc)?;
         let more = inserted(&ops);
-        let full = self.held + more > MAX_INSERTED;
-        let short = ops_len(alloc, &ops)? <= SUBMIT_BYTES;
-        self.queue.reserve(1)?;
+        let short = is_short(alloc, &ops)?;
         let mut shown = self.lift_screen(alloc)?;
-        match tried(alloc, &mut shown, &ops, full, short) {
+        let full = self.held + more > MAX_INSERTED;
+        match tried_with_room(alloc, &mut self.queue, &mut shown, &ops, full, short) {
             Ok(()) => {
                 self.held += more;
                 self.shown = Some(shown);
@@ -66,6 +65,35 @@ impl Follower {
             }
         }
     }
+}
+
+// Whether the operations are short enough for a submission.
+#[tactic(auto, using(crate::proofs::Joinings::short_is))]
+fn is_short(alloc: Global, ops: &Ops) -> Result<bool, Memory>
+    requires { AreNormal ops.now }
+    ensures { IfOk result (λ b. b ≡ is_short (meanings ops.now)) }
+{
+    let len = ops_len(alloc, ops)?;
+    Ok(len <= SUBMIT_BYTES)
+}
+
+// `tried`, and there is room for an entry.
+fn tried_with_room(
+    alloc: Global,
+    queue: &mut Vec<Ops>,
+    shown: &mut WaveletState,
+    ops: &Ops,
+    full: bool,
+    short: bool,
+) -> Result<(), FollowerFault>
+    ensures items { queue.new.items ≡ queue.old.items }
+    ensures room { OnOk result (queue.new.len < queue.new.cap) }
+    ensures ok { OnOk result ((run shown.old (meanings ops.now) ≡ Some shown.new) × (full ≡ false) × (short ≡ true)) }
+    ensures refused { IfErr result (λ e. IsTried shown.old (meanings ops.now) full short e) }
+    ensures same { OnErr result (shown.new ≡ shown.old) }
+{
+    queue.reserve(1)?;
+    tried(alloc, shown, ops, full, short)
 }
 
 // The screen is behind the operations, unless they aren't valid there, or too many items are pending with them, or they are too
