@@ -1,6 +1,6 @@
 -- What each call keeps.
 --     new_kept, dropped_kept, snapshot_kept, edited_kept, submitted_kept
-use Rattle.std.proofs.Common.{◌≡◌, ◌≢◌, ℕ, suc, ◌+◌, ◌<◌, ◌≤◌, Bool, true, false, cond, ◌&&◌, nat_le, nat_lt, List, [], ◌∷◌, ◌++◌, length, map, take, drop, Option, None, Some, Result, Ok, Err, IfSome, refl, sym, ap, subst, ◌∙◌, arith, append_assoc, option_and_then}
+use Rattle.std.proofs.Common.{◌≡◌, ◌≢◌, ℕ, suc, ◌+◌, ◌<◌, ◌≤◌, Bool, true, false, cond, ◌&&◌, nat_le, nat_lt, List, [], ◌∷◌, ◌++◌, length, map, take, drop, Option, None, Some, is_some, Result, Ok, Err, IfSome, refl, sym, ap, subst, ◌∙◌, arith, append_assoc, option_and_then}
 use Rattle.std.specs.List.{All}
 use Rattle.std.specs.Option.{option_map}
 use Rattle.std.proofs.lemmas.Bool.Decides.{nat_tests}
@@ -57,10 +57,11 @@ few a b h = grind (arith, nat_tests)
 
 -- ---- a new follower
 
-pub new_kept : (name author : Key) (client : ℕ) (at : VersionAt) (queue : List (List WaveletOp)) (shown : State) → client ≤ max_count → at ≡ record { version = 0; hash = zero_hash_of name } → queue ≡ [] → shown ≡ empty_state → IsKept (parts name author client at 0 empty_state None queue 1) 0 (Some shown)
-new_kept name author client at queue shown c a q s =
+pub new_kept : (name author : Key) (client : ℕ) (at : VersionAt) (state : State) (queue : List (List WaveletOp)) (shown : State) → client ≤ max_count → at ≡ record { version = 0; hash = zero_hash_of name } → state ≡ empty_state → queue ≡ [] → shown ≡ empty_state → IsKept (parts name author client at 0 state None queue 1) 0 (Some shown)
+new_kept name author client at state queue shown c a e q s =
     let k : ClientOf = record { author = author; client = client } in
-    let start : IsKept (parts name author client (record { version = 0; hash = zero_hash_of name }) 0 empty_state None [] 1) 0 (Some empty_state) = record {
+    let first : VersionAt = record { version = 0; hash = zero_hash_of name } in
+    let start : IsKept (parts name author client first 0 empty_state None [] 1) 0 (Some empty_state) = record {
       sound = new_is_sound name k;
       flight_normal = tt;
       queue_normal = All-nil AreNormal;
@@ -69,7 +70,7 @@ new_kept name author client at queue shown c a q s =
       client = c;
       next = omega arith;
     } in
-    subst (λ z. IsKept (parts name author client z 0 empty_state None queue 1) 0 (Some shown)) (sym a) (subst (λ z. IsKept (parts name author client (record { version = 0; hash = zero_hash_of name }) 0 empty_state None z 1) 0 (Some shown)) (sym q) (subst (λ z. IsKept (parts name author client (record { version = 0; hash = zero_hash_of name }) 0 empty_state None [] 1) 0 (Some z)) (sym s) start))
+    subst (λ z. IsKept (parts name author client z 0 state None queue 1) 0 (Some shown)) (sym a) (subst (λ z. IsKept (parts name author client first 0 z None queue 1) 0 (Some shown)) (sym e) (subst (λ z. IsKept (parts name author client first 0 empty_state None z 1) 0 (Some shown)) (sym q) (subst (λ z. IsKept (parts name author client first 0 empty_state None [] 1) 0 (Some z)) (sym s) start)))
 
 -- ---- what is dropped
 
@@ -269,3 +270,12 @@ submit_big p first rest e q g = ap (λ z. take_unless (follower_of p) (option_ma
 
 pub submit_spent : (p : Parts) (first : List WaveletOp) (rest : List (List WaveletOp)) (g : Joint) → p.flight ≡ None → p.queue ≡ first ∷ rest → IsGathered first rest g → max_count < p.next → submit (follower_of p) ≡ Err NumbersSpent
 submit_spent p first rest g e q h n = ap (λ z. take_unless (follower_of p) (option_map flight_of z)) e ∙ ap (λ z. take_queued (follower_of p) (map meanings z)) q ∙ ap (take_gathered (follower_of p)) h.is ∙ ap (take_numbered (follower_of p) (meanings g.ops, map meanings (drop g.entries rest))) (false_le _ _ n)
+
+-- ---- what the code finds
+
+pub none_if : {A : Type 0} (o : Option A) → is_some o ≡ false → o ≡ None
+none_if None e = refl
+none_if (Some x) e = absurd (cc)
+
+pub drop_next : (n : ℕ) (x : List WaveletOp) (xs : List (List WaveletOp)) → drop (n + 1) (x ∷ xs) ≡ drop n xs
+drop_next n x xs = (let e : n + 1 ≡ suc n = omega arith in ap (λ m. drop m (x ∷ xs)) e)

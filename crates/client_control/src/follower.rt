@@ -57,7 +57,6 @@ impl Model for Follower {
 
 impl Follower {
     /// At the start of the history, with nothing pending. The client's key is at most 2^53 - 1.
-    #[tactic(auto, using(crate::proofs::Kept::new_kept))]
     pub fn new(alloc: Global, name: WaveletName, user: Address, client: u64) -> Follower
         requires { client ≤ max_count }
         ensures { follower_of result ≡ new_follower name (record { author = user; client = client }) }

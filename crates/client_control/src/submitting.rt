@@ -19,7 +19,6 @@ pub const SUBMIT_BYTES: u64 = 100_000;
 
 impl Follower {
     // The submission of these operations.
-    #[tactic(auto, using(crate::proofs::Kept::sent_is))]
     fn submission(&self, alloc: Global, ops: &Ops) -> Result<Submission, Memory>
         requires next { self.now.next ≤ max_count }
         requires normal { AreNormal ops.now }
