@@ -279,3 +279,6 @@ none_if (Some x) e = absurd (cc)
 
 pub drop_next : (n : ℕ) (x : List WaveletOp) (xs : List (List WaveletOp)) → drop (n + 1) (x ∷ xs) ≡ drop n xs
 drop_next n x xs = (let e : n + 1 ≡ suc n = omega arith in ap (λ m. drop m (x ∷ xs)) e)
+
+pub copied_kept : (p q : Parts) (count : ℕ) (shown : Option State) → IsKept p count shown → p ≡ q → IsKept q count None
+copied_kept p q count shown k e = subst (λ z. IsKept z count None) e (record { sound = k.sound; flight_normal = k.flight_normal; queue_normal = k.queue_normal; held = k.held; shown = tt; client = k.client; next = k.next })

@@ -8,7 +8,8 @@ ghost use Rattle.node_rules.specs.Followers.{ClientOf, Flight, new_follower, pen
 ghost use Rattle.node_rules.specs.Laws.{IsSound};
 ghost use Rattle.client_control.specs.Parts.{Parts, follower_of, ops_pending, settled};
 
-use crate::flight::InFlight;
+use crate::flight::{InFlight, copy_flight};
+use crate::past::copy_queue;
 use crate::replay::{run_all, run_flight};
 use doc_items::Memory;
 use node_rules::Taken;
@@ -169,6 +170,30 @@ impl Follower {
         } else {
             None
         }
+    }
+
+    /// An equal follower. Its screen isn't kept, and is made anew when it is needed.
+    pub fn copy(&self, alloc: Global) -> Result<Follower, Memory>
+        ensures { IfOk result (λ f. f ≡ self.now) }
+    {
+        let name = self.name.copy(alloc)?;
+        let author = self.author.copy(alloc)?;
+        let state = self.state.copy(alloc)?;
+        let flight = copy_flight(alloc, &self.flight)?;
+        let queue = copy_queue(alloc, self.queue.as_slice())?;
+        Ok(Follower {
+            name,
+            author,
+            client: self.client,
+            at: self.at,
+            count: self.count,
+            state,
+            flight,
+            queue,
+            next: self.next,
+            held: self.held,
+            shown: None,
+        })
     }
 
     /// Nothing is pending any more.

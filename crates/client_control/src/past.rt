@@ -115,3 +115,15 @@ pub(crate) fn pass_over(
         left: rest.left,
     }))
 }
+
+/// Equal entries.
+pub(crate) fn copy_queue(alloc: Global, queue: &[Ops]) -> Result<Vec<Ops>, Memory>
+    ensures { IfOk result (λ v. v.items ≡ queue.now) }
+{
+    let mut copies = Vec::with_capacity(alloc, queue.len())?;
+    for ops in queue {
+        let copy = ops.copy(alloc)?;
+        put(&mut copies, copy)?;
+    }
+    Ok(copies)
+}

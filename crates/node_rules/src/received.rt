@@ -1,3 +1,7 @@
+ghost use Rattle.std.specs.Prelude.{◌≡◌, IfOk};
+
+use doc_items::Memory;
+use std::alloc::Global;
 use wave_base::HashedVersion;
 use wavelet_op::Ops;
 
@@ -20,4 +24,27 @@ pub enum Received {
     NotNext { index: u32 },
     /// The follower is behind the delta.
     Advanced,
+}
+
+impl Received {
+    /// An equal answer.
+    pub fn copy(&self, alloc: Global) -> Result<Received, Memory>
+        ensures { IfOk result (λ r. r ≡ self.now) }
+    {
+        match self {
+            Received::Old => Ok(Received::Old),
+            Received::Gap => Ok(Received::Gap),
+            Received::Diverged { mine, theirs } => Ok(Received::Diverged {
+                mine: *mine,
+                theirs: *theirs,
+            }),
+            Received::OtherFlight { mine, theirs } => {
+                let mine = mine.copy(alloc)?;
+                let theirs = theirs.copy(alloc)?;
+                Ok(Received::OtherFlight { mine, theirs })
+            }
+            Received::NotNext { index } => Ok(Received::NotNext { index: *index }),
+            Received::Advanced => Ok(Received::Advanced),
+        }
+    }
 }
