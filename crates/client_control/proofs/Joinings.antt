@@ -4,7 +4,7 @@
 --     join_twice, join_refused      two lists behind, one after the other
 --     gather_same           so what is gathered may be kept compacted
 --     fit_some, fit_none    operations that are few and short enough
-use Rattle.std.proofs.Common.{◌≡◌, ℕ, ◌<◌, ◌≤◌, Bool, true, false, cond, ◌&&◌, nat_le, min, List, [], ◌∷◌, ◌++◌, length, map, Option, None, Some, Result, Ok, Err, refl, sym, ap, subst, ◌∙◌, arith, option_and_then}
+use Rattle.std.proofs.Common.{◌≡◌, ℕ, ◌<◌, ◌≤◌, Bool, true, false, cond, ◌&&◌, nat_le, List, [], ◌∷◌, ◌++◌, length, map, Option, None, Some, Result, Ok, Err, refl, sym, ap, subst, ◌∙◌, arith, option_and_then}
 use Rattle.std.specs.Option.{option_map, option_map_or}
 use Rattle.std.specs.Result.{result_ok}
 use Rattle.std.proofs.lemmas.Bool.Decides.{nat_tests}
@@ -13,7 +13,7 @@ use Rattle.std.proofs.lemmas.List.{length-map, map-append}
 use Rattle.std.proofs.lemmas.List.Elements.{All-cons, All-nil, All-append}
 use Rattle.std.specs.List.{All}
 use Rattle.wavelet_op.proofs.Passes.{split_first}
-use Rattle.op_codec.specs.Spelling.{limit, capped}
+use Rattle.op_codec.specs.Spelling.{capped}
 use Rattle.wavelet_op.specs.Acts.{Act, meaning, meanings, IsNormal, AreNormal}
 use Rattle.wavelet_op.specs.Compacts.{Unfit, bounded_join, act_front, go_on, compact_by, bounded_compact}
 use Rattle.wavelet_op.specs.Deltas.{is_count}
@@ -21,7 +21,7 @@ use Rattle.wavelet_op.specs.Joining.{act_fronts}
 use Rattle.wavelet_op.specs.declared.op.WaveletOp.{WaveletOp}
 use Rattle.wavelet_codec.specs.Spelling.{ops_bytes}
 use Rattle.delta_history.specs.Verdicts.{ops_of}
-use Rattle.node_rules.specs.Submitting.{submit_bytes, is_short, if_fits, fitting, Gathered, gather_on, gather}
+use Rattle.node_rules.specs.Submitting.{submit_bytes, is_short, if_fits, fitting, gather_on, gather}
 use Rattle.node_rules.proofs.Advances.{ops_back}
 use Rattle.node_rules.proofs.Gathers.{fitting_is}
 use Rattle.node_rules.proofs.Sounds.{same_ok, no_ok}

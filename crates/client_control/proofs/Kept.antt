@@ -1,6 +1,6 @@
 -- What each call keeps.
 --     new_kept, dropped_kept, snapshot_kept, edited_kept, submitted_kept
-use Rattle.std.proofs.Common.{◌≡◌, ◌≢◌, ℕ, suc, ◌+◌, ◌<◌, ◌≤◌, Bool, true, false, cond, ◌&&◌, nat_le, nat_lt, List, [], ◌∷◌, ◌++◌, length, map, take, drop, Option, None, Some, is_some, Result, Ok, Err, IfSome, refl, sym, ap, subst, ◌∙◌, arith, append_assoc, option_and_then}
+use Rattle.std.proofs.Common.{◌≡◌, ◌≢◌, ℕ, suc, ◌+◌, ◌<◌, ◌≤◌, Bool, true, false, cond, nat_le, nat_lt, List, [], ◌∷◌, ◌++◌, map, drop, Option, None, Some, is_some, Ok, Err, IfSome, refl, sym, ap, subst, ◌∙◌, arith, append_assoc}
 use Rattle.std.specs.List.{All}
 use Rattle.std.specs.Option.{option_map}
 use Rattle.std.proofs.lemmas.Bool.Decides.{nat_tests}
@@ -9,34 +9,31 @@ use Rattle.std.proofs.lemmas.List.Elements.{All-cons, All-nil, All-append, All-d
 use Rattle.wavelet_op.proofs.Passes.{split_first}
 use Rattle.doc_items.specs.Limits.{max_count}
 use Rattle.doc_items.specs.Maps.{Key}
-use Rattle.doc_op.proofs.Applying.{no_value, same_Some}
 use Rattle.wave_base.specs.Versions.{VersionAt}
 use Rattle.wave_hash.specs.Chain.{zero_hash_of}
 use Rattle.wavelet_op.specs.Acts.{Act, meanings, inserted, AreNormal}
-use Rattle.wavelet_op.specs.States.{State, empty_state, run, first_invalid}
+use Rattle.wavelet_op.specs.States.{State, empty_state, run}
 use Rattle.wavelet_op.specs.declared.delta.Submission.{Submission}
 use Rattle.wavelet_op.specs.declared.op.WaveletOp.{WaveletOp}
 use Rattle.wavelet_state.specs.Parts.{item_count}
-use Rattle.wavelet_state.specs.Snapshots.{SnapshotOf}
 use Rattle.delta_history.specs.Legal.{max_inserted}
 use Rattle.delta_history.specs.Points.{Point}
-use Rattle.delta_history.specs.Verdicts.{ops_of}
 use Rattle.delta_history.proofs.Points.{and_then_is}
 use Rattle.node_rules.specs.declared.fault.FollowerFault.{FollowerFault}
 use Rattle.node_rules.specs.declared.fault.FollowerFault.TheVariants.{OpInvalid, EditFull, TooBig, NumbersSpent, Memory}
 use Rattle.node_rules.specs.declared.taken.Taken.TheVariants.{Pending, Old, Took}
-use Rattle.node_rules.specs.Followers.{ClientOf, Flight, FollowerOf, new_follower, run_all, inserted_all, flying, pending, screen, moved, dropped, refuse, refuse_flight, point_of, take_newer, take_settled, take_snapshot}
-use Rattle.node_rules.specs.Laws.{IsPlace, IsSound}
-use Rattle.node_rules.specs.Submitting.{submit_bytes, is_short, IsFault, queued, edit_short, edit_held, edit_run, edit_shown, edit, Gathered, gather, sent_by, submitting, take_numbered, take_gathered, take_queued, take_unless, submit}
+use Rattle.node_rules.specs.Followers.{ClientOf, FollowerOf, run_all, inserted_all, flying, pending, screen, moved, take_newer, take_settled, take_snapshot}
+use Rattle.node_rules.specs.Laws.{IsSound}
+use Rattle.node_rules.specs.Submitting.{is_short, IsFault, queued, edit_short, edit_held, edit_run, edit_shown, edit, gather, sent_by, submitting, take_numbered, take_gathered, take_queued, take_unless, submit}
 use Rattle.node_rules.proofs.Advances.{ops_back}
 use Rattle.node_rules.proofs.Gathers.{IsSubmitting, submitting_is_sound}
 use Rattle.node_rules.proofs.Rebases.{inserted_all_append}
-use Rattle.node_rules.proofs.Sounds.{new_is_sound, edit_is_sound, dropped_is_sound, snapshot_is_sound}
+use Rattle.node_rules.proofs.Sounds.{new_is_sound, edit_is_sound, dropped_is_sound}
 use Rattle.client_control.specs.declared.flight.InFlight.{InFlight}
 use Rattle.client_control.specs.declared.joining.Joint.{Joint}
-use Rattle.client_control.specs.Parts.{Parts, parts, flight_of, follower_of, settled, IsNormalFlight, IsKept}
+use Rattle.client_control.specs.Parts.{Parts, parts, flight_of, follower_of, settled, IsKept}
 use Rattle.client_control.specs.Joins.{IsGathered}
-use Rattle.client_control.specs.Steps.{IsInvalid, IsTried}
+use Rattle.client_control.specs.Steps.{IsTried}
 use Rattle.client_control.proofs.Pending.{settled_none, settled_screen}
 use Rattle.client_control.proofs.Small.{items_small}
 

@@ -1,12 +1,11 @@
 -- The loop over the entries that are taken past operations.
 --     onto done r            what is done, in front of what the rest gives
 --     IsRebasing             so much of the entries is done
-use Rattle.std.proofs.Common.{◌≡◌, ℕ, ◌+◌, ◌<◌, ◌≤◌, List, [], ◌∷◌, ◌++◌, length, map, drop, Option, None, Some, refl, sym, ap, subst, ◌∙◌, append_assoc, append-nil, option_and_then}
+use Rattle.std.proofs.Common.{◌≡◌, List, [], ◌∷◌, ◌++◌, map, Option, None, Some, refl, sym, ap, ◌∙◌, append_assoc, append-nil, option_and_then}
 use Rattle.std.specs.List.{All}
 use Rattle.std.specs.Option.{option_map}
 use Rattle.std.proofs.lemmas.List.Elements.{All-cons, All-nil, All-append}
 use Rattle.wavelet_op.specs.Acts.{Act, meanings, AreNormal, AreStructuredActs}
-use Rattle.wavelet_op.specs.Grids.{Lists}
 use Rattle.wavelet_op.specs.declared.op.WaveletOp.{WaveletOp}
 use Rattle.wavelet_op.specs.declared.pair.OpsPair.{OpsPair}
 use Rattle.wavelet_op.proofs.Passes.{split_first}

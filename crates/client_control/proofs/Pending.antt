@@ -2,12 +2,11 @@
 --     pending_same          the acts of the operations
 --     run_structured, entries_structured      what is valid somewhere is structured
 --     settled_screen        with nothing pending the screen is the state
-use Rattle.std.proofs.Common.{◌≡◌, ◌≢◌, ℕ, Bool, true, false, cond, List, [], ◌∷◌, ◌++◌, map, Option, None, Some, refl, sym, ap, subst, ◌∙◌, option_and_then}
+use Rattle.std.proofs.Common.{◌≡◌, ◌≢◌, true, false, List, [], ◌∷◌, ◌++◌, map, Option, None, Some, refl, ap, subst}
 use Rattle.std.specs.List.{All}
 use Rattle.std.specs.Option.{option_map}
-use Rattle.std.proofs.lemmas.List.Elements.{All-cons, All-nil, All-append}
-use Rattle.doc_items.specs.Maps.{Key}
-use Rattle.doc_op.proofs.Applying.{no_value, same_Some, passed}
+use Rattle.std.proofs.lemmas.List.Elements.{All-cons, All-nil}
+use Rattle.doc_op.proofs.Applying.{passed}
 use Rattle.doc_op.specs.Apply.{apply}
 use Rattle.wavelet_op.specs.Acts.{Act, Idle, Adds, Removes, Sets, Mutates, meanings, AreNormal, IsStructuredAct, AreStructuredActs}
 use Rattle.wavelet_op.specs.States.{State, document_of, with_document, is_structured, mutate, apply_act, run}
@@ -15,7 +14,7 @@ use Rattle.wavelet_op.specs.declared.op.WaveletOp.{WaveletOp}
 use Rattle.wavelet_op.proofs.Partial.{and_then_some}
 use Rattle.wavelet_op.proofs.Passes.{split_first}
 use Rattle.wavelet_op.proofs.Structures.{is_structured-holds}
-use Rattle.node_rules.specs.Followers.{Flight, FollowerOf, run_all, flying, pending, screen}
+use Rattle.node_rules.specs.Followers.{FollowerOf, run_all, flying, pending, screen}
 use Rattle.client_control.specs.declared.flight.InFlight.{InFlight}
 use Rattle.client_control.specs.Parts.{Parts, flight_of, follower_of, ops_flying, ops_pending, settled, IsNormalFlight}
 use Rattle.client_control.specs.Steps.{AreStructured}

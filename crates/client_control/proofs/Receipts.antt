@@ -2,36 +2,32 @@
 --     refused_same, unstructured_same     a delta that breaks a bound, or whose operations aren't structured
 --     invalid_answer, valid_answer        what is answered where the follower doesn't advance
 --     passed_on, landed                   what is kept where it does
-use Rattle.std.proofs.Common.{◌≡◌, ℕ, ◌+◌, ◌-◌, ◌<◌, ◌≤◌, Bool, true, false, cond, ◌&&◌, nat_le, List, [], ◌∷◌, ◌++◌, length, map, Option, None, Some, IfSome, MatchOption, refl, sym, ap, subst, ◌∙◌, arith, option_and_then}
-use Rattle.std.specs.List.{All}
+use Rattle.std.proofs.Common.{◌≡◌, ℕ, ◌+◌, ◌-◌, ◌≤◌, Bool, true, false, nat_le, List, [], ◌++◌, length, map, Option, None, Some, IfSome, MatchOption, refl, sym, ap, subst, ◌∙◌, arith, option_and_then}
 use Rattle.std.specs.Option.{option_map, option_to_list}
-use Rattle.std.proofs.lemmas.Bool.{and_parts}
-use Rattle.doc_items.specs.Limits.{max_count}
-use Rattle.doc_op.proofs.Applying.{no_value, same_Some}
+use Rattle.doc_op.proofs.Applying.{same_Some}
 use Rattle.std.specs.Cmp.Lexicographic.{bytes_decides}
-use Rattle.wave_base.specs.Versions.{VersionAt, same_id}
+use Rattle.wave_base.specs.Versions.{same_id}
 use Rattle.wavelet_codec.specs.Spelling.{delta_bytes, IsDelta}
 use Rattle.wavelet_codec.proofs.Deltas.{alike}
-use Rattle.wavelet_op.specs.Acts.{Act, meanings, inserted, AreNormal, AreStructuredActs}
+use Rattle.wavelet_op.specs.Acts.{meanings, inserted, AreNormal, AreStructuredActs}
 use Rattle.wavelet_op.specs.Deltas.{DeltaOf}
 use Rattle.wavelet_op.specs.States.{State, run, first_invalid}
 use Rattle.wavelet_op.specs.declared.op.WaveletOp.{WaveletOp}
-use Rattle.delta_history.specs.Legal.{max_inserted, max_delta}
-use Rattle.delta_history.specs.Points.{Point, acts_of, version_behind, point_behind, next_point}
+use Rattle.delta_history.specs.Legal.{max_inserted}
+use Rattle.delta_history.specs.Points.{Point, acts_of, point_behind, next_point}
 use Rattle.delta_history.specs.Steps.{IsWithin}
 use Rattle.delta_history.proofs.Points.{and_then_is}
 use Rattle.node_rules.specs.declared.received.Received.TheVariants.{OtherFlight, NotNext, Advanced}
-use Rattle.node_rules.specs.Followers.{Flight, FollowerOf, inserted_all, flying, pending, screen, moved}
+use Rattle.node_rules.specs.Followers.{FollowerOf, inserted_all, flying, pending, screen, moved}
 use Rattle.node_rules.specs.Laws.{IsSound}
-use Rattle.node_rules.specs.Receiving.{Over, over, is_within, no_room, advance_with, advance_within, with_acts, is_own, advance_to, advance, receive_other, receive_own, receive_id, receive_flight}
-use Rattle.node_rules.proofs.Advances.{ops_back, IsBounded, bounded, passing_is, landing_is}
-use Rattle.node_rules.proofs.Sounds.{le_true}
+use Rattle.node_rules.specs.Receiving.{Over, over, is_within, advance_with, advance_within, with_acts, is_own, advance_to, advance, receive_other, receive_own, receive_id, receive_flight}
+use Rattle.node_rules.proofs.Advances.{ops_back, bounded, passing_is, landing_is}
 use Rattle.client_control.specs.declared.flight.InFlight.{InFlight}
 use Rattle.client_control.specs.declared.past.Passed.{Passed}
 use Rattle.client_control.specs.declared.receiving.Meeting.{Meeting}
 use Rattle.client_control.specs.declared.receiving.Meeting.TheVariants.{Other, Own, Clash}
 use Rattle.client_control.specs.declared.step.Step.{Step}
-use Rattle.client_control.specs.Parts.{Parts, parts, flight_of, follower_of, with_ops, IsNormalFlight, IsKept}
+use Rattle.client_control.specs.Parts.{Parts, parts, flight_of, follower_of, with_ops, IsKept}
 use Rattle.client_control.specs.Steps.{IsStep, IsOver, IsComparison, IsMeeting}
 use Rattle.client_control.proofs.Pending.{run_structured}
 use Rattle.std.proofs.lemmas.Bool.Decides.{nat_tests}

@@ -1,6 +1,6 @@
 -- A snapshot's documents have no more items than were inserted.
-use Rattle.std.proofs.Common.{◌≡◌, ℕ, ◌+◌, ◌≤◌, Bool, true, false, cond, ◌&&◌, nat_le, List, [], ◌∷◌, length, Option, None, Some, unwrap_or, refl, sym, ap, subst, ◌∙◌, arith}
-use Rattle.std.specs.FinMap.{get, entries, find, get-entries}
+use Rattle.std.proofs.Common.{◌≡◌, ℕ, ◌+◌, ◌≤◌, Bool, true, false, cond, List, [], ◌∷◌, length, Some, unwrap_or, ap, arith}
+use Rattle.std.specs.FinMap.{entries, find, get-entries}
 use Rattle.std.specs.Ordering.{nat_cmp, eq_by_cmp}
 use Rattle.std.specs.Cmp.Lexicographic.{slice_cmp}
 use Rattle.doc_items.specs.Maps.{Key}

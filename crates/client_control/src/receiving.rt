@@ -74,12 +74,7 @@ impl Follower {
 
     #[tactic(auto, using(crate::proofs::Receipts::compared, crate::proofs::Receipts::met_none, crate::proofs::Receipts::met_other))]
     // What the delta is to the flight. It is the flight's own where both spell alike.
-    fn meet(
-        &self,
-        alloc: Global,
-        delta: &AppliedDelta,
-        spelled: &[u8],
-    ) -> Result<Meeting, Memory>
+    fn meet(&self, alloc: Global, delta: &AppliedDelta, spelled: &[u8]) -> Result<Meeting, Memory>
         requires bytes { spelled.now ≡ delta_bytes delta.now }
         requires is { IsDelta delta.now }
         ensures { IfOk result (λ m. IsMeeting (follower_of self.now) delta.now m) }

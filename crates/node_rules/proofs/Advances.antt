@@ -2,18 +2,17 @@
 --     ops_back              operations in normal form are those of their acts
 --     IsAdvance, advance_is     what the follower becomes
 --     advances
-use Rattle.std.proofs.Common.{◌≡◌, ℕ, ◌+◌, ◌<◌, ◌≤◌, Bool, true, false, ◌&&◌, ◌==◌, nat_le, nat_lt, List, [], ◌∷◌, ◌++◌, length, Option, None, Some, refl, sym, ap, subst, ◌∙◌, arith, option_and_then, true≢false}
+use Rattle.std.proofs.Common.{◌≡◌, ℕ, ◌+◌, ◌≤◌, Bool, true, false, ◌&&◌, nat_le, nat_lt, List, [], ◌∷◌, ◌++◌, length, Option, None, Some, refl, sym, ap, subst, ◌∙◌, arith, option_and_then}
 use Rattle.std.specs.Cmp.Lexicographic.{bytes_decides}
 use Rattle.std.proofs.lemmas.Bool.{and_parts}
 use Rattle.std.proofs.lemmas.Bool.Decides.{nat_tests}
 use Rattle.doc_items.specs.Limits.{max_count}
-use Rattle.doc_op.specs.Actions.{actions}
 use Rattle.doc_op.proofs.Applying.{no_value, same_Some}
 use Rattle.wave_base.specs.Versions.{VersionAt, same_id}
 use Rattle.wave_base.proofs.Same.{same_id-is, same_id-refl}
 use Rattle.wavelet_op.specs.Acts.{Act, meaning, meanings, inserted, IsNormal, AreNormal}
 use Rattle.wavelet_op.specs.Deltas.{DeltaOf}
-use Rattle.wavelet_op.specs.States.{State, run}
+use Rattle.wavelet_op.specs.States.{run}
 use Rattle.wavelet_op.specs.declared.op.WaveletOp.{WaveletOp}
 use Rattle.wavelet_op.specs.declared.op.WaveletOp.TheVariants.{NoOp, Add, Remove, Mutate, SetRole}
 use Rattle.wavelet_op.proofs.Partial.{and_then_some, both}
@@ -21,14 +20,14 @@ use Rattle.wavelet_op.proofs.Passes.{split_first}
 use Rattle.wavelet_codec.specs.Spelling.{delta_bytes}
 use Rattle.delta_history.specs.Legal.{max_inserted, max_delta}
 use Rattle.delta_history.specs.Points.{Point, acts_of, next_point}
-use Rattle.delta_history.specs.Verdicts.{op_of, ops_of, same_hash}
+use Rattle.delta_history.specs.Verdicts.{op_of, ops_of}
 use Rattle.delta_history.proofs.Points.{and_then_is, behind_point}
 use Rattle.node_rules.specs.declared.received.Received.TheVariants.{Advanced}
 use Rattle.node_rules.specs.Followers.{Flight, FollowerOf, run_all, inserted_all, flying, pending, screen, moved}
 use Rattle.node_rules.specs.Receiving.{rebase, Over, over, with_acts, is_own, is_within, Answered, advance_with, advance_within, advance_to, advance, receive_other, receive_own, receive_id, receive_flight, receive_hash, receive_gap, receive_old, receive}
 use Rattle.node_rules.specs.Laws.{IsSmall, IsPlace, IsSound, AreOwn, IsMoved, Advances}
 use Rattle.node_rules.proofs.Room.{small_run}
-use Rattle.node_rules.proofs.Rebases.{IsFlown, IsOver, over_room}
+use Rattle.node_rules.proofs.Rebases.{IsFlown, over_room}
 use Rattle.node_rules.proofs.Sounds.{le_true}
 
 -- ---- operations in normal form

@@ -3,12 +3,12 @@
 --     IsGathered, gathered  what is gathered goes as the entries did
 --     IsSubmitting, submitting_is     what a follower that takes a submission becomes
 --     submit_is_sound
-use Rattle.std.proofs.Common.{◌≡◌, ℕ, suc, ◌+◌, ◌≤◌, Bool, true, false, ◌&&◌, nat_le, List, [], ◌∷◌, ◌++◌, length, Option, None, Some, Result, Ok, Err, refl, sym, ap, subst, ◌∙◌, arith, le_refl, option_and_then}
-use Rattle.std.specs.Option.{option_map, option_map_or}
+use Rattle.std.proofs.Common.{◌≡◌, ◌≤◌, Bool, true, false, ◌&&◌, nat_le, List, [], ◌∷◌, ◌++◌, length, Option, None, Some, Result, Ok, refl, sym, ap, subst, ◌∙◌, arith}
+use Rattle.std.specs.Option.{option_map_or}
 use Rattle.std.specs.Result.{result_ok}
 use Rattle.std.proofs.lemmas.Bool.{and_parts}
 use Rattle.doc_items.specs.Limits.{max_count}
-use Rattle.doc_op.proofs.Applying.{no_value, same_Some, mapped, passed}
+use Rattle.doc_op.proofs.Applying.{same_Some, mapped, passed}
 use Rattle.wavelet_op.specs.Acts.{Act, inserted}
 use Rattle.wavelet_op.specs.Compacts.{bounded_compact}
 use Rattle.wavelet_op.specs.Deltas.{is_count}

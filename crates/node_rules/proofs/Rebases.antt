@@ -2,7 +2,7 @@
 --     run_all_append, inserted_all_append     entries in a row
 --     IsRebased, rebase_room     entries
 --     IsOver, over_room          the flight and the entries behind it
-use Rattle.std.proofs.Common.{◌≡◌, ℕ, ◌+◌, ◌≤◌, List, [], ◌∷◌, ◌++◌, length, Option, None, Some, refl, sym, ap, subst, ◌∙◌, arith, le_refl, option_and_then}
+use Rattle.std.proofs.Common.{◌≡◌, ℕ, ◌+◌, ◌≤◌, List, [], ◌∷◌, ◌++◌, Option, None, Some, refl, sym, ap, subst, ◌∙◌, arith, le_refl, option_and_then}
 use Rattle.std.specs.Option.{option_map}
 use Rattle.doc_items.specs.Limits.{max_count}
 use Rattle.doc_op.proofs.Applying.{no_value, same_Some}
@@ -12,9 +12,9 @@ use Rattle.wavelet_op.specs.States.{State, run}
 use Rattle.wavelet_op.proofs.Partial.{and_then_some, and_then_same, and_then_twice}
 use Rattle.delta_history.proofs.Points.{and_then_is}
 use Rattle.node_rules.specs.Followers.{Flight, run_all, inserted_all, flying}
-use Rattle.node_rules.specs.Receiving.{past, rebase, Over, over_queue, over}
+use Rattle.node_rules.specs.Receiving.{past, rebase, over_queue, over}
 use Rattle.node_rules.specs.Laws.{IsSmall}
-use Rattle.node_rules.proofs.Room.{small_run, IsPast, past_room}
+use Rattle.node_rules.proofs.Room.{small_run, past_room}
 
 pub run_all_append : (s : State) (xs ys : List (List Act)) → run_all s (xs ++ ys) ≡ option_and_then (λ t. run_all t ys) (run_all s xs)
 run_all_append s [] ys = refl

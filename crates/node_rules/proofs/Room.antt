@@ -2,7 +2,7 @@
 --     takes, gives            how many items an operation takes, and gives
 --     small_act, small_run    documents grow by what is inserted
 --     IsPast, past_room       two lists of acts, each past the other
-use Rattle.std.proofs.Common.{◌≡◌, ℕ, suc, ◌+◌, ◌≤◌, Bool, true, false, cond, not, ◌||◌, nat_le, max, List, [], ◌∷◌, length, Option, None, Some, Ok, Err, refl, sym, ap, subst, ◌∙◌, arith, le_refl, option_and_then}
+use Rattle.std.proofs.Common.{◌≡◌, ℕ, suc, ◌+◌, ◌≤◌, Bool, true, false, cond, not, ◌||◌, nat_le, max, List, [], ◌∷◌, length, Option, None, Some, Ok, Err, refl, ap, subst, ◌∙◌, arith, le_refl, option_and_then}
 use Rattle.std.specs.Option.{ok_or}
 use Rattle.std.specs.Result.{result_ok}
 use Rattle.std.proofs.lemmas.Bool.Decides.{nat_tests}
@@ -15,9 +15,9 @@ use Rattle.doc_op.specs.Lengths.{input_len, output_len, inserted_len}
 use Rattle.doc_op.proofs.Applying.{no_value, same_Some, mapped, passed, apply-length}
 use Rattle.op_transform.specs.Results.{together}
 use Rattle.wavelet_op.specs.Acts.{Act, Idle, Adds, Removes, Sets, Mutates, inserted_act, inserted}
-use Rattle.wavelet_op.specs.States.{State, document_of, with_role, with_document, is_structured, mutate, on_role, added, removed, role_set, role_of, apply_act, run}
-use Rattle.wavelet_op.specs.Transform.{Both, Refusal, Clash, TooLarge, act_transform, is_within, exact, bounded}
-use Rattle.wavelet_op.specs.Grids.{and_next, earlier_front, later_front, at_index, pass_one, grid_by, grid, bounded_grid}
+use Rattle.wavelet_op.specs.States.{State, document_of, with_document, is_structured, mutate, on_role, added, removed, role_set, role_of, apply_act, run}
+use Rattle.wavelet_op.specs.Transform.{Both, Clash, TooLarge, act_transform, is_within, exact, bounded}
+use Rattle.wavelet_op.specs.Grids.{and_next, earlier_front, later_front, at_index, pass_one, grid_by, grid}
 use Rattle.wavelet_op.specs.declared.role.Role.{Role}
 use Rattle.wavelet_op.proofs.Grids.{bounded_is_exact}
 use Rattle.wavelet_op.proofs.Maps.{same_text_is, different}

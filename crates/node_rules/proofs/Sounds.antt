@@ -14,11 +14,10 @@ use Rattle.wavelet_op.specs.Acts.{Act, inserted}
 use Rattle.wavelet_op.specs.States.{State, empty_state, document_of, run}
 use Rattle.wavelet_op.proofs.Partial.{and_then_same}
 use Rattle.delta_history.specs.Legal.{max_inserted}
-use Rattle.delta_history.specs.Points.{Point}
 use Rattle.delta_history.proofs.Points.{and_then_is}
 use Rattle.node_rules.specs.Followers.{Flight, FollowerOf, run_all, inserted_all, flying, pending, screen, dropped, refuse_if, refuse_flight, take_newer, take_settled}
 use Rattle.node_rules.specs.Submitting.{is_short, queued, edit_short, edit_held, edit_run, edit_shown, edit}
-use Rattle.node_rules.specs.Laws.{IsSmall, IsPlace, IsSound, NewIsSound, EditIsSound, RefusalIsSound, SnapshotIsSound}
+use Rattle.node_rules.specs.Laws.{IsSmall, IsSound, NewIsSound, EditIsSound, RefusalIsSound, SnapshotIsSound}
 use Rattle.node_rules.proofs.Rebases.{run_all_append, inserted_all_append}
 
 pub same_ok : {A E : Type 0} {x y : A} → ◌≡◌ {A = Result A E} (Ok x) (Ok y) → x ≡ y

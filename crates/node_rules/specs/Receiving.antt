@@ -10,7 +10,7 @@
 --                             higher one, at this one with another hash; it has the flight's id and other operations; its operations
 --                             aren't valid there; a bound is broken; else the follower advances. With the flight's id and operations
 --                             the flight has landed, and what waits stays; another's delta passes what is pending
-use Rattle.std.specs.Prelude.{ℕ, Bool, true, false, ◌&&◌, ◌==◌, nat_le, nat_lt, List, [], ◌∷◌, length, Option, Some, None, option_and_then}
+use Rattle.std.specs.Prelude.{Bool, true, false, ◌&&◌, ◌==◌, nat_le, nat_lt, List, [], ◌∷◌, length, Option, Some, None, option_and_then}
 use Rattle.std.specs.Cmp.Lexicographic.{pointwise}
 use Rattle.std.specs.Option.{option_map}
 use Rattle.std.specs.Result.{result_ok}

@@ -7,7 +7,7 @@
 --     without i ss            the submissions of other ids
 --     queue r s               the submission waits, unless one of its id does or is in the history
 --     settle r i              none of this id waits
-use Rattle.std.specs.Prelude.{ℕ, Bool, true, false, cond, not, ◌&&◌, ◌||◌, List, [], ◌∷◌, ◌++◌, length, Option, Some, None, option_and_then}
+use Rattle.std.specs.Prelude.{Bool, false, cond, not, ◌&&◌, ◌||◌, List, [], ◌∷◌, ◌++◌, length, Option, Some, None, option_and_then}
 use Rattle.wave_base.specs.Versions.{IdOf, same_id, same_version}
 use Rattle.doc_items.specs.Maps.{Key}
 use Rattle.wavelet_op.specs.Deltas.{DeltaOf, is_count}

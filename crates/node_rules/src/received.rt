@@ -18,10 +18,15 @@ pub enum Received {
         theirs: HashedVersion,
     },
     /// The delta has the id of the submission in flight, which the follower has as `mine`, and other operations.
-    OtherFlight { mine: Ops, theirs: Ops },
+    OtherFlight {
+        mine: Ops,
+        theirs: Ops,
+    },
     /// The operation of this index isn't valid where the ones before it lead. With the number of operations as its index: they are
     /// valid, and behind them the count of inserted items, the version or the delta's bytes are above their bound.
-    NotNext { index: u32 },
+    NotNext {
+        index: u32,
+    },
     /// The follower is behind the delta.
     Advanced,
 }

@@ -1,4 +1,4 @@
-use Rattle.std.proofs.Common.{◌≡◌, subst, ap, ◌∙◌, ◌++◌}
+use Rattle.std.proofs.Common.{subst, ap, ◌∙◌, ◌++◌}
 use Rattle.client_control.specs.Joins.{IsCompacted}
 use Rattle.client_control.proofs.Joinings.{join_done}
 use Rattle.client_control.proofs.joining.join_some.Goals as goal

@@ -1,4 +1,4 @@
-use Rattle.std.proofs.Common.{◌≡◌, sym, ap, ◌∙◌}
+use Rattle.std.proofs.Common.{sym, ◌∙◌}
 use Rattle.client_control.specs.Parts.{Parts, parts}
 use Rattle.client_control.proofs.Kept.{copied_kept}
 use Rattle.client_control.proofs.follower.Follower.copy.Goals as goal

@@ -1,4 +1,4 @@
-use Rattle.std.proofs.Common.{◌≡◌, Option, None, cond, sym, ap, ◌∙◌}
+use Rattle.std.proofs.Common.{Option, None, cond, sym, ap, ◌∙◌}
 use Rattle.wavelet_op.specs.States.{State}
 use Rattle.node_rules.specs.Followers.{pending}
 use Rattle.client_control.specs.Parts.{Parts, parts, follower_of, settled}

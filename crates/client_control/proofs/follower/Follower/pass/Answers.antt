@@ -1,4 +1,4 @@
-use Rattle.std.proofs.Common.{List, sym, subst, ap}
+use Rattle.std.proofs.Common.{List, sym, subst}
 use Rattle.wavelet_op.specs.Acts.{AreStructuredActs}
 use Rattle.wavelet_op.specs.Deltas.{DeltaOf}
 use Rattle.wavelet_op.specs.declared.op.WaveletOp.{WaveletOp}

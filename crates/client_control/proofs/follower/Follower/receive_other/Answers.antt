@@ -1,4 +1,4 @@
-use Rattle.std.proofs.Common.{◌≡◌, List, Option, sym, subst, ap, ◌∙◌, ◌++◌, ◌≤◌, map}
+use Rattle.std.proofs.Common.{List, Option, sym, subst, ap, ◌∙◌, ◌++◌, ◌≤◌, map}
 use Rattle.std.specs.Option.{option_to_list}
 use Rattle.wavelet_op.specs.Acts.{meanings}
 use Rattle.wavelet_op.specs.Deltas.{DeltaOf}

@@ -1,5 +1,5 @@
-use Rattle.std.proofs.Common.{◌≡◌, ◌-◌, sym, subst, ap, ◌∙◌}
-use Rattle.wavelet_op.specs.Acts.{inserted, meanings}
+use Rattle.std.proofs.Common.{◌-◌, sym, subst, ap, ◌∙◌}
+use Rattle.wavelet_op.specs.Acts.{inserted}
 use Rattle.wavelet_op.specs.Deltas.{DeltaOf}
 use Rattle.wavelet_op.specs.States.{run}
 use Rattle.delta_history.specs.Points.{acts_of}

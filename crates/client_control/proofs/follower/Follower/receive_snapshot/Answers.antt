@@ -1,4 +1,4 @@
-use Rattle.std.proofs.Common.{◌≡◌, ◌≤◌, sym, subst, ap, ◌∙◌}
+use Rattle.std.proofs.Common.{◌≤◌, sym, subst, ap, ◌∙◌}
 use Rattle.wavelet_op.specs.States.{State}
 use Rattle.wavelet_state.specs.Parts.{item_count}
 use Rattle.node_rules.specs.Followers.{pending}

@@ -1,4 +1,4 @@
-use Rattle.std.proofs.Common.{◌≡◌, sym, ap, ◌∙◌}
+use Rattle.std.proofs.Common.{sym, ap, ◌∙◌}
 use Rattle.wavelet_op.specs.Acts.{meanings}
 use Rattle.node_rules.specs.Submitting.{sent_by}
 use Rattle.client_control.specs.Parts.{Parts, parts, follower_of}
