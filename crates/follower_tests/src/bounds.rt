@@ -69,13 +69,21 @@ fn at(version: u64) -> HashedVersion {
 fn moved(rt: &impl Abort, alloc: Global, version: u64, inserted: u64) -> Result<Follower, Fail> {
     let mut follower = follower(alloc)?;
     let state = WaveletState::new(alloc);
-    let snapshot = Snapshot::new(wavelet(alloc)?, at(version), inserted, state).expect(rt, "few items");
+    let snapshot = Snapshot::new(wavelet(alloc)?, at(version), inserted, state).expect(
+        rt,
+        "few items",
+    );
     assert!(rt; follower.receive_snapshot(snapshot) == Taken::Took);
     Ok(follower)
 }
 
 // The answer to a delta of these operations.
-fn receives(rt: &impl Abort, alloc: Global, follower: &mut Follower, words: &str) -> Result<Received, Fail> {
+fn receives(
+    rt: &impl Abort,
+    alloc: Global,
+    follower: &mut Follower,
+    words: &str,
+) -> Result<Received, Fail> {
     let id = DeltaId {
         author: Address::parse(alloc, "bob@a.com")?,
         client: 1,

@@ -51,12 +51,7 @@ fn text(alloc: Global, words: &str) -> Result<String, Fail> {
     Ok(out)
 }
 
-fn delta(
-    alloc: Global,
-    id: DeltaId,
-    from: HashedVersion,
-    ops: &Ops,
-) -> Result<AppliedDelta, Fail> {
+fn delta(alloc: Global, id: DeltaId, from: HashedVersion, ops: &Ops) -> Result<AppliedDelta, Fail> {
     let ops = ops.normal(alloc)?;
     Ok(AppliedDelta {
         id,
@@ -119,7 +114,12 @@ impl Scene {
     fn take(&mut self, alloc: Global) -> Result<String, Fail> {
         match self.follower.take_submission(alloc) {
             Ok(Some(sent)) => {
-                let words = format!(in alloc; "{} at {} with {}", sent.id.number, sent.at.version, sent.ops.len())?;
+                let words = format!(in alloc;
+                    "{} at {} with {}",
+                    sent.id.number,
+                    sent.at.version,
+                    sent.ops.len()
+                )?;
                 Ok(words)
             }
             Ok(None) => text(alloc, "none"),
@@ -146,7 +146,13 @@ impl Scene {
     }
 
     // A delta of this number, at the follower's version, that isn't of the history is given to the follower.
-    fn forge(&mut self, alloc: Global, author: &str, number: u64, ops: &Ops) -> Result<String, Fail> {
+    fn forge(
+        &mut self,
+        alloc: Global,
+        author: &str,
+        number: u64,
+        ops: &Ops,
+    ) -> Result<String, Fail> {
         let id = DeltaId {
             author: Address::parse(alloc, author)?,
             client: 5,
@@ -210,8 +216,33 @@ impl Scene {
         } else {
             "pending"
         };
-        let words = format!(in alloc; "{} {} {}", self.follower.at().version, settled, shown.as_str())?;
+        let words = format!(in alloc;
+            "{} {} {}",
+            self.follower.at().version,
+            settled,
+            shown.as_str()
+        )?;
         Ok(words)
+    }
+
+    // What is lent of the screen.
+    fn lent(&self, alloc: Global) -> Result<String, Fail> {
+        match self.follower.shown() {
+            Some(screen) => show(alloc, screen),
+            None => text(alloc, "not kept"),
+        }
+    }
+
+    // The screen is kept.
+    fn keep(&mut self, alloc: Global) -> Result<String, Fail> {
+        self.follower.keep_screen(alloc)?;
+        self.lent(alloc)
+    }
+
+    // A copy goes on in the follower's place.
+    fn copy(&mut self, alloc: Global) -> Result<String, Fail> {
+        self.follower = self.follower.copy(alloc)?;
+        self.lent(alloc)
     }
 
     /// What a command gives.
@@ -232,6 +263,9 @@ impl Scene {
                 text(alloc, "dropped")
             }
             "snapshot" => self.snapshot(rt, alloc),
+            "lent" => self.lent(alloc),
+            "keep" => self.keep(alloc),
+            "copy" => self.copy(alloc),
             _ => self.screen(alloc),
         }
     }

@@ -99,12 +99,21 @@ fn entries_are_joined(rt: HostRuntime) -> Result<(), Fail> {
         ("edit noop; b+2: 1", "OpInvalid"),
         ("edit b+2: +x; b+1: 1 +c", "queued"),
         ("edit b+1: 2 +d; b+1: 3 +e", "queued"),
-        ("screen", "2 pending al@a.com; bob@a.com; b+1: acde; b+2: x; "),
+        (
+            "screen",
+            "2 pending al@a.com; bob@a.com; b+1: acde; b+2: x; ",
+        ),
         ("take", "1 at 2 with 3"),
-        ("screen", "2 pending al@a.com; bob@a.com; b+1: acde; b+2: x; "),
+        (
+            "screen",
+            "2 pending al@a.com; bob@a.com; b+1: acde; b+2: x; ",
+        ),
         ("accept", "accepted"),
         ("give 2", "Advanced"),
-        ("screen", "5 settled al@a.com; bob@a.com; b+1: acde; b+2: x; "),
+        (
+            "screen",
+            "5 settled al@a.com; bob@a.com; b+1: acde; b+2: x; ",
+        ),
     ];
     plays(&rt, rt.alloc(), &rows)
 }
@@ -142,6 +151,27 @@ fn a_removed_author(rt: HostRuntime) -> Result<(), Fail> {
         ("host remove al@a.com", "grown"),
         ("refuse 1", "dropped"),
         ("screen", "3 settled al@a.com; bob@a.com; b+1: ab; "),
+    ];
+    plays(&rt, rt.alloc(), &rows)
+}
+
+// The screen as it is lent: kept through edits and deltas, and made anew for a copy.
+#[test]
+fn lent_screens(rt: HostRuntime) -> Result<(), Fail> {
+    let rows = [
+        ("lent", ""),
+        ("host add bob@a.com; add al@a.com", "grown"),
+        ("give 0", "Advanced"),
+        ("lent", "al@a.com; bob@a.com; "),
+        ("edit b+1: +x", "queued"),
+        ("lent", "al@a.com; bob@a.com; b+1: x; "),
+        ("host b+1: +y", "grown"),
+        ("give 2", "Advanced"),
+        ("lent", "al@a.com; bob@a.com; b+1: xy; "),
+        ("copy", "not kept"),
+        ("keep", "al@a.com; bob@a.com; b+1: xy; "),
+        ("drop", "dropped"),
+        ("lent", "al@a.com; bob@a.com; b+1: y; "),
     ];
     plays(&rt, rt.alloc(), &rows)
 }

@@ -3,37 +3,32 @@
 --     place_at              a point of a legal history has no more items than were inserted
 --     starts_follower .. receive_follower     a start, an edit, a drop, an answer, a snapshot, a submission, a delta
 --     other_follower, grow_follower     another's submission is pooled; the host's history grows
-use Rattle.std.proofs.Common.{◌≡◌, ◌⊎◌, inl, inr, ℕ, suc, ◌+◌, ◌<◌, ◌≤◌, Bool, true, false, cond, ◌&&◌, ◌==◌, nat_le, nat_lt, List, [], ◌∷◌, ◌++◌, length, Option, Some, None, Ok, refl, sym, ap, subst, ◌∙◌, arith, append_assoc, option_and_then}
+use Rattle.std.proofs.Common.{◌≡◌, inl, inr, ℕ, suc, ◌<◌, ◌≤◌, Bool, true, false, cond, ◌==◌, nat_le, nat_lt, List, [], ◌∷◌, ◌++◌, Option, Some, None, Ok, refl, sym, ap, subst, ◌∙◌, arith, append_assoc}
 use Rattle.std.specs.Cmp.Lexicographic.{bytes_decides}
 use Rattle.std.proofs.lemmas.Bool.{and_parts, and_from}
 use Rattle.std.proofs.lemmas.Bool.Decides.{nat_tests, Decides-eqb}
-use Rattle.doc_items.specs.Limits.{max_count}
 use Rattle.doc_items.specs.Maps.{Key, same_text}
 use Rattle.doc_op.proofs.Applying.{no_value, same_Some}
 use Rattle.wave_base.specs.Versions.{IdOf, VersionAt, same_id}
 use Rattle.wave_base.proofs.Same.{same_id-is, same_id-refl}
 use Rattle.wavelet_op.specs.Acts.{Act, meanings}
-use Rattle.wavelet_op.specs.Deltas.{DeltaOf, is_count}
+use Rattle.wavelet_op.specs.Deltas.{DeltaOf}
 use Rattle.wavelet_op.specs.States.{State, run}
 use Rattle.wavelet_op.specs.declared.delta.Submission.{Submission}
-use Rattle.wavelet_op.specs.declared.verdict.Verdict.{Verdict}
 use Rattle.wavelet_op.proofs.Partial.{and_then_some, both}
-use Rattle.wavelet_codec.specs.Spelling.{delta_bytes}
 use Rattle.delta_history.specs.Laws.{IsSpelled}
-use Rattle.delta_history.specs.Legal.{max_inserted, max_delta, IsNext, IsLegalFrom, IsLegal}
+use Rattle.delta_history.specs.Legal.{IsNext, IsLegalFrom, IsLegal}
 use Rattle.delta_history.specs.Passing.{IsPassed}
 use Rattle.delta_history.specs.Points.{Point, start, acts_of, next_point, replay, IsAt}
-use Rattle.delta_history.specs.Verdicts.{ops_of}
-use Rattle.delta_history.proofs.Chains.{legal_front, legal_behind, starts_at, goes_from}
+use Rattle.delta_history.proofs.Chains.{legal_front, starts_at, goes_from}
 use Rattle.delta_history.proofs.Points.{and_then_is, replay_append, replay_more, rises}
 use Rattle.delta_history.proofs.Versions.{pass_is}
-use Rattle.node_rules.specs.Followers.{ClientOf, client_of, same_client, Flight, FollowerOf, new_follower, run_all, inserted_all, flying, pending, screen, moved, dropped, refuse_if, refuse_flight, refuse, take_newer, take_settled, take_snapshot}
+use Rattle.node_rules.specs.Followers.{ClientOf, client_of, same_client, Flight, FollowerOf, new_follower, run_all, flying, pending, dropped, refuse_if, refuse_flight, refuse, take_newer, take_settled, take_snapshot}
 use Rattle.node_rules.specs.Laws.{IsPlace, IsSound, AreOwn}
 use Rattle.node_rules.specs.Receiving.{is_within, receive_gap, receive_old, receive}
 use Rattle.node_rules.specs.Submitting.{queued, edit, sent_by, submitting}
 use Rattle.node_rules.proofs.Advances.{IsAdvance, advance_is, place_behind}
 use Rattle.node_rules.proofs.Gathers.{IsGathered, gathered, IsSubmitting, submitting_is_sound}
-use Rattle.node_rules.proofs.Rebases.{IsFlown}
 use Rattle.node_rules.proofs.Sounds.{new_is_sound, edit_is_sound, edited_is, dropped_is_sound}
 use Rattle.wave_world.specs.Texts.{AreTextActs, AreTextEntries}
 use Rattle.wave_world.specs.Worlds.{Mem, Answer, is_refusal, take_answer}

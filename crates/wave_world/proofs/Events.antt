@@ -1,7 +1,7 @@
 -- Every event keeps the world as it should be.
 --     IsGood name w         what the induction carries
 --     happens_good, all_good, good      one event, many, and all from the first world on
-use Rattle.std.proofs.Common.{◌≡◌, ◌⊎◌, inl, inr, ℕ, Bool, true, false, cond, not, ◌&&◌, ◌||◌, List, [], ◌∷◌, ◌++◌, length, Option, Some, None, slice_get, is_none, refl, sym, ap, subst, ◌∙◌, append_assoc, append-nil, true≢false, option_and_then}
+use Rattle.std.proofs.Common.{◌≡◌, ◌⊎◌, inl, inr, ℕ, Bool, true, false, cond, not, ◌&&◌, ◌||◌, List, [], ◌∷◌, ◌++◌, length, Option, Some, None, slice_get, is_none, refl, sym, ap, subst, ◌∙◌, append_assoc, append-nil, true≢false}
 use Rattle.std.specs.Option.{option_map}
 use Rattle.std.proofs.lemmas.List.{length-map}
 use Rattle.std.specs.Result.{result_ok}
@@ -11,7 +11,7 @@ use Rattle.doc_items.proofs.Maps.{or_false}
 use Rattle.doc_op.proofs.Applying.{no_value, same_Some, mapped, passed}
 use Rattle.wave_base.specs.Versions.{IdOf, VersionAt, same_version}
 use Rattle.wave_base.proofs.Same.{same_version-is}
-use Rattle.wavelet_op.specs.Acts.{Act, meanings}
+use Rattle.wavelet_op.specs.Acts.{meanings}
 use Rattle.wavelet_op.specs.Deltas.{DeltaOf, is_count}
 use Rattle.wavelet_op.specs.declared.delta.Submission.{Submission}
 use Rattle.wavelet_op.specs.declared.verdict.Verdict.{Verdict}
@@ -19,8 +19,8 @@ use Rattle.wavelet_op.specs.declared.verdict.Verdict.TheVariants.{Ack, NotPartic
 use Rattle.wavelet_op.proofs.Partial.{and_then_some, both, ok_some}
 use Rattle.delta_history.specs.declared.kept.Kept.{Kept}
 use Rattle.delta_history.specs.Laws.{IsKept, EndsSpelled, IsAdded, IsJudged}
-use Rattle.delta_history.specs.Legal.{has_id, IsNext, IsLegalFrom, IsLegal}
-use Rattle.delta_history.specs.Passing.{all_acts, IsPassed}
+use Rattle.delta_history.specs.Legal.{has_id, IsLegalFrom, IsLegal}
+use Rattle.delta_history.specs.Passing.{all_acts}
 use Rattle.delta_history.specs.Points.{Point, start, acts_of, next_point, replay, IsAt}
 use Rattle.delta_history.specs.Verdicts.{kept, op_of, judge}
 use Rattle.delta_history.proofs.Chains.{legal_more, legal_front}
@@ -30,11 +30,11 @@ use Rattle.delta_history.proofs.Points.{replay_more}
 use Rattle.delta_history.proofs.Versions.{cut_is}
 use Rattle.node_rules.specs.Followers.{ClientOf, client_of, same_client, FollowerOf, new_follower, run_all, flying, pending, dropped, take_snapshot}
 use Rattle.node_rules.specs.Receiving.{receive}
-use Rattle.node_rules.specs.Replicas.{ReplicaOf, empty_replica, is_waiting, without, may_follow, grown as grown_replica, absorb_to, absorb_at, absorb, queue, settle}
+use Rattle.node_rules.specs.Replicas.{ReplicaOf, empty_replica, is_waiting, may_follow, grown as grown_replica, absorb_to, absorb_at, absorb, queue, settle}
 use Rattle.node_rules.specs.Submitting.{edit, sent_by, submit}
 use Rattle.node_rules.proofs.Gathers.{IsSubmitting, Submits, nothing, something, submitting_is, gathered}
 use Rattle.wave_world.specs.Texts.{AreTextActs, AreTextEntries}
-use Rattle.wave_world.specs.Worlds.{Mem, IsBegin, Answer, World, first_world, Event, Starts, Edits, Submits as Submitted, TakesDelta, TakesRefusal, TakesSnapshot, Drops, Pools, HostTakes, HostSnapshot, HostRestarts, Queues, Absorbs, Notes, NotesDrop, Restarts, ReplicaSnapshot, ReplicaAcks, Cuts, Opens, with_follower, set_follower, to_follower, set_replica, to_replica, has_client, pool, submitted, take_answer, grown, host_answers, host_takes, shown, acked, happens, world_after, world_of}
+use Rattle.wave_world.specs.Worlds.{Mem, IsBegin, Answer, World, first_world, Event, Starts, Edits, Submits as Submitted, TakesDelta, TakesRefusal, TakesSnapshot, Drops, Pools, HostTakes, HostSnapshot, HostRestarts, Queues, Absorbs, Notes, NotesDrop, Restarts, ReplicaSnapshot, ReplicaAcks, Cuts, Opens, with_follower, set_follower, to_follower, set_replica, to_replica, has_client, pool, submitted, take_answer, host_answers, host_takes, shown, acked, happens, world_after, world_of}
 use Rattle.wave_world.proofs.Members.{not_true, mem_left, mem_right, mem_get, mem_more, mem_last, begin_more}
 use Rattle.wave_world.proofs.Passages.{text_spelled, pass_text, gather_text}
 use Rattle.wave_world.proofs.Places.{find_at, at_more, IsAnswer, IsFrom, passed_more, kept_more}

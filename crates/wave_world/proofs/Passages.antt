@@ -2,32 +2,30 @@
 --     text_spelled          such acts have operations, of which they are the acts
 --     grid_text, pass_text  acts past others, and through deltas
 --     fitting_text, gather_text, rebase_text, over_text     what a follower makes of its entries
-use Rattle.std.proofs.Common.{◌≡◌, ℕ, suc, Bool, true, false, cond, List, [], ◌∷◌, ◌++◌, Option, None, Some, Result, Ok, Err, refl, sym, ap, subst, ◌∙◌, option_and_then}
+use Rattle.std.proofs.Common.{◌≡◌, ℕ, suc, Bool, true, false, cond, List, [], ◌∷◌, ◌++◌, Option, None, Some, Result, Ok, Err, refl, sym, ap, subst, ◌∙◌}
 use Rattle.std.specs.Option.{option_map, option_map_or, ok_or}
 use Rattle.std.specs.Result.{result_ok}
 use Rattle.std.proofs.lemmas.List.Elements.{All-cons, All-nil}
 use Rattle.doc_items.specs.Maps.{Key, same_text}
 use Rattle.doc_op.specs.Actions.{Action}
-use Rattle.doc_op.specs.Normal.{normal_form}
-use Rattle.doc_op.proofs.Applying.{no_value, same_Some, mapped, passed}
+use Rattle.doc_op.proofs.Applying.{no_value, same_Some, mapped}
 use Rattle.doc_op.proofs.NormalForm.{same_actions, same_again}
 use Rattle.op_compose.specs.Compose.{compose}
 use Rattle.op_transform.specs.Transform.{transform}
-use Rattle.wavelet_op.specs.Acts.{Act, Idle, Adds, Removes, Sets, Mutates, meanings, IsNormal, AreNormal}
+use Rattle.wavelet_op.specs.Acts.{Act, Idle, Adds, Removes, Sets, Mutates, meanings, IsNormal}
 use Rattle.wavelet_op.specs.Compacts.{Unfit, mutation, join, act_front, go_on, compact_by, compact}
-use Rattle.wavelet_op.specs.Grids.{Lists, and_next, earlier_front, later_front, at_index, pass_one, grid_by, grid, pass}
-use Rattle.wavelet_op.specs.Transform.{Both, Refusal, Clash, role_transform, role_key, by_role, mutations, act_transform, exact}
+use Rattle.wavelet_op.specs.Grids.{Lists, earlier_front, later_front, at_index, pass_one, grid_by, grid, pass}
+use Rattle.wavelet_op.specs.Transform.{Both, Refusal, Clash, mutations, act_transform, exact}
 use Rattle.wavelet_op.specs.declared.role.Role.{Role}
 use Rattle.wavelet_op.proofs.Compacts.{bounded_compact_is_exact}
 use Rattle.wavelet_op.proofs.Grids.{bounded_is_exact}
 use Rattle.wavelet_op.proofs.Partial.{and_then_some, next_ok, ok_some}
 use Rattle.delta_history.specs.Laws.{IsSpelled}
 use Rattle.delta_history.specs.Verdicts.{op_of, ops_of}
-use Rattle.node_rules.specs.Followers.{Flight, flying}
 use Rattle.node_rules.specs.Receiving.{past, rebase}
 use Rattle.node_rules.specs.Submitting.{fitting, Gathered, gather_on, gather}
 use Rattle.node_rules.proofs.Gathers.{fitting_is}
-use Rattle.wave_world.specs.Texts.{AreText, IsTextAct, AreTextActs, AreTextEntries}
+use Rattle.wave_world.specs.Texts.{IsTextAct, AreTextActs, AreTextEntries}
 use Rattle.wave_world.proofs.Texts.{text_writable, transform_text, compose_text}
 
 -- ---- operations of acts

@@ -3,8 +3,7 @@
 --     IsHere, find_at, find_here    a delta that starts at the version of a point comes next there
 --     next_at, at_more, passed_more, kept_more    points, passes and what is kept, as the history grows
 --     IsAnswer, IsBased, IsFrom, IsFlying     messages, submissions, deltas and flights that agree with the history
-use Rattle.std.proofs.Common.{◌≡◌, ◌⊎◌, inl, inr, ℕ, ◌+◌, ◌<◌, ◌≤◌, true, List, [], ◌∷◌, ◌++◌, length, Some, refl, sym, ap, subst, ◌∙◌, arith, append_assoc, append-nil}
-use Rattle.doc_op.proofs.Applying.{same_Some}
+use Rattle.std.proofs.Common.{◌≡◌, ◌⊎◌, inl, inr, ℕ, ◌<◌, ◌≤◌, List, [], ◌∷◌, ◌++◌, Some, refl, sym, ap, subst, ◌∙◌, arith, append_assoc}
 use Rattle.doc_items.specs.Maps.{Key}
 use Rattle.wave_base.specs.Versions.{IdOf, VersionAt}
 use Rattle.wavelet_op.specs.Acts.{Act, meanings}
@@ -23,7 +22,7 @@ use Rattle.delta_history.specs.Points.{Point, start, acts_of, version_behind, ne
 use Rattle.delta_history.proofs.Chains.{legal_front, legal_behind, starts_at, goes_from, some_ops, at_longer}
 use Rattle.delta_history.proofs.Points.{and_then_is, behind_point, replay_append, replay_more, rises}
 use Rattle.node_rules.specs.Followers.{ClientOf, client_of, Flight}
-use Rattle.wave_world.specs.Worlds.{Mem, IsBegin, Answer}
+use Rattle.wave_world.specs.Worlds.{Mem, Answer}
 use Rattle.wave_world.proofs.Members.{mem_split, whole_more}
 
 -- ---- deltas and points

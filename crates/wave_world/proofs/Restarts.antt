@@ -1,14 +1,8 @@
 -- A host that goes on with what it stored.
-use Rattle.std.proofs.Common.{◌≡◌, inl, ℕ, List, [], ◌∷◌, ◌++◌, Option, Some, None, slice_get, refl, sym, ap, subst, ◌∙◌}
-use Rattle.doc_items.specs.Maps.{Key}
-use Rattle.wave_base.specs.Versions.{VersionAt}
-use Rattle.wavelet_op.specs.Deltas.{DeltaOf}
-use Rattle.wavelet_op.specs.declared.delta.Submission.{Submission}
-use Rattle.wavelet_op.specs.declared.verdict.Verdict.{Verdict}
+use Rattle.std.proofs.Common.{◌≡◌, inl, [], ◌∷◌, ◌++◌, Some, refl, sym, ap, subst, ◌∙◌}
 use Rattle.delta_history.specs.Legal.{IsLegal}
-use Rattle.delta_history.specs.Verdicts.{Judged, judge}
-use Rattle.wave_world.specs.Worlds.{Mem, World, first_world, Event, HostTakes, grown, host_answers, host_takes, happens, world_of}
-use Rattle.wave_world.specs.Converged.{IsConverged, GoesOnAlike, IsOneEvent, AcceptedIsOneEvent}
+use Rattle.wave_world.specs.Worlds.{World, first_world, Event, HostTakes, host_answers, host_takes, happens, world_of}
+use Rattle.wave_world.specs.Converged.{IsConverged, GoesOnAlike, AcceptedIsOneEvent}
 use Rattle.wave_world.proofs.Members.{get_mem, mem_right}
 use Rattle.wave_world.proofs.Events.{IsGood, good, happens_good}
 use Rattle.wave_world.proofs.Growth.{two_runs}

@@ -1,9 +1,9 @@
 -- A delta of the host that starts where a node stands is taken there.
-use Rattle.std.proofs.Common.{◌≡◌, ℕ, Bool, true, false, cond, not, ◌&&◌, List, [], ◌∷◌, ◌++◌, Option, Some, None, refl, sym, ap, subst, ◌∙◌, option_and_then}
+use Rattle.std.proofs.Common.{◌≡◌, true, cond, not, List, [], ◌∷◌, Some, None, sym, ap, subst, ◌∙◌}
 use Rattle.std.proofs.lemmas.Bool.{and_from}
 use Rattle.doc_items.specs.Maps.{Key}
 use Rattle.doc_op.proofs.Applying.{same_Some}
-use Rattle.wave_base.specs.Versions.{VersionAt, same_version}
+use Rattle.wave_base.specs.Versions.{same_version}
 use Rattle.wave_base.proofs.Same.{same_version-refl}
 use Rattle.wavelet_op.specs.Deltas.{DeltaOf}
 use Rattle.delta_history.specs.Legal.{standing, may_write, IsNext, IsLegalFrom, IsLegal}

@@ -10,13 +10,13 @@ use Rattle.std.specs.Str.{is_utf8}
 use Rattle.std.proofs.lemmas.Bool.{and_parts, and_from}
 use Rattle.doc_items.specs.Balance.{level}
 use Rattle.doc_items.specs.Changes.{KeyChange, ChangeSet, turned, set_new, put, back, none_running}
-use Rattle.doc_items.specs.Maps.{Key, Map, each, merge}
+use Rattle.doc_items.specs.Maps.{Key, Map}
 use Rattle.doc_items.specs.declared.item.Item.{Item}
 use Rattle.doc_items.proofs.Maps.{get-merge, get-each, alike}
 use Rattle.change_view.specs.declared.rule.Rule.TheVariants.{Then}
 use Rattle.change_view.specs.Rules.{one_over, one_under, one_then, combined}
-use Rattle.change_view.specs.Sets.{fresh, from_absent, one_from, start_at}
-use Rattle.change_view.specs.Texts.{is_text_value, is_text_change, is_text_at, AreTexts}
+use Rattle.change_view.specs.Sets.{fresh, one_from, start_at}
+use Rattle.change_view.specs.Texts.{is_text_value, is_text_at, AreTexts}
 use Rattle.change_view.proofs.Sets.{texts_joined, texts_back}
 use Rattle.doc_op.specs.Actions.{AttributeChange, Unchanged, Update, Replace, Names, Action, Keep, Ins, Del}
 use Rattle.doc_op.specs.Apply.{put_attributes, put_content, keeps, kept, fits, names_of}
@@ -28,7 +28,7 @@ use Rattle.op_transform.specs.Crossing.{cross, over, under, is_empty, update_if_
 use Rattle.op_transform.specs.Transform.{Both, Outcome, front, later_inserts, earlier_inserts, transform_from, transform}
 use Rattle.op_transform.proofs.Keys.{not_empty}
 use Rattle.op_transform.proofs.Outcomes.{no_ok, same_Ok, fronted, passed_ok}
-use Rattle.wave_world.specs.Texts.{AreTextsIn, IsTextChange, IsText, AreText}
+use Rattle.wave_world.specs.Texts.{AreTextsIn, IsTextChange, AreText}
 
 -- ---- the spelling
 
@@ -252,9 +252,9 @@ text_from k b (Del c n ∷ ls) d (Ins y ∷ es) t s = earlier_row b y _ s.0 (tex
 text_from k b (Keep u a ∷ ls) d (Keep w o ∷ es) t s =
     behind_test k (cross u w && attributes_cross a o) _
     (behind_front (Keep (over u w) (attributes_over a o) ∷ []) (Keep (under w u) (attributes_under o a) ∷ []) (transform_from (suc k) b ls d es)
-      ((texts_over u w (t.0).0 (s.0).0, change_over a o (t.0).1 (s.0).1), tt)
-      ((texts_under w u (s.0).0, change_under o a (s.0).1 (t.0).1), tt)
-      (text_from (suc k) b ls d es t.1 s.1))
+    ((texts_over u w (t.0).0 (s.0).0, change_over a o (t.0).1 (s.0).1), tt)
+    ((texts_under w u (s.0).0, change_under o a (s.0).1 (t.0).1), tt)
+    (text_from (suc k) b ls d es t.1 s.1))
 text_from k b (Keep u a ∷ ls) d (Del c n ∷ es) t s =
     behind_test k (can_follow c n u a) _
     (behind_front [] (Del (put_content a c) (names_after n u) ∷ []) (transform_from (suc k) b ls (level c d) es) tt (texts_after n u s.0 (t.0).0, tt) (text_from (suc k) b ls (level c d) es t.1 s.1))

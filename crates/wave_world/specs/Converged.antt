@@ -33,7 +33,7 @@ use Rattle.node_rules.specs.Followers.{ClientOf, client_of, Flight, FollowerOf, 
 use Rattle.node_rules.specs.Laws.{IsMoved}
 use Rattle.node_rules.specs.Receiving.{receive}
 use Rattle.node_rules.specs.Replicas.{ReplicaOf, absorb}
-use Rattle.wave_world.specs.Worlds.{Mem, IsBegin, Answer, World, Event, HostTakes, HostRestarts, pooled, happens, world_of}
+use Rattle.wave_world.specs.Worlds.{Mem, IsBegin, Answer, World, Event, HostRestarts, happens, world_of}
 
 -- ---- one message
 

@@ -8,7 +8,7 @@
 --     has_client k ss         a pooled submission is of the client
 --     happens name w e        the world behind an event
 --     world_after name es w   the world behind events
-use Rattle.std.specs.Prelude.{◌≡◌, ◌⊎◌, ℕ, Bool, true, false, cond, not, ◌&&◌, ◌||◌, List, [], ◌∷◌, ◌++◌, length, slice_get, is_none, Option, Some, None, Result, Ok, Err, option_and_then}
+use Rattle.std.specs.Prelude.{◌≡◌, ◌⊎◌, ℕ, Bool, true, false, cond, not, ◌&&◌, ◌||◌, List, [], ◌∷◌, ◌++◌, length, slice_get, is_none, Option, Some, None, option_and_then}
 use Rattle.std.specs.Option.{option_map}
 use Rattle.std.specs.Result.{result_ok}
 use Rattle.doc_items.specs.Maps.{Key, same_text}
@@ -22,7 +22,7 @@ use Rattle.delta_history.specs.declared.kept.Kept.{Kept}
 use Rattle.delta_history.specs.Points.{Point, start, replay}
 use Rattle.delta_history.specs.Verdicts.{kept, Judged, judge}
 use Rattle.node_rules.specs.Followers.{ClientOf, client_of, same_client, FollowerOf, new_follower, dropped, refuse, take_snapshot}
-use Rattle.node_rules.specs.Submitting.{Edited, edit, Submitted, submit}
+use Rattle.node_rules.specs.Submitting.{edit, submit}
 use Rattle.node_rules.specs.Receiving.{receive}
 use Rattle.node_rules.specs.Replicas.{ReplicaOf, empty_replica, absorb, queue, settle}
 use Rattle.wave_world.specs.Texts.{AreTextActs}
