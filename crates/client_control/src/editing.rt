@@ -132,9 +132,9 @@ fn applied(alloc: Global, state: &mut WaveletState, ops: &Ops) -> Result<(), Fol
     match apply_delta(alloc, state, ops) {
         Ok(()) => Ok(()),
         Err(WaveletFault::OpInvalid(index)) => Err(FollowerFault::OpInvalid(index)),
-        Err(WaveletFault::CountTooLarge) => Err(FollowerFault::Memory),
-        Err(WaveletFault::Conflict(_)) => Err(FollowerFault::Memory),
-        Err(WaveletFault::DontFit(_)) => Err(FollowerFault::Memory),
+        Err(WaveletFault::CountTooLarge) => unreachable!(),
+        Err(WaveletFault::Conflict(_)) => unreachable!(),
+        Err(WaveletFault::DontFit(_)) => unreachable!(),
         Err(WaveletFault::Memory) => Err(FollowerFault::Memory),
     }
 }

@@ -43,9 +43,9 @@ fn compacted(alloc: Global, ops: &Ops) -> Result<Option<Ops>, Memory>
 {
     match compact(alloc, ops) {
         Ok(fewer) => Ok(Some(fewer)),
-        Err(WaveletFault::OpInvalid(_)) => Ok(None),
+        Err(WaveletFault::OpInvalid(_)) => unreachable!(),
         Err(WaveletFault::CountTooLarge) => Ok(None),
-        Err(WaveletFault::Conflict(_)) => Ok(None),
+        Err(WaveletFault::Conflict(_)) => unreachable!(),
         Err(WaveletFault::DontFit(_)) => Ok(None),
         Err(WaveletFault::Memory) => Err(AllocError),
     }

@@ -34,10 +34,10 @@ fn past(alloc: Global, later: &Ops, earlier: &Ops) -> Result<Option<OpsPair>, Me
 {
     match transform_delta(alloc, later, earlier) {
         Ok(pair) => Ok(Some(pair)),
-        Err(WaveletFault::OpInvalid(_)) => Ok(None),
+        Err(WaveletFault::OpInvalid(_)) => unreachable!(),
         Err(WaveletFault::CountTooLarge) => Ok(None),
         Err(WaveletFault::Conflict(_)) => Ok(None),
-        Err(WaveletFault::DontFit(_)) => Ok(None),
+        Err(WaveletFault::DontFit(_)) => unreachable!(),
         Err(WaveletFault::Memory) => Err(AllocError),
     }
 }

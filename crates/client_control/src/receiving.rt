@@ -98,9 +98,9 @@ impl Follower {
                 index: delta.ops.len() as u32,
             }),
             Err(WaveletFault::OpInvalid(index)) => Ok(Received::NotNext { index }),
-            Err(WaveletFault::CountTooLarge) => Err(AllocError),
-            Err(WaveletFault::Conflict(_)) => Err(AllocError),
-            Err(WaveletFault::DontFit(_)) => Err(AllocError),
+            Err(WaveletFault::CountTooLarge) => unreachable!(),
+            Err(WaveletFault::Conflict(_)) => unreachable!(),
+            Err(WaveletFault::DontFit(_)) => unreachable!(),
             Err(WaveletFault::Memory) => Err(AllocError),
         }
     }
@@ -129,9 +129,9 @@ impl Follower {
                 Ok(Received::Advanced)
             }
             Err(WaveletFault::OpInvalid(index)) => Ok(Received::NotNext { index }),
-            Err(WaveletFault::CountTooLarge) => Err(AllocError),
-            Err(WaveletFault::Conflict(_)) => Err(AllocError),
-            Err(WaveletFault::DontFit(_)) => Err(AllocError),
+            Err(WaveletFault::CountTooLarge) => unreachable!(),
+            Err(WaveletFault::Conflict(_)) => unreachable!(),
+            Err(WaveletFault::DontFit(_)) => unreachable!(),
             Err(WaveletFault::Memory) => Err(AllocError),
         }
     }
@@ -174,9 +174,9 @@ impl Follower {
                 Ok(Received::Advanced)
             }
             Err(WaveletFault::OpInvalid(index)) => Ok(Received::NotNext { index }),
-            Err(WaveletFault::CountTooLarge) => Err(AllocError),
-            Err(WaveletFault::Conflict(_)) => Err(AllocError),
-            Err(WaveletFault::DontFit(_)) => Err(AllocError),
+            Err(WaveletFault::CountTooLarge) => unreachable!(),
+            Err(WaveletFault::Conflict(_)) => unreachable!(),
+            Err(WaveletFault::DontFit(_)) => unreachable!(),
             Err(WaveletFault::Memory) => Err(AllocError),
         }
     }
