@@ -81,6 +81,13 @@ impl Follower {
         }
     }
 
+    /// The name of the wavelet.
+    pub fn name(&self) -> &WaveletName
+        ensures { result.now ≡ self.now.name }
+    {
+        &self.name
+    }
+
     /// The hashed version where the follower is.
     pub fn at(&self) -> HashedVersion
         ensures { result ≡ (follower_of self.now).here.at }

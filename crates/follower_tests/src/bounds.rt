@@ -73,7 +73,9 @@ fn moved(rt: &impl Abort, alloc: Global, version: u64, inserted: u64) -> Result<
         rt,
         "few items",
     );
-    assert!(rt; follower.receive_snapshot(snapshot) == Taken::Took);
+    assert!(rt; snapshot.name() == follower.name());
+    let taken = follower.receive_snapshot(snapshot);
+    assert!(rt; taken == Taken::Took);
     Ok(follower)
 }
 

@@ -201,6 +201,7 @@ impl Scene {
             state,
         );
         let snapshot = made.expect(rt, "a snapshot of the head");
+        assert!(rt; snapshot.name() == self.follower.name());
         match self.follower.receive_snapshot(snapshot) {
             Taken::Pending => text(alloc, "Pending"),
             Taken::Old => text(alloc, "Old"),
