@@ -1,1 +1,12 @@
 pub mod Squares
+pub mod Members
+pub mod Texts
+pub mod Passages
+pub mod Places
+pub mod Clients
+pub mod Events
+pub mod Growth
+pub mod Judgements
+pub mod Versions
+pub mod Takings
+pub mod Restarts

@@ -1,16 +1,12 @@
 -- The square of lists of actions, and of operations.
-use Rattle.std.proofs.Common.{◌≡◌, Bool, true, false, cond, refl, Option, None, Some, is_none, List}
-use Rattle.doc_items.specs.Balance.{Balanced}
-use Rattle.doc_items.specs.declared.item.Item.{Item}
-use Rattle.doc_op.specs.declared.component.Component.{Component}
-use Rattle.doc_op.specs.Actions.{Action, actions}
-use Rattle.doc_op.specs.Apply.{apply, valid}
-use Rattle.doc_op.specs.Structure.{Structured, first_break}
+use Rattle.std.proofs.Common.{◌≡◌, true, refl, Option, None, Some, is_none}
+use Rattle.doc_op.specs.Actions.{actions}
+use Rattle.doc_op.specs.Apply.{apply}
+use Rattle.doc_op.specs.Structure.{first_break}
 use Rattle.doc_op.proofs.Applying.{passed}
 use Rattle.doc_op.proofs.Structures.{unbroken_is_structured}
-use Rattle.op_transform.specs.Transform.{transform}
 use Rattle.op_transform.proofs.Laws.{are_structured, square}
-use Rattle.wave_world.specs.Square.{Meeting, ActionSquare, Square}
+use Rattle.wave_world.specs.Square.{ActionSquare, Square}
 
 pub action_square : ActionSquare
 action_square l e document after_later after_earlier s t p q =

@@ -1,1 +1,4 @@
 pub mod Square
+pub mod Texts
+pub mod Worlds
+pub mod Converged

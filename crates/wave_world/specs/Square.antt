@@ -3,7 +3,7 @@
 --                                balanced where the first was
 --     ActionSquare           so of structured lists of actions that apply to one document
 --     Square                 so of operations that are valid at one document; and both results are structured
-use Rattle.std.specs.Prelude.{◌≡◌, List, Some, Ok}
+use Rattle.std.specs.Prelude.{◌≡◌, List, Some}
 use Rattle.doc_items.specs.Balance.{Balanced}
 use Rattle.doc_items.specs.declared.item.Item.{Item}
 use Rattle.doc_op.specs.declared.component.Component.{Component}

@@ -1,0 +1,60 @@
+// The screen, made anew.
+ghost use Rattle.std.specs.Prelude.{◌≡◌, ◌≢◌, map, None, Some, IfOk, OnOk, OnErr};
+ghost use Rattle.wavelet_op.specs.Acts.{meanings};
+ghost use Rattle.wavelet_op.specs.States.{run};
+ghost use Rattle.node_rules.specs.Followers.{run_all};
+ghost use Rattle.client_control.specs.Parts.{ops_flying};
+
+use crate::flight::InFlight;
+use doc_items::Memory;
+use std::alloc::{AllocError, Global};
+use wavelet_op::{Ops, WaveletFault};
+use wavelet_state::{WaveletState, apply_delta};
+
+// The state is behind operations, which are valid there.
+fn run(alloc: Global, state: &mut WaveletState, ops: &Ops) -> Result<(), Memory>
+    requires { run state.old (meanings ops.now) ≢ None }
+    ensures { OnOk result (run state.old (meanings ops.now) ≡ Some state.new) }
+{
+    match apply_delta(alloc, state, ops) {
+        Ok(()) => Ok(()),
+        Err(WaveletFault::OpInvalid(_)) => unreachable!(),
+        Err(WaveletFault::CountTooLarge) => unreachable!(),
+        Err(WaveletFault::Conflict(_)) => unreachable!(),
+        Err(WaveletFault::DontFit(_)) => unreachable!(),
+        Err(WaveletFault::Memory) => Err(AllocError),
+    }
+}
+
+/// The state behind entries in turn, which are valid there.
+pub(crate) fn run_all(
+    alloc: Global,
+    state: WaveletState,
+    queue: &[Ops],
+) -> Result<WaveletState, Memory>
+    requires { run_all state (map meanings queue.now) ≢ None }
+    ensures { IfOk result (λ t. run_all state (map meanings queue.now) ≡ Some t) }
+{
+    let mut state = state;
+    for ops in queue {
+        run(alloc, &mut state, ops)?;
+    }
+    Ok(state)
+}
+
+/// The state behind the flight, which is valid there.
+pub(crate) fn run_flight(
+    alloc: Global,
+    state: WaveletState,
+    flight: &Option<InFlight>,
+) -> Result<WaveletState, Memory>
+    requires { run_all state (map meanings (ops_flying flight.now)) ≢ None }
+    ensures { IfOk result (λ t. run_all state (map meanings (ops_flying flight.now)) ≡ Some t) }
+{
+    let Some(flight) = flight else {
+        return Ok(state);
+    };
+    let mut state = state;
+    run(alloc, &mut state, &flight.ops)?;
+    Ok(state)
+}
