@@ -1,0 +1,154 @@
+-- Histories read from records.
+--     bytes_once           deltas with the same bytes and the same hash are equal
+--     histories_once       two legal histories with the same records are one
+--     history_is_one, history_is_whole      the laws
+--     unread               bytes of no delta
+--     not_next             bytes of a delta that can't be next
+--     gate_at              where the gate of a record stands
+--     illegal_at           the first record that isn't a next delta
+use Rattle.std.proofs.Common.{◌≡◌, ◌⊎◌, inl, inr, ◌^◌, ◌<◌, ℕ, zero, suc, ◌+◌, ◌≤◌, List, [], ◌∷◌, ◌++◌, length, take, drop, get_or, map, Option, Some, None, Ok, Err, refl, sym, ap, subst, ◌∙◌, arith, append_assoc, append-nil, length-append, Result}
+use Rattle.std.specs.List.{AllByRecursion}
+use Rattle.std.proofs.lemmas.List.{drop_more}
+use Rattle.doc_op.proofs.Applying.{same_Some}
+use Rattle.wave_base.specs.Versions.{VersionAt}
+use Rattle.wavelet_op.specs.Deltas.{DeltaOf}
+use Rattle.wavelet_codec.specs.Spelling.{delta_bytes, IsDelta, IsDeltaBytes}
+use Rattle.wavelet_codec.proofs.Deltas.{alike}
+use Rattle.delta_history.specs.Histories.{HistoryOf, head_of, IsGrown}
+use Rattle.delta_history.specs.Legal.{IsNext, IsLegalFrom, IsLegal}
+use Rattle.delta_history.specs.Points.{Point, start, replay}
+use Rattle.delta_history.proofs.Chains.{goes_on, legal_behind}
+use Rattle.delta_history.proofs.Finding.{legal_end}
+use Rattle.delta_journal.specs.File.{StandsFor, IsDamaged, blocks, framed, header, opened}
+use Rattle.delta_journal.specs.Stored.{bytes_of, StandFrom}
+use Rattle.delta_journal.specs.declared.stored.Stored.{Stored}
+use Rattle.delta_journal.proofs.Once.{means_once}
+use Rattle.wavelet_container.specs.Loads.{IsRead}
+use Rattle.wavelet_container.specs.Records.{records_of, StandsForHistory, IsIllegal, HasIllegal, IsDamagedHistory, HistoryIsOne, HistoryIsWhole}
+
+pub bytes_once : (a b : DeltaOf) → IsDelta a → IsDelta b → delta_bytes a ≡ delta_bytes b → a.from.hash ≡ b.from.hash → a ≡ b
+bytes_once a b s r e hash =
+    let same = alike a b s r e in
+    λ i. record { id = same.id i; from = record { version = same.version i; hash = hash i }; time = same.time i; ops = same.ops i }
+
+-- both start at the head of what is before them
+next_once : (name : List ℕ) (ds : List DeltaOf) (a b : DeltaOf) → IsDelta a → IsDelta b → delta_bytes a ≡ delta_bytes b → IsNext name ds a → IsNext name ds b → a ≡ b
+next_once name ds a b s r e n m =
+    let here : n.here ≡ m.here = same_Some (sym n.is_head ∙ m.is_head) in
+    bytes_once a b s r e (ap (λ (z : VersionAt). z.hash) (n.starts ∙ ap (λ (p : Point). p.at) here ∙ sym m.starts))
+
+no_cons : {A C : Type 0} {x : A} {xs : List A} → [] ≡ x ∷ xs → C
+no_cons e = absurd (cc)
+
+head_of_list : {A : Type 0} {x y : A} {xs ys : List A} → x ∷ xs ≡ y ∷ ys → x ≡ y
+head_of_list e = cc
+
+tail_of_list : {A : Type 0} {x y : A} {xs ys : List A} → x ∷ xs ≡ y ∷ ys → xs ≡ ys
+tail_of_list e = cc
+
+record IsFront (name : List ℕ) (b ds es : List DeltaOf) (more : List (List ℕ)) : Type 0 where
+  rest : List DeltaOf
+  whole : es ≡ ds ++ rest
+  records : more ≡ records_of rest
+  legal : IsLegalFrom name (b ++ ds) rest
+  spelled : AllByRecursion IsDelta rest
+
+-- a history whose records begin with those of another begins with it
+front_once : (name : List ℕ) (b ds es : List DeltaOf) (more : List (List ℕ)) → IsLegalFrom name b ds → IsLegalFrom name b es → AllByRecursion IsDelta ds → AllByRecursion IsDelta es → records_of ds ++ more ≡ records_of es → IsFront name b ds es more
+front_once name b [] es more l m s t e = record { rest = es; whole = refl; records = e; legal = subst (λ z. IsLegalFrom name z es) (sym (append-nil b)) m; spelled = t }
+front_once name b (d ∷ ds) [] more l m s t e = no_cons (sym e)
+front_once name b (d ∷ ds) (x ∷ es) more l m s t e =
+    let same : d ≡ x = next_once name b d x s.0 t.0 (head_of_list e) l.0 m.0 in
+    let f = front_once name (b ++ d ∷ []) ds es more l.1 (subst (λ z. IsLegalFrom name (b ++ z ∷ []) es) (sym same) m.1) s.1 t.1 (tail_of_list e) in
+    record {
+      rest = f.rest;
+      whole = λ i. same (~ i) ∷ f.whole i;
+      records = f.records;
+      legal = subst (λ z. IsLegalFrom name z f.rest) (append_assoc b (d ∷ []) ds) f.legal;
+      spelled = f.spelled;
+    }
+
+none_of : (ds : List DeltaOf) → [] ≡ records_of ds → ds ≡ []
+none_of [] e = refl
+none_of (d ∷ ds) e = no_cons e
+
+same_Ok : {A E : Type 0} {x y : A} → Result.Ok {E = E} x ≡ Result.Ok y → x ≡ y
+same_Ok e = cc
+
+not_both : {A E C : Type 0} {x : A} {y : E} → Result.Ok x ≡ Result.Err y → C
+not_both e = absurd (cc)
+
+pub history_is_one : HistoryIsOne
+history_is_one name file ds es short a b =
+    let records : records_of ds ≡ records_of es = same_Ok (means_once name file (Ok (records_of ds)) (Ok (records_of es)) short a.stands b.stands) in
+    let f = front_once name [] ds es [] a.legal b.legal a.spelled b.spelled (append-nil (records_of ds) ∙ records) in
+    sym (f.whole ∙ ap (λ z. ds ++ z) (none_of f.rest f.records) ∙ append-nil ds)
+
+first_illegal : (name : List ℕ) (front rest : List DeltaOf) (bytes : List ℕ) (more : List (List ℕ)) → IsLegalFrom name front rest → AllByRecursion IsDelta rest → bytes ∷ more ≡ records_of rest → IsIllegal name front bytes → ⊥
+first_illegal name front [] bytes more l s e no = no_cons (sym e)
+first_illegal name front (d ∷ rest) bytes more l s e no = no d s.0 (head_of_list e) l.0
+
+pub history_is_whole : HistoryIsWhole
+history_is_whole name file ds offset short a (inl damaged) = not_both (means_once name file (Ok (records_of ds)) (Err offset) short a.stands damaged)
+history_is_whole name file ds offset short a (inr illegal) =
+    let bad = illegal.2 in
+    let records : records_of ds ≡ illegal.0 = same_Ok (means_once name file (Ok (records_of ds)) (Ok illegal.0) short a.stands illegal.1) in
+    let f = front_once name [] bad.front ds (bad.bytes ∷ bad.rest) bad.legal a.legal bad.spelled a.spelled (bad.whole ∙ sym records) in
+    first_illegal name bad.front f.rest bad.bytes bad.rest f.legal f.spelled f.records bad.illegal
+
+-- ---- one record
+
+pub unread : (h : HistoryOf) (bytes : List ℕ) → ¬ (IsDeltaBytes bytes) → IsIllegal h.name h.deltas bytes
+unread h bytes no d is e n = no (d, is, e)
+
+pub not_next : (h : HistoryOf) (bytes : List ℕ) (d : DeltaOf) → IsLegal h.name h.deltas → IsRead h bytes d → (IsNext h.name h.deltas d → ⊥) → IsIllegal h.name h.deltas bytes
+not_next h bytes d l r no e is spells n =
+    let here : n.here ≡ head_of h = same_Some (sym n.is_head ∙ legal_end h.name h.deltas l) in
+    let hash : e.from.hash ≡ (head_of h).at.hash = ap (λ (z : VersionAt). z.hash) (n.starts ∙ ap (λ (p : Point). p.at) here) in
+    let same : e ≡ d = bytes_once e d is r.is (sym spells ∙ r.spells) (hash ∙ sym r.hash) in
+    no (subst (IsNext h.name h.deltas) same n)
+
+pub not_head : (h : HistoryOf) (bytes : List ℕ) (d : DeltaOf) → IsLegal h.name h.deltas → IsRead h bytes d → (d.from ≡ (head_of h).at → ⊥) → IsIllegal h.name h.deltas bytes
+not_head h bytes d l r no = not_next h bytes d l r (λ n. no (n.starts ∙ ap (λ (p : Point). p.at) (same_Some (sym n.is_head ∙ legal_end h.name h.deltas l))))
+
+pub not_legal : (h : HistoryOf) (bytes : List ℕ) (d : DeltaOf) → IsLegal h.name h.deltas → IsRead h bytes d → (IsLegal h.name (h.deltas ++ d ∷ []) → ⊥) → IsIllegal h.name h.deltas bytes
+not_legal h bytes d l r no = not_next h bytes d l r (λ n. no (goes_on h.name h.deltas d l n))
+
+-- ---- all records
+
+gate_from : (place : ℕ) (records : List Stored) (k : ℕ) (x : Stored) → StandFrom place records → k < length records → (get_or records k x).offset ≡ place + length (blocks (bytes_of (take k records)))
+gate_from place [] k x s h = absurd (omega (arith, h))
+gate_from place (one ∷ records) zero x s h = s.0 ∙ omega arith
+gate_from place (one ∷ records) (suc k) x s h =
+    let e = gate_from (place + length (1 ∷ framed one.bytes)) records k x s.1 (omega (arith, h)) in
+    let l = length-append (framed one.bytes) (blocks (bytes_of (take k records))) in
+    e ∙ omega (arith, l)
+
+bytes_split : (k : ℕ) (records : List Stored) → bytes_of (take k records) ++ bytes_of (drop k records) ≡ bytes_of records
+bytes_split zero records = refl
+bytes_split (suc k) [] = refl
+bytes_split (suc k) (one ∷ records) = ap (λ z. one.bytes ∷ z) (bytes_split k records)
+
+pub bytes_more : (k : ℕ) (records : List Stored) (one : Stored) → k < length records → one ≡ get_or records k one → bytes_of (take (k + 1) records) ≡ bytes_of (take k records) ++ one.bytes ∷ []
+bytes_more k [] one h e = absurd (omega (arith, h))
+bytes_more zero (x ∷ records) one h e = ap (λ (z : Stored). z.bytes ∷ []) (sym e)
+bytes_more (suc k) (x ∷ records) one h e = ap (λ z. x.bytes ∷ z) (bytes_more k records one (omega (arith, h)) e)
+
+pub illegal_at : (name : List ℕ) (front : List DeltaOf) (records : List Stored) (k : ℕ) (one : Stored) → StandFrom (length (1 ∷ header name)) records → k < length records → one ≡ get_or records k one → records_of front ≡ bytes_of (take k records) → IsLegal name front → AllByRecursion IsDelta front → IsIllegal name front one.bytes → HasIllegal name one.offset (bytes_of records)
+illegal_at name front records k one stand inside is same l s illegal =
+    let gate : one.offset ≡ length (1 ∷ header name) + length (blocks (bytes_of (take k records))) = ap (λ (z : Stored). z.offset) is ∙ gate_from (length (1 ∷ header name)) records k one stand inside in
+    let long = length-append (header name) (blocks (records_of front)) in
+    let same_blocks : length (blocks (bytes_of (take k records))) ≡ length (blocks (records_of front)) = ap (λ r. length (blocks r)) (sym same) in
+    record {
+      front = front;
+      bytes = one.bytes;
+      rest = bytes_of (drop (k + 1) records);
+      whole = ap (λ z. z ++ one.bytes ∷ bytes_of (drop (k + 1) records)) same
+          ∙ ap (λ (z : Stored). bytes_of (take k records) ++ z.bytes ∷ bytes_of (drop (k + 1) records)) is
+          ∙ sym (ap (λ z. bytes_of (take k records) ++ bytes_of z) (drop_more records k one inside))
+          ∙ bytes_split k records;
+      legal = l;
+      spelled = s;
+      illegal = illegal;
+      gate = omega (arith, gate, long, same_blocks);
+    }

@@ -1,0 +1,71 @@
+-- Operations on their way through deltas, one delta after the other.
+--     can_cross        the first delta can be passed
+--     goes_on          what comes of it can pass the others
+--     passed_one       the way through the first and then through the others
+--     spelled          operations in normal form are those of their acts
+use Rattle.std.proofs.Common.{◌≡◌, ℕ, ◌+◌, ◌≤◌, List, [], ◌∷◌, length, Option, Some, None, refl, sym, ap, subst, ◌∙◌, arith, option_and_then}
+use Rattle.std.specs.List.{AllByRecursion}
+use Rattle.std.proofs.lemmas.List.Elements.{recursion_from_All}
+use Rattle.doc_items.specs.Limits.{max_count}
+use Rattle.doc_op.proofs.Applying.{same_Some}
+use Rattle.wavelet_op.specs.Acts.{Act, meaning, meanings, inserted, IsNormal, AreNormal}
+use Rattle.wavelet_op.specs.Deltas.{DeltaOf}
+use Rattle.wavelet_op.specs.Grids.{grid, pass}
+use Rattle.wavelet_op.specs.States.{State, run}
+use Rattle.wavelet_op.specs.declared.op.WaveletOp.{WaveletOp}
+use Rattle.wavelet_op.specs.declared.op.WaveletOp.TheVariants.{NoOp, Add, Remove, Mutate, SetRole}
+use Rattle.wavelet_op.proofs.Grids.{delta_square}
+use Rattle.wavelet_op.proofs.Partial.{and_then_some}
+use Rattle.delta_history.specs.Points.{Point, acts_of, next_point, replay}
+use Rattle.delta_history.specs.Passing.{all_acts}
+use Rattle.delta_history.specs.Verdicts.{op_of, ops_of}
+use Rattle.delta_history.proofs.Points.{and_then_is, behind_point}
+use Rattle.wavelet_container.specs.Passing.{AreSmall, CanCross, CanPass, Passes}
+use Rattle.wavelet_container.proofs.Sizes.{next_sized, counts_rise}
+
+record IsFirst (acts : List Act) (d : DeltaOf) (ds : List DeltaOf) (c : CanPass acts (d ∷ ds)) : Type 0 where
+  middle : Point
+  step : next_point c.base d ≡ Some middle
+  rest : replay middle ds ≡ Some c.end
+  behind : State
+  goes : run c.base.state (acts_of d) ≡ Some behind
+  is : middle.state ≡ behind
+  count : middle.count ≡ c.base.count + inserted (acts_of d)
+
+first : (acts : List Act) (d : DeltaOf) (ds : List DeltaOf) (c : CanPass acts (d ∷ ds)) → IsFirst acts d ds c
+first acts d ds c =
+    let m = and_then_some (next_point c.base d) (λ z. replay z ds) c.end c.leads in
+    let b = behind_point c.base m.0 d m.1 in
+    record { middle = m.0; step = m.1; rest = m.2; behind = b.state; goes = b.goes; is = b.same; count = b.count }
+
+pub can_cross : (acts : List Act) (d : DeltaOf) (ds : List DeltaOf) → CanPass acts (d ∷ ds) → CanCross acts (acts_of d)
+can_cross acts d ds c =
+    let f = first acts d ds c in
+    let up : f.middle.count ≤ c.end.count = counts_rise f.middle c.end ds f.rest in
+    record { state = c.base.state; items = c.base.count; small = c.small; after = c.after; goes = c.valid; after_earlier = f.behind; earlier_goes = f.goes; room = let r = c.room in let k = f.count in omega (arith, r, k, up) }
+
+pub goes_on : (acts acts' e' : List Act) (d : DeltaOf) (ds : List DeltaOf) → CanPass acts (d ∷ ds) → grid acts (acts_of d) ≡ Some (acts', e') → CanPass acts' ds
+goes_on acts acts' e' d ds c is =
+    let f = first acts d ds c in
+    let g = delta_square c.base.state f.behind c.after acts (acts_of d) f.goes c.valid in
+    let same : g.later' ≡ acts' = ap (λ (p : List Act × List Act). p.0) (same_Some (sym g.defined ∙ is)) in
+    let valid : run f.middle.state acts' ≡ Some g.end = ap (λ z. run z acts') f.is ∙ ap (run f.behind) (sym same) ∙ g.later_goes in
+    let few : inserted acts' ≤ inserted acts = subst (λ z. inserted z ≤ inserted acts) same g.later_small in
+    record { base = f.middle; end = c.end; leads = f.rest; after = g.end; valid = valid; small = next_sized c.base f.middle d c.small f.step; room = let r = c.room in omega (arith, r, few) }
+
+pub passed_one : (acts acts' e' : List Act) (d : DeltaOf) (ds : List DeltaOf) → grid acts (acts_of d) ≡ Some (acts', e') → pass acts' (all_acts ds) ≡ pass acts (all_acts (d ∷ ds))
+passed_one acts acts' e' d ds is = sym (and_then_is (grid acts (acts_of d)) (λ p. pass p.0 (all_acts ds)) (acts', e') is)
+
+op_spelled : (o : WaveletOp) → IsNormal o → op_of (meaning o) ≡ o
+op_spelled NoOp n = refl
+op_spelled (Add address) n = refl
+op_spelled (Remove address) n = refl
+op_spelled (Mutate document op) n = ap (Mutate document) (sym n)
+op_spelled (SetRole address old new) n = refl
+
+spelled_by : (ops : List WaveletOp) → AllByRecursion IsNormal ops → ops_of (meanings ops) ≡ ops
+spelled_by [] n = refl
+spelled_by (o ∷ ops) n = λ i. op_spelled o n.0 i ∷ spelled_by ops n.1 i
+
+pub spelled : (ops : List WaveletOp) → AreNormal ops → ops_of (meanings ops) ≡ ops
+spelled ops n = spelled_by ops (recursion_from_All IsNormal ops n)

@@ -1,0 +1,16 @@
+//! The history of a wavelet at its host: submissions are judged, and the deltas that they become are on the disk before they are
+//! answered.
+#![tactic(auto)]
+
+mod cached;
+mod container;
+mod decision;
+mod early;
+mod fault;
+mod load;
+mod passing;
+mod store;
+
+pub use container::Container;
+pub use fault::{LoadFault, SubmitFault};
+pub use load::LoadRefused;
