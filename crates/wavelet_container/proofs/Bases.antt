@@ -46,7 +46,7 @@ pub state_at_base : (h : HistoryOf) (k : ℕ) (p : Point) → replay (start h.na
 state_at_base h k p e = replay_states (start h.name) p (take k h.deltas) e
 
 pub valid_all : (name : List ℕ) (ds : List DeltaOf) → IsLegal name ds → IsSome (run_all empty_state ds)
-valid_all name ds l = subst IsSome (sym (replay_states (start name) _ ds (legal_end name ds l))) tt
+valid_all name ds l = subst IsSome (sym (replay_states (start name) _ ds (legal_end name ds l))) refl
 
 -- ---- the first tests
 
@@ -79,10 +79,10 @@ found h s host e =
     record { base = (c.value).0; since = (c.value).1; found = c.had; hash = ap (λ (p : Point). p.at.hash) c.gives ∙ m.gives }
 
 pub is_other : (h : HistoryOf) (s : Submission) (host : List ℕ) → MayWrite h s → hash_found h s.at.version ≡ Some host → same_hash s.at.hash host ≡ false → (t : ℕ) → judged h s t ≡ (WrongHash host, None)
-is_other h s host m e no t =
+is_other h s host m e differs t =
     let f = found h s host e in
     based h s t m ∙ ap (judge_base s t (head_of h)) f.found
-    ∙ ap (judge_hash s t (head_of h) f.base f.since) (ap (same_hash s.at.hash) f.hash ∙ no)
+    ∙ ap (judge_hash s t (head_of h) f.base f.since) (ap (same_hash s.at.hash) f.hash ∙ differs)
     ∙ ap (λ z. (WrongHash z, None)) f.hash
 
 -- ---- the place

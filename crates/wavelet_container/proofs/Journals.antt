@@ -71,6 +71,13 @@ left_either h left P file l s (inl none) p (inr stands) = inl (record { stands =
 left_either h left P file l s (inr one) p (inr stands) =
     inr (one.0, p one.0 one.1, one_more h one.0 file l s (record { is = one.2; next = one.3 }) (subst (λ z. StandsFor h.name (records_of h.deltas ++ z) file) one.1 stands))
 
+follows_none : (left : List (List ℕ)) (added : Option DeltaOf) (before : List (List ℕ)) (d : DeltaOf) → left ≡ [] → MayFollow left added d → MayFollow before added d
+follows_none left added before d none (inl one) = absurd (no_cons (sym none ∙ one))
+  where
+    no_cons : {x : List ℕ} {xs : List (List ℕ)} → [] ≡ x ∷ xs → ⊥
+    no_cons e = cc
+follows_none left added before d none (inr is) = inr is
+
 module _ {K : Type 0} {disk : Ghosts K} where
   pub sure_images : (h : HistoryOf) (j : Journal K disk) → IsStored h j → needs_repair j ≡ false → (c : List ℕ) → (on_disk j).may_leave c → StandsForHistory h.name h.deltas c
   sure_images h j s sure c left = record {
@@ -138,13 +145,6 @@ module _ {K : Type 0} {disk : Ghosts K} where
     left = inl (sure_none j sure);
     later = later;
   }
-
-  follows_none : (left : List (List ℕ)) (added : Option DeltaOf) (before : List (List ℕ)) (d : DeltaOf) → left ≡ [] → MayFollow left added d → MayFollow before added d
-  follows_none left added before d none (inl one) = absurd (no_cons (sym none ∙ one))
-    where
-      no_cons : {x : List ℕ} {xs : List (List ℕ)} → [] ≡ x ∷ xs → ⊥
-      no_cons e = cc
-  follows_none left added before d none (inr is) = inr is
 
   pub moved_on : (g h : HistoryOf) (i m j : Journal K disk) (added : Option DeltaOf) → IsMoved g g i m added → needs_repair m ≡ false → IsMoved g h m j added → IsMoved g h i j added
   moved_on g h i m j added first sure second =

@@ -74,23 +74,23 @@ within_room p s d h e =
     ∙ ap (λ (q : Point). nat_le (q.at.version + length s.ops) max_count && nat_le (q.count + inserted (meanings s.ops)) max_inserted && nat_le (length (delta_bytes d)) max_delta) (sym e)
 
 no_room_passed : (h : HistoryOf) (s : Submission) (t : ℕ) → has_room h s.ops ≡ false → (o : Option (List Act)) → judge_pass s t (head_of h) o ≡ (Full (head_of h).at, None)
-no_room_passed h s t no None = refl
-no_room_passed h s t no (Some acts) =
+no_room_passed h s t never None = refl
+no_room_passed h s t never (Some acts) =
     let d = accepted (head_of h) s t acts in
-    ap (judge_bounds (head_of h) d) (within_room (head_of h) s d h refl ∙ and_false (has_room h s.ops) (nat_le (length (delta_bytes d)) max_delta) no)
+    ap (judge_bounds (head_of h) d) (within_room (head_of h) s d h refl ∙ and_false (has_room h s.ops) (nat_le (length (delta_bytes d)) max_delta) never)
 
 no_room_ops : (h : HistoryOf) (s : Submission) (t : ℕ) (base : Point) (since : List DeltaOf) → has_room h s.ops ≡ false → (o : Option State) → judge_ops s t (head_of h) base since o ≡ (refusal (head_of h).at base.state (meanings s.ops) o, None)
-no_room_ops h s t base since no None = refl
-no_room_ops h s t base since no (Some u) = no_room_passed h s t no (pass (meanings s.ops) (all_acts since))
+no_room_ops h s t base since never None = refl
+no_room_ops h s t base since never (Some u) = no_room_passed h s t never (pass (meanings s.ops) (all_acts since))
 
 pub no_room_told : (h : HistoryOf) (s : Submission) (k : ℕ) (v : Verdict) → IsBase h s k → has_room h s.ops ≡ false → IsRefusal h s k v → (t : ℕ) → judged h s t ≡ (v, None)
-no_room_told h s k v b no r t =
-    b.left t ∙ no_room_ops h s t b.base (drop k h.deltas) no (run b.base.state (meanings s.ops)) ∙ ap (λ z. (z, None)) (sym (r b.base b.leads))
+no_room_told h s k v b never r t =
+    b.left t ∙ no_room_ops h s t b.base (drop k h.deltas) never (run b.base.state (meanings s.ops)) ∙ ap (λ z. (z, None)) (sym (r b.base b.leads))
 
 -- ---- the delta
 
 is_accepted : (h : HistoryOf) (s : Submission) (t k : ℕ) (d : DeltaOf) → IsNear h s t k d → accepted (head_of h) s t (meanings d.ops) ≡ d
-is_accepted h s t k d n = λ i. record { id = n.submitted.id (~ i); from = n.submitted.from (~ i); time = n.submitted.time (~ i); ops = spelled d.ops n.passed.normal i }
+is_accepted h s t k d n = λ i. record { id = sym n.submitted.id i; from = sym n.submitted.from i; time = sym n.submitted.time i; ops = spelled d.ops n.passed.normal i }
 
 base_leads : (h : HistoryOf) (k : ℕ) (b : Point) → IsLegal h.name h.deltas → replay (start h.name) (take k h.deltas) ≡ Some b → replay b (drop k h.deltas) ≡ Some (head_of h)
 base_leads h k b l e =
@@ -181,9 +181,9 @@ near_accepted h s t k d n next =
     ∙ ap (judge_next (head_of h) d) (ap (λ (p : Point). next_point p d) (sym here) ∙ next.goes)
 
 refused_valid : (h : HistoryOf) (s : Submission) (t k : ℕ) (d : DeltaOf) → (n : IsNear h s t k d) → (IsLegal h.name (h.deltas ++ d ∷ []) → ⊥) → (o : Option State) → run n.made.base.state (meanings s.ops) ≡ o → judged h s t ≡ (refusal (head_of h).at n.made.base.state (meanings s.ops) o, None)
-refused_valid h s t k d n no None e = n.made.left t ∙ ap (judge_ops s t (head_of h) n.made.base (drop k h.deltas)) e
-refused_valid h s t k d n no (Some u) e =
-    judged_pass h s t k d u n e ∙ ap (judge_bounds (head_of h) d) (le_false _ _ (λ short. no (goes_on h.name h.deltas d n.legal (is_next h s t k d u n e short))))
+refused_valid h s t k d n never None e = n.made.left t ∙ ap (judge_ops s t (head_of h) n.made.base (drop k h.deltas)) e
+refused_valid h s t k d n never (Some u) e =
+    judged_pass h s t k d u n e ∙ ap (judge_bounds (head_of h) d) (le_false _ _ (λ short. never (goes_on h.name h.deltas d n.legal (is_next h s t k d u n e short))))
 
 pub near_refused : (h : HistoryOf) (s : Submission) (t k : ℕ) (d : DeltaOf) (v : Verdict) → IsNear h s t k d → (IsLegal h.name (h.deltas ++ d ∷ []) → ⊥) → IsRefusal h s k v → judged h s t ≡ (v, None)
-near_refused h s t k d v n no r = refused_valid h s t k d n no (run n.made.base.state (meanings s.ops)) refl ∙ ap (λ z. (z, None)) (sym (r n.made.base n.made.leads))
+near_refused h s t k d v n never r = refused_valid h s t k d n never (run n.made.base.state (meanings s.ops)) refl ∙ ap (λ z. (z, None)) (sym (r n.made.base n.made.leads))

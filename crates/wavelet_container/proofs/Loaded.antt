@@ -8,7 +8,7 @@
 --     illegal_at           the first record that isn't a next delta
 use Rattle.std.proofs.Common.{◌≡◌, ◌⊎◌, inl, inr, ◌^◌, ◌<◌, ℕ, zero, suc, ◌+◌, ◌≤◌, List, [], ◌∷◌, ◌++◌, length, take, drop, get_or, map, Option, Some, None, Ok, Err, refl, sym, ap, subst, ◌∙◌, arith, append_assoc, append-nil, length-append, Result}
 use Rattle.std.specs.List.{AllByRecursion}
-use Rattle.std.proofs.lemmas.List.{drop_more}
+use Rattle.std.proofs.lemmas.List.{drop_more, take_more}
 use Rattle.doc_op.proofs.Applying.{same_Some}
 use Rattle.wave_base.specs.Versions.{VersionAt}
 use Rattle.wavelet_op.specs.Deltas.{DeltaOf}
@@ -62,7 +62,7 @@ front_once name b (d ∷ ds) (x ∷ es) more l m s t e =
     let f = front_once name (b ++ d ∷ []) ds es more l.1 (subst (λ z. IsLegalFrom name (b ++ z ∷ []) es) (sym same) m.1) s.1 t.1 (tail_of_list e) in
     record {
       rest = f.rest;
-      whole = λ i. same (~ i) ∷ f.whole i;
+      whole = λ i. sym same i ∷ f.whole i;
       records = f.records;
       legal = subst (λ z. IsLegalFrom name z f.rest) (append_assoc b (d ∷ []) ds) f.legal;
       spelled = f.spelled;
@@ -72,47 +72,50 @@ none_of : (ds : List DeltaOf) → [] ≡ records_of ds → ds ≡ []
 none_of [] e = refl
 none_of (d ∷ ds) e = no_cons e
 
-same_Ok : {A E : Type 0} {x y : A} → Result.Ok {E = E} x ≡ Result.Ok y → x ≡ y
-same_Ok e = cc
+abbrev Meaning : Type 0
+Meaning = Result (List (List ℕ)) ℕ
 
-not_both : {A E C : Type 0} {x : A} {y : E} → Result.Ok x ≡ Result.Err y → C
-not_both e = absurd (cc)
+ok_of : (x y : List (List ℕ)) (a b : Meaning) → a ≡ Ok x → b ≡ Ok y → a ≡ b → x ≡ y
+ok_of x y a b p q e = cc
+
+not_both : {C : Type 0} (x : List (List ℕ)) (y : ℕ) (a b : Meaning) → a ≡ Ok x → b ≡ Err y → a ≡ b → C
+not_both x y a b p q e = absurd (cc)
 
 pub history_is_one : HistoryIsOne
 history_is_one name file ds es short a b =
-    let records : records_of ds ≡ records_of es = same_Ok (means_once name file (Ok (records_of ds)) (Ok (records_of es)) short a.stands b.stands) in
+    let records : records_of ds ≡ records_of es = ok_of (records_of ds) (records_of es) (Ok (records_of ds)) (Ok (records_of es)) refl refl (means_once name file (Ok (records_of ds)) (Ok (records_of es)) short a.stands b.stands) in
     let f = front_once name [] ds es [] a.legal b.legal a.spelled b.spelled (append-nil (records_of ds) ∙ records) in
     sym (f.whole ∙ ap (λ z. ds ++ z) (none_of f.rest f.records) ∙ append-nil ds)
 
 first_illegal : (name : List ℕ) (front rest : List DeltaOf) (bytes : List ℕ) (more : List (List ℕ)) → IsLegalFrom name front rest → AllByRecursion IsDelta rest → bytes ∷ more ≡ records_of rest → IsIllegal name front bytes → ⊥
-first_illegal name front [] bytes more l s e no = no_cons (sym e)
-first_illegal name front (d ∷ rest) bytes more l s e no = no d s.0 (head_of_list e) l.0
+first_illegal name front [] bytes more l s e never = no_cons (sym e)
+first_illegal name front (d ∷ rest) bytes more l s e never = never d s.0 (head_of_list e) l.0
 
 pub history_is_whole : HistoryIsWhole
-history_is_whole name file ds offset short a (inl damaged) = not_both (means_once name file (Ok (records_of ds)) (Err offset) short a.stands damaged)
+history_is_whole name file ds offset short a (inl damaged) = not_both (records_of ds) offset (Ok (records_of ds)) (Err offset) refl refl (means_once name file (Ok (records_of ds)) (Err offset) short a.stands damaged)
 history_is_whole name file ds offset short a (inr illegal) =
     let bad = illegal.2 in
-    let records : records_of ds ≡ illegal.0 = same_Ok (means_once name file (Ok (records_of ds)) (Ok illegal.0) short a.stands illegal.1) in
+    let records : records_of ds ≡ illegal.0 = ok_of (records_of ds) illegal.0 (Ok (records_of ds)) (Ok illegal.0) refl refl (means_once name file (Ok (records_of ds)) (Ok illegal.0) short a.stands illegal.1) in
     let f = front_once name [] bad.front ds (bad.bytes ∷ bad.rest) bad.legal a.legal bad.spelled a.spelled (bad.whole ∙ sym records) in
     first_illegal name bad.front f.rest bad.bytes bad.rest f.legal f.spelled f.records bad.illegal
 
 -- ---- one record
 
 pub unread : (h : HistoryOf) (bytes : List ℕ) → ¬ (IsDeltaBytes bytes) → IsIllegal h.name h.deltas bytes
-unread h bytes no d is e n = no (d, is, e)
+unread h bytes never d is e n = never (d, is, e)
 
 pub not_next : (h : HistoryOf) (bytes : List ℕ) (d : DeltaOf) → IsLegal h.name h.deltas → IsRead h bytes d → (IsNext h.name h.deltas d → ⊥) → IsIllegal h.name h.deltas bytes
-not_next h bytes d l r no e is spells n =
+not_next h bytes d l r never e is spells n =
     let here : n.here ≡ head_of h = same_Some (sym n.is_head ∙ legal_end h.name h.deltas l) in
     let hash : e.from.hash ≡ (head_of h).at.hash = ap (λ (z : VersionAt). z.hash) (n.starts ∙ ap (λ (p : Point). p.at) here) in
     let same : e ≡ d = bytes_once e d is r.is (sym spells ∙ r.spells) (hash ∙ sym r.hash) in
-    no (subst (IsNext h.name h.deltas) same n)
+    never (subst (IsNext h.name h.deltas) same n)
 
 pub not_head : (h : HistoryOf) (bytes : List ℕ) (d : DeltaOf) → IsLegal h.name h.deltas → IsRead h bytes d → (d.from ≡ (head_of h).at → ⊥) → IsIllegal h.name h.deltas bytes
-not_head h bytes d l r no = not_next h bytes d l r (λ n. no (n.starts ∙ ap (λ (p : Point). p.at) (same_Some (sym n.is_head ∙ legal_end h.name h.deltas l))))
+not_head h bytes d l r never = not_next h bytes d l r (λ n. never (n.starts ∙ ap (λ (p : Point). p.at) (same_Some (sym n.is_head ∙ legal_end h.name h.deltas l))))
 
 pub not_legal : (h : HistoryOf) (bytes : List ℕ) (d : DeltaOf) → IsLegal h.name h.deltas → IsRead h bytes d → (IsLegal h.name (h.deltas ++ d ∷ []) → ⊥) → IsIllegal h.name h.deltas bytes
-not_legal h bytes d l r no = not_next h bytes d l r (λ n. no (goes_on h.name h.deltas d l n))
+not_legal h bytes d l r never = not_next h bytes d l r (λ n. never (goes_on h.name h.deltas d l n))
 
 -- ---- all records
 
@@ -129,10 +132,13 @@ bytes_split zero records = refl
 bytes_split (suc k) [] = refl
 bytes_split (suc k) (one ∷ records) = ap (λ z. one.bytes ∷ z) (bytes_split k records)
 
+bytes_append : (xs : List Stored) (one : Stored) → bytes_of (xs ++ one ∷ []) ≡ bytes_of xs ++ one.bytes ∷ []
+bytes_append [] one = refl
+bytes_append (x ∷ xs) one = ap (λ z. x.bytes ∷ z) (bytes_append xs one)
+
 pub bytes_more : (k : ℕ) (records : List Stored) (one : Stored) → k < length records → one ≡ get_or records k one → bytes_of (take (k + 1) records) ≡ bytes_of (take k records) ++ one.bytes ∷ []
-bytes_more k [] one h e = absurd (omega (arith, h))
-bytes_more zero (x ∷ records) one h e = ap (λ (z : Stored). z.bytes ∷ []) (sym e)
-bytes_more (suc k) (x ∷ records) one h e = ap (λ z. x.bytes ∷ z) (bytes_more k records one (omega (arith, h)) e)
+bytes_more k records one h e =
+    ap bytes_of (take_more records k one h) ∙ bytes_append (take k records) (get_or records k one) ∙ ap (λ (z : Stored). bytes_of (take k records) ++ z.bytes ∷ []) (sym e)
 
 pub illegal_at : (name : List ℕ) (front : List DeltaOf) (records : List Stored) (k : ℕ) (one : Stored) → StandFrom (length (1 ∷ header name)) records → k < length records → one ≡ get_or records k one → records_of front ≡ bytes_of (take k records) → IsLegal name front → AllByRecursion IsDelta front → IsIllegal name front one.bytes → HasIllegal name one.offset (bytes_of records)
 illegal_at name front records k one stand inside is same l s illegal =

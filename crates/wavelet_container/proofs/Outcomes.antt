@@ -54,7 +54,7 @@ alike : (g h : HistoryOf) (s : Submission) (k : ℕ) → IsBase g s k → IsBase
 alike g h s k b = record { inside = b.inside; base = b.base; leads = b.leads; made = b.made; new = b.new; author = b.author; left = b.left }
 
 path : (g h : HistoryOf) → IsSameHistory g h → record { name = g.name; deltas = g.deltas; spare = h.spare } ≡ h
-path g h same = λ i. record { name = same.name (~ i); deltas = same.deltas (~ i); spare = h.spare }
+path g h same = λ i. record { name = sym same.name i; deltas = sym same.deltas i; spare = h.spare }
 
 pub base_moved : (g h : HistoryOf) (s : Submission) (k : ℕ) → IsSameHistory g h → IsBase g s k → IsBase h s k
 base_moved g h s k same b = subst (λ z. IsBase z s k) (path g h same) (alike g h s k b)
@@ -63,4 +63,4 @@ refusal_moved : (g h : HistoryOf) (s : Submission) (k : ℕ) (v : Verdict) → I
 refusal_moved g h s k v same r = subst (λ z. IsRefusal z s k v) (sym (path g h same)) r
 
 pub turned_down : (g h i : HistoryOf) (s : Submission) (t k : ℕ) (d : DeltaOf) (v : Verdict) → IsNear g s t k d → (IsLegal g.name (g.deltas ++ d ∷ []) → ⊥) → IsSameHistory g h → IsRefusal h s k v → i ≡ h → IsAnswered g i s t v
-turned_down g h i s t k d v n no same r e = told g i s t v (near_refused g s t k d v n no (refusal_moved g h s k v same r)) (subst (IsSameHistory g) (sym e) same)
+turned_down g h i s t k d v n never same r e = told g i s t v (near_refused g s t k d v n never (refusal_moved g h s k v same r)) (subst (IsSameHistory g) (sym e) same)

@@ -75,7 +75,7 @@ with_small s d x n small short q = at (same_text q d) refl
     at false e = subst (λ (z : List Item). length z ≤ n) (sym (document_elsewhere s d q x (different q d e))) (small q)
 
 pub act_sized : (s t : State) (a : Act) (n : ℕ) → AreSmall s n → apply_act s a ≡ Some t → AreSmall t (n + inserted_act a)
-unfolding apply_act, inserted_act
+unfolding apply_act inserted_act
 act_sized s t Idle n small e = more_small t n (n + 0) (omega arith) (subst (λ x. AreSmall x n) (same_Some e) small)
 act_sized s t (Adds a) n small e = more_small t n (n + 0) (omega arith) (role_small s t a (added (role_of s a)) n small e)
 act_sized s t (Removes a) n small e = more_small t n (n + 0) (omega arith) (role_small s t a (removed (role_of s a)) n small e)

@@ -54,7 +54,7 @@ mutations_within s t u d c x y n small p q room =
     or_true (same_text d c) (nat_le (together x y) max_count) (λ same. true_le (together x y) max_count (omega (arith, a, b, room)))
 
 is_wide : (s t u : State) (l e : Act) (n : ℕ) → AreSmall s n → apply_act s e ≡ Some t → apply_act s l ≡ Some u → n + (inserted_act l + inserted_act e) ≤ max_count → is_within l e ≡ true
-unfolding is_within, inserted_act
+unfolding is_within inserted_act
 is_wide s t u Idle e n small p q room = refl
 is_wide s t u (Adds a) e n small p q room = refl
 is_wide s t u (Removes a) e n small p q room = refl

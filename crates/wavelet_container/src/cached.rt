@@ -26,9 +26,12 @@ pub(crate) struct CachedHistory {
 impl Model for CachedHistory {
     ghost use Rattle.std.specs.Prelude.{IfSome};
     ghost use Rattle.delta_history.specs.Histories.{HistoryOf};
+    ghost use Rattle.delta_history.specs.contracts.history.History as history_row;
     ghost use Rattle.state_cache.specs.States.{IsBegun};
 
     ghost Value = { HistoryOf };
+
+    ghost coded = { history_row.the_row.coded };
 
     ghost view = { λ c. c.history };
 

@@ -1,5 +1,5 @@
 // What is tested of a submission before its operations are looked at.
-ghost use Rattle.std.specs.Prelude.{◌≡◌, ◌≤◌, length};
+ghost use Rattle.std.specs.Prelude.{◌≡◌, ◌≤◌, nat_lt, length};
 ghost use Rattle.wavelet_op.specs.Acts.{meanings};
 ghost use Rattle.delta_history.specs.Histories.{head_of};
 ghost use Rattle.delta_history.specs.Legal.{adds_first, standing};
@@ -65,10 +65,20 @@ fn started_below(deltas: &[AppliedDelta], version: u64) -> usize
     ensures bound { result ≤ length deltas.now }
 {
     let mut place = deltas.len();
-    while place > 0 && deltas[place - 1].from.version >= version {
+    while place > 0 {
+        if starts_below(&deltas[place - 1], version) {
+            return place;
+        }
         place -= 1;
     }
-    place
+    0
+}
+
+// Whether a delta was applied below a version.
+fn starts_below(delta: &AppliedDelta, version: u64) -> bool
+    ensures { result ≡ nat_lt delta.now.from.version version }
+{
+    delta.from.version < version
 }
 
 // The author's role at the head; in an empty history `Full` where the first operation adds it.

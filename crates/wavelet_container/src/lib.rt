@@ -9,7 +9,8 @@ mod early;
 mod fault;
 mod load;
 mod passing;
-mod store;
+mod plain;
+mod stored;
 
 pub use container::Container;
 pub use fault::{LoadFault, SubmitFault};

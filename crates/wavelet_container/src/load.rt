@@ -1,5 +1,5 @@
 // Histories read from their journals.
-ghost use Rattle.std.specs.Prelude.{◌≡◌, ◌⊎◌, ℕ, List, [], ◌∷◌, ◌+◌, length, IfOk, IfErr, OnOk, MatchResult, IsTrue, IfSome, Some, false};
+ghost use Rattle.std.specs.Prelude.{◌≡◌, ◌≢◌, ℕ, List, [], ◌∷◌, ◌+◌, length, IfOk, IfErr, OnOk, OnErr, IsErrOf, MatchResult, IsTrue, IfSome, Some, false};
 ghost use Rattle.std.specs.List.{AllByRecursion};
 ghost use Rattle.disk_model.specs.Disk.{LeavesJust, OnlyRead, Rose};
 ghost use Rattle.wavelet_op.specs.Deltas.{DeltaOf};

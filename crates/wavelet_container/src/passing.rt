@@ -1,5 +1,5 @@
 // A submission's operations on their way through the deltas that came since they were made.
-ghost use Rattle.std.specs.Prelude.{◌≡◌, ◌⊎◌, ◌×◌, List, [], length, Some, IfOk, IsSome};
+ghost use Rattle.std.specs.Prelude.{◌≡◌, ◌⊎◌, List, [], length, Some, IfOk, IsSome};
 ghost use Rattle.wavelet_op.specs.Acts.{Act, meanings, AreNormal};
 ghost use Rattle.wavelet_op.specs.Grids.{grid};
 ghost use Rattle.wavelet_container.specs.Passing.{CanCross, CanPass, IsPast, Passes};
