@@ -48,6 +48,9 @@ state_at_base h k p e = replay_states (start h.name) p (take k h.deltas) e
 pub valid_all : (name : List ℕ) (ds : List DeltaOf) → IsLegal name ds → IsSome (run_all empty_state ds)
 valid_all name ds l = subst IsSome (sym (replay_states (start name) _ ds (legal_end name ds l))) refl
 
+pub valid_here : (name : List ℕ) (ds es : List DeltaOf) → es ≡ ds → IsLegal name ds → IsSome (run_all empty_state es)
+valid_here name ds es e l = subst (λ z. IsSome (run_all empty_state z)) (sym e) (valid_all name ds l)
+
 -- ---- the first tests
 
 pub opened : (h : HistoryOf) (s : Submission) (t : ℕ) → IsLegal h.name h.deltas → kept s.id (start h.name) h.deltas ≡ None → judged h s t ≡ judge_author h.name h.deltas s t (head_of h) (standing h.deltas (head_of h) s.id.author (meanings s.ops))

@@ -94,6 +94,14 @@ module _ {K : Type 0} {disk : Ghosts K} where
     pending = ⊎_elim (λ none. inl none) (λ one. inr (one.0, one.1, one.2, moved g h one.0 same one.3)) pending;
   }
 
+  pub stored_at_start : (h : HistoryOf) (name text : List ℕ) (j : Journal K disk) → h.name ≡ name → h.deltas ≡ [] → text ≡ name → IsJournal text [] j → needs_repair j ≡ false → IsStored h j
+  stored_at_start h name text j named empty said held sure = record {
+    held = subst (λ n. IsJournal n (records_of h.deltas) j) (said ∙ sym named) (subst (λ ds. IsJournal text (records_of ds) j) (sym empty) held);
+    legal = subst (λ ds. IsLegal h.name ds) (sym empty) tt;
+    spelled = subst (λ ds. AllByRecursion IsDelta ds) (sym empty) tt;
+    pending = inl (sure_none j sure);
+  }
+
   pub moved_same : (g h : HistoryOf) (j : Journal K disk) (added : Option DeltaOf) → IsClocked (on_disk j) → needs_repair j ≡ false → IsSameHistory g h → IsMoved g h j j added
   moved_same g h j added clocked sure same = record {
     stored = λ s. same_stored g h j j same s s.held s.pending;

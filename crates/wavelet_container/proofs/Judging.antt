@@ -4,7 +4,7 @@
 --     no_room_told        the refusal where a bound is broken
 --     near_accepted       the delta may be next
 --     near_refused        it can't be
-use Rattle.std.proofs.Common.{◌≡◌, ◌⊎◌, inl, inr, ℕ, ◌+◌, ◌<◌, ◌≤◌, Bool, true, false, ◌&&◌, nat_le, min, List, [], ◌∷◌, ◌++◌, length, take, drop, Option, Some, None, IsSome, refl, sym, ap, subst, ◌∙◌, arith, option_and_then}
+use Rattle.std.proofs.Common.{◌≡◌, ◌⊎◌, inl, inr, ℕ, ◌+◌, ◌<◌, ◌≤◌, Bool, true, false, ◌&&◌, nat_le, min, List, [], ◌∷◌, ◌++◌, length, take, drop, Option, Some, None, IsSome, true≢false, refl, sym, ap, subst, ◌∙◌, arith, option_and_then}
 use Rattle.std.proofs.lemmas.Bool.{and_parts}
 use Rattle.std.proofs.lemmas.Bool.Decides.{nat_tests}
 use Rattle.std.proofs.lemmas.List.{length-map, take_all, drop_all, take-append-drop}
@@ -53,7 +53,7 @@ IsInvalid base acts None = IsSome (run base acts)
 IsInvalid base acts (Some i) = (i ≡ first_invalid base acts) × (run base acts ≡ None)
 
 refused_by : (head : VersionAt) (base : State) (acts : List Act) (o : Option State) → run base acts ≡ o → (f : Option ℕ) → IsInvalid base acts f → told_of head f ≡ refusal head base acts o
-refused_by head base acts None e None f = absurd (subst IsSome e f)
+refused_by head base acts None e None f = absurd (true≢false (sym (subst IsSome e f)))
 refused_by head base acts (Some u) e None f = refl
 refused_by head base acts None e (Some i) f = ap Invalid f.0
 refused_by head base acts (Some u) e (Some i) f = no_value (sym f.1 ∙ e)
@@ -160,7 +160,7 @@ valid_near h s t k d n next (inr at) =
     let here : next.here ≡ head_of h = same_Some (sym next.is_head ∙ legal_end h.name h.deltas n.legal) in
     let acts : meanings s.ops ≡ acts_of d = same_Some (sym (ap (λ z. pass (meanings s.ops) (all_acts z)) (drop_all k h.deltas at)) ∙ n.passed.is) in
     let g = behind_point next.here next.after d next.goes in
-    subst IsSome (sym ((λ i. run ((head ∙ sym here) i).state (acts i)) ∙ g.goes)) tt
+    subst IsSome (sym ((λ i. run ((head ∙ sym here) i).state (acts i)) ∙ g.goes)) refl
 
 lt_or_le : (a b : ℕ) → (a < b) ⊎ (b ≤ a)
 lt_or_le a b = go (nat_le b a) refl
@@ -171,7 +171,7 @@ lt_or_le a b = go (nat_le b a) refl
 
 some_of : {A : Type 0} (o : Option A) → IsSome o → (x : A) × (o ≡ Some x)
 some_of (Some x) h = (x, refl)
-some_of None h = absurd h
+some_of None h = absurd (true≢false (sym h))
 
 pub near_accepted : (h : HistoryOf) (s : Submission) (t k : ℕ) (d : DeltaOf) → IsNear h s t k d → (next : IsNext h.name h.deltas d) → judged h s t ≡ (Ack (head_of h).at.version next.after.at, Some d)
 near_accepted h s t k d n next =

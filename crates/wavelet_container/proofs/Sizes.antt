@@ -4,7 +4,10 @@
 --     replay_sized                  so at each point of a history no document has more items than were inserted up to there
 --     counts_rise                   that number doesn't fall
 --     structured_run                acts that are valid at a state are structured
-use Rattle.std.proofs.Common.{◌≡◌, ℕ, ◌+◌, ◌≤◌, Bool, true, false, List, [], ◌∷◌, length, Option, Some, None, refl, sym, ap, subst, ◌∙◌, arith, le_refl, option_and_then}
+use Rattle.std.proofs.Common.{◌≡◌, ℕ, ◌+◌, ◌≤◌, Bool, true, false, List, [], ◌∷◌, length, Option, Some, None, refl, sym, ap, subst, ◌∙◌, arith, le_refl, unwrap_or, option_and_then}
+use Rattle.std.specs.FinMap.{get-empty}
+use Rattle.std.specs.Ordering.{nat_cmp}
+use Rattle.std.specs.Cmp.Lexicographic.{slice_cmp}
 use Rattle.std.proofs.lemmas.List.Elements.{All-cons, All-nil}
 use Rattle.doc_items.specs.Maps.{Key, same_text}
 use Rattle.doc_items.specs.declared.item.Item.{Item}
@@ -114,7 +117,7 @@ counts_rise p q (d ∷ ds) e =
     omega (arith, b.count, h)
 
 pub empty_small : AreSmall empty_state 0
-empty_small d = le_refl 0
+empty_small d = subst (λ (o : Option (List Item)). length (unwrap_or o []) ≤ 0) (sym (get-empty (slice_cmp nat_cmp) d)) (le_refl 0)
 
 -- ---- structure
 

@@ -2,9 +2,12 @@
 --     can_cross        the first delta can be passed
 --     goes_on          what comes of it can pass the others
 --     passed_one       the way through the first and then through the others
+--     past_is          what one delta makes of operations
+--     past_none, past_first      the way through no delta, and through a first one and the others
 --     spelled          operations in normal form are those of their acts
 use Rattle.std.proofs.Common.{◌≡◌, ℕ, ◌+◌, ◌≤◌, List, [], ◌∷◌, length, Option, Some, None, refl, sym, ap, subst, ◌∙◌, arith, option_and_then}
 use Rattle.std.specs.List.{AllByRecursion}
+use Rattle.std.proofs.lemmas.List.{length-map}
 use Rattle.std.proofs.lemmas.List.Elements.{recursion_from_All}
 use Rattle.doc_items.specs.Limits.{max_count}
 use Rattle.doc_op.proofs.Applying.{same_Some}
@@ -12,15 +15,17 @@ use Rattle.wavelet_op.specs.Acts.{Act, meaning, meanings, inserted, IsNormal, Ar
 use Rattle.wavelet_op.specs.Deltas.{DeltaOf}
 use Rattle.wavelet_op.specs.Grids.{grid, pass}
 use Rattle.wavelet_op.specs.States.{State, run}
+use Rattle.wavelet_op.specs.Results.{IsOpsPair}
 use Rattle.wavelet_op.specs.declared.op.WaveletOp.{WaveletOp}
 use Rattle.wavelet_op.specs.declared.op.WaveletOp.TheVariants.{NoOp, Add, Remove, Mutate, SetRole}
-use Rattle.wavelet_op.proofs.Grids.{delta_square}
+use Rattle.wavelet_op.specs.declared.pair.OpsPair.{OpsPair}
+use Rattle.wavelet_op.proofs.Grids.{delta_square, bounded_is_exact}
 use Rattle.wavelet_op.proofs.Partial.{and_then_some}
 use Rattle.delta_history.specs.Points.{Point, acts_of, next_point, replay}
 use Rattle.delta_history.specs.Passing.{all_acts}
 use Rattle.delta_history.specs.Verdicts.{op_of, ops_of}
 use Rattle.delta_history.proofs.Points.{and_then_is, behind_point}
-use Rattle.wavelet_container.specs.Passing.{AreSmall, CanCross, CanPass, Passes}
+use Rattle.wavelet_container.specs.Passing.{AreSmall, CanCross, CanPass, IsPast, Passes}
 use Rattle.wavelet_container.proofs.Sizes.{next_sized, counts_rise}
 
 record IsFirst (acts : List Act) (d : DeltaOf) (ds : List DeltaOf) (c : CanPass acts (d ∷ ds)) : Type 0 where
@@ -69,3 +74,21 @@ spelled_by (o ∷ ops) n = λ i. op_spelled o n.0 i ∷ spelled_by ops n.1 i
 
 pub spelled : (ops : List WaveletOp) → AreNormal ops → ops_of (meanings ops) ≡ ops
 spelled ops n = spelled_by ops (recursion_from_All IsNormal ops n)
+
+-- ---- through operations
+
+pub past_is : (ops earlier : List WaveletOp) (p : OpsPair) → IsOpsPair ops earlier p → IsPast ops earlier p.later
+past_is ops earlier p h = record { earlier' = meanings p.earlier; is = bounded_is_exact (meanings ops) (meanings earlier) (meanings p.later, meanings p.earlier) h.is; normal = h.later_normal; long = h.later_long }
+
+pub past_none : (ops o : List WaveletOp) → meanings o ≡ meanings ops → AreNormal o → Passes (meanings ops) [] o
+past_none ops o same normal = record { is = ap Some (sym same); normal = normal; long = sym (length-map o meaning) ∙ ap length same }
+
+pub rest_can : (ops o : List WaveletOp) (d : DeltaOf) (rest : List DeltaOf) → CanPass (meanings ops) (d ∷ rest) → IsPast ops d.ops o → CanPass (meanings o) rest
+rest_can ops o d rest c p = goes_on (meanings ops) (meanings o) p.earlier' d rest c p.is
+
+pub past_first : (ops o os : List WaveletOp) (d : DeltaOf) (rest : List DeltaOf) → IsPast ops d.ops o → Passes (meanings o) rest os → Passes (meanings ops) (d ∷ rest) os
+past_first ops o os d rest p r = record {
+  is = sym (passed_one (meanings ops) (meanings o) p.earlier' d rest p.is) ∙ r.is;
+  normal = r.normal;
+  long = r.long ∙ length-map o meaning ∙ p.long ∙ sym (length-map ops meaning);
+}

@@ -71,7 +71,11 @@ impl<K: Disk> Container<K> {
     pub fn close(self) -> Option<K>
         ensures { result ≡ option_map disk_of (journal_of self) }
     {
-        match self.journal {
+        let Container {
+            wavelet: _,
+            journal,
+        } = self;
+        match journal {
             Some(journal) => Some(journal.close()),
             None => None,
         }

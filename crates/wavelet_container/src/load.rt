@@ -58,6 +58,7 @@ fn push(alloc: Global, history: &mut History, record: &[u8]) -> Result<(), Recor
     ensures legal { IsLegal history.old.name history.old.deltas }
     ensures same { OnErr result (IsSameHistory history.old history.new) }
 {
+    let _deltas = history.deltas();
     let delta = read(alloc, history, record)?;
     match history.push_applied(alloc, delta) {
         Ok(()) => Ok(()),

@@ -97,11 +97,34 @@ fn store<K: Disk>(
     ensures unwritten { IsErrOf result AddFault.NotLegal → needs_repair journal.new ≡ false }
     ensures failed { IsErrOf result AddFault.DiskFault → Rose (on_disk journal.old) (on_disk journal.new) }
 {
-    let Some(bytes) = bytes_of(alloc, &delta)? else {
-        return Err(AddFault::NotLegal);
-    };
+    match bytes_of(alloc, &delta)? {
+        None => Err(AddFault::NotLegal),
+        Some(bytes) => store_as(alloc, wavelet, journal, delta, &bytes),
+    }
+}
+
+// So it is, where these are its bytes.
+fn store_as<K: Disk>(
+    alloc: Global,
+    wavelet: &mut CachedHistory,
+    journal: &mut Journal<K>,
+    delta: AppliedDelta,
+    bytes: &[u8],
+) -> Result<(), AddFault>
+    requires whole { needs_repair journal.old ≡ false }
+    requires starts { delta.from ≡ (head_of wavelet.old).at }
+    requires spells { bytes.now ≡ delta_bytes delta }
+    requires is { IsDelta delta }
+    ensures grown { OnOk result (IsGrown wavelet.old delta wavelet.new) }
+    ensures same { OnErr result (IsSameHistory wavelet.old wavelet.new) }
+    ensures refused { IsErrOf result AddFault.NotLegal → IsLegal wavelet.old.name (wavelet.old.deltas ++ delta ∷ []) → ⊥ }
+    ensures moved { (added : Option DeltaOf) → (IsNext wavelet.old.name wavelet.old.deltas delta → added ≡ Some delta) → IsMoved wavelet.old wavelet.new journal.old journal.new added }
+    ensures done { OnOk result (needs_repair journal.new ≡ false) }
+    ensures unwritten { IsErrOf result AddFault.NotLegal → needs_repair journal.new ≡ false }
+    ensures failed { IsErrOf result AddFault.DiskFault → Rose (on_disk journal.old) (on_disk journal.new) }
+{
     let ready = prepared(alloc, wavelet, delta)?;
-    append(alloc, journal, &bytes)?;
+    append(alloc, journal, bytes)?;
     wavelet.commit(ready);
     Ok(())
 }
