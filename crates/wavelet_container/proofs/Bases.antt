@@ -5,8 +5,10 @@
 --     opened, based        what is left to test once the id is new, and once the author may write
 --     not_found, found     no delta ends at a version; one does
 --     started_cut          the place of a point among the deltas
+--     hash_turned          the test of hashes, the other way round
 --     is_base, is_other    the hash there is that of the submission, or another
-use Rattle.std.proofs.Common.{◌≡◌, ℕ, suc, ◌+◌, ◌<◌, ◌≤◌, Bool, true, false, cond, nat_lt, List, [], ◌∷◌, ◌++◌, length, take, drop, Option, Some, None, IsSome, refl, sym, ap, subst, ◌∙◌, arith, option_and_then}
+use Rattle.std.proofs.Common.{◌≡◌, ℕ, suc, ◌+◌, ◌<◌, ◌≤◌, Bool, true, false, cond, nat_lt, List, [], ◌∷◌, ◌++◌, length, take, drop, Option, Some, None, IsSome, true≢false, refl, sym, ap, subst, ◌∙◌, arith, option_and_then}
+use Rattle.std.specs.Cmp.Lexicographic.{bytes_decides}
 use Rattle.std.specs.Option.{option_map}
 use Rattle.std.proofs.lemmas.Bool.Decides.{nat_tests}
 use Rattle.std.proofs.lemmas.List.{take_at, drop_at, length-append, take-append-drop}
@@ -87,6 +89,13 @@ is_other h s host m e differs t =
     based h s t m ∙ ap (judge_base s t (head_of h)) f.found
     ∙ ap (judge_hash s t (head_of h) f.base f.since) (ap (same_hash s.at.hash) f.hash ∙ differs)
     ∙ ap (λ z. (WrongHash z, None)) f.hash
+
+pub hash_turned : (a b : List ℕ) → same_hash a b ≡ false → same_hash b a ≡ false
+hash_turned a b e = go (same_hash b a) refl
+  where
+    go : (c : Bool) → same_hash b a ≡ c → c ≡ false
+    go false f = refl
+    go true f = absurd (true≢false (sym ((bytes_decides a b).1 (sym ((bytes_decides b a).0 f))) ∙ e))
 
 -- ---- the place
 

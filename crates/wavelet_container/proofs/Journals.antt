@@ -41,7 +41,7 @@ sure_none j e = sure_none_at j.stage e
 
 -- ---- files
 
-spelled_more : (ds : List DeltaOf) (d : DeltaOf) → AllByRecursion IsDelta ds → IsDelta d → AllByRecursion IsDelta (ds ++ d ∷ [])
+pub spelled_more : (ds : List DeltaOf) (d : DeltaOf) → AllByRecursion IsDelta ds → IsDelta d → AllByRecursion IsDelta (ds ++ d ∷ [])
 spelled_more [] d s is = (is, tt)
 spelled_more (e ∷ ds) d s is = (s.0, spelled_more ds d s.1 is)
 
@@ -77,6 +77,9 @@ follows_none left added before d none (inl one) = absurd (no_cons (sym none ∙ 
     no_cons : {x : List ℕ} {xs : List (List ℕ)} → [] ≡ x ∷ xs → ⊥
     no_cons e = cc
 follows_none left added before d none (inr is) = inr is
+
+pub grown_from : (g m h : HistoryOf) (x d : DeltaOf) → IsSameHistory g m → IsGrown m x h → x ≡ d → IsGrown g d h
+grown_from g m h x d same grown is = record { name = grown.name ∙ same.name; deltas = grown.deltas ∙ (λ i. same.deltas i ++ is i ∷ []) }
 
 module _ {K : Type 0} {disk : Ghosts K} where
   pub sure_images : (h : HistoryOf) (j : Journal K disk) → IsStored h j → needs_repair j ≡ false → (c : List ℕ) → (on_disk j).may_leave c → StandsForHistory h.name h.deltas c

@@ -5,6 +5,7 @@
 --     unread               bytes of no delta
 --     not_next             bytes of a delta that can't be next
 --     gate_at              where the gate of a record stands
+--     pushed_records, pushed_spelled     a record more
 --     illegal_at           the first record that isn't a next delta
 use Rattle.std.proofs.Common.{◌≡◌, ◌⊎◌, inl, inr, ◌^◌, ◌<◌, ℕ, zero, suc, ◌+◌, ◌≤◌, List, [], ◌∷◌, ◌++◌, length, take, drop, get_or, map, Option, Some, None, Ok, Err, refl, sym, ap, subst, ◌∙◌, arith, append_assoc, append-nil, length-append, Result}
 use Rattle.std.specs.List.{AllByRecursion}
@@ -23,7 +24,8 @@ use Rattle.delta_journal.specs.File.{StandsFor, IsDamaged, blocks, framed, heade
 use Rattle.delta_journal.specs.Stored.{bytes_of, StandFrom}
 use Rattle.delta_journal.specs.declared.stored.Stored.{Stored}
 use Rattle.delta_journal.proofs.Once.{means_once}
-use Rattle.wavelet_container.specs.Loads.{IsRead}
+use Rattle.wavelet_container.specs.Loads.{IsRead, IsPushed}
+use Rattle.wavelet_container.proofs.Journals.{spelled_more, records_more}
 use Rattle.wavelet_container.specs.Records.{records_of, StandsForHistory, IsIllegal, HasIllegal, IsDamagedHistory, HistoryIsOne, HistoryIsWhole}
 
 pub bytes_once : (a b : DeltaOf) → IsDelta a → IsDelta b → delta_bytes a ≡ delta_bytes b → a.from.hash ≡ b.from.hash → a ≡ b
@@ -158,3 +160,10 @@ illegal_at name front records k one stand inside is same l s illegal =
       illegal = illegal;
       gate = omega (arith, gate, long, same_blocks);
     }
+
+pub pushed_records : (h g : HistoryOf) (bytes : List ℕ) (k : ℕ) (records : List Stored) (one : Stored) → IsPushed h bytes g → bytes ≡ one.bytes → k < length records → one ≡ get_or records k one → records_of h.deltas ≡ bytes_of (take k records) → records_of g.deltas ≡ bytes_of (take (k + 1) records)
+pushed_records h g bytes k records one p same inside is before =
+    ap records_of p.grown.deltas ∙ records_more h.deltas p.delta ∙ (λ i. before i ++ (sym p.read.spells ∙ same) i ∷ []) ∙ sym (bytes_more k records one inside is)
+
+pub pushed_spelled : (h g : HistoryOf) (bytes : List ℕ) → IsPushed h bytes g → AllByRecursion IsDelta h.deltas → AllByRecursion IsDelta g.deltas
+pushed_spelled h g bytes p s = subst (λ ds. AllByRecursion IsDelta ds) (sym p.grown.deltas) (spelled_more h.deltas p.delta s p.read.is)

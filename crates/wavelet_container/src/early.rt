@@ -1,8 +1,10 @@
 // What is tested of a submission before its operations are looked at.
-ghost use Rattle.std.specs.Prelude.{◌≡◌, ◌≤◌, nat_lt, length};
+ghost use Rattle.std.specs.Prelude.{◌≡◌, ◌≤◌, nat_lt, length, None};
 ghost use Rattle.wavelet_op.specs.Acts.{meanings};
 ghost use Rattle.delta_history.specs.Histories.{head_of};
 ghost use Rattle.delta_history.specs.Legal.{adds_first, standing};
+ghost use Rattle.delta_history.specs.Points.{start};
+ghost use Rattle.delta_history.specs.Verdicts.{kept};
 ghost use Rattle.delta_history.specs.Places.{started_below, IsRisingFrom};
 ghost use Rattle.wavelet_container.specs.Decisions.{IsTested, MayWrite};
 
@@ -24,12 +26,21 @@ pub(crate) enum Tested {
 pub(crate) fn test(history: &History, submission: &Submission) -> Tested
     ensures { IsTested history.now submission.now result }
 {
-    if let Some(kept) = history.kept(&submission.id) {
-        return Tested::Told(Verdict::Ack {
+    match history.kept(&submission.id) {
+        Some(kept) => Tested::Told(Verdict::Ack {
             at: kept.at,
             to: kept.to,
-        });
+        }),
+        None => test_author(history, submission),
     }
+}
+
+// The tests of its author and of its version, where its id is new.
+fn test_author(history: &History, submission: &Submission) -> Tested
+    requires { kept submission.now.id (start history.now.name) history.now.deltas ≡ None }
+    ensures { IsTested history.now submission.now result }
+{
+    let _deltas = history.deltas();
     match standing(history, &submission.id.author, &submission.ops) {
         None => Tested::Told(Verdict::NotParticipant),
         Some(Role::ReadOnly) => Tested::Told(Verdict::ReadOnly),

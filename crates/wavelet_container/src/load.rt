@@ -11,7 +11,7 @@ ghost use Rattle.delta_journal.specs.Journal.{IsJournal, disk_of, on_disk, needs
 ghost use Rattle.delta_journal.specs.Stored.{bytes_of, StandFrom};
 ghost use Rattle.wavelet_container.specs.Containers.{history_of, journal_of, IsHeld};
 ghost use Rattle.wavelet_container.specs.Records.{records_of, StandsForHistory, IsDamagedHistory, HasIllegal, IsIllegal};
-ghost use Rattle.wavelet_container.specs.Loads.{IsRead, IsPushed};
+ghost use Rattle.wavelet_container.specs.Loads.{IsRead, IsPushed, IsContained, IsTurnedDown};
 
 use crate::cached::CachedHistory;
 use crate::{Container, LoadFault};
@@ -99,14 +99,8 @@ fn contained<K: Disk>(
     loaded: Loaded<K>,
 ) -> Result<Container<K>, LoadRefused<K>>
     requires gates { StandFrom (length (1 ∷ header name)) loaded.records }
-    ensures name { IfOk result (λ c. (history_of c).name ≡ name) }
-    ensures records { IfOk result (λ c. records_of (history_of c).deltas ≡ bytes_of loaded.records) }
-    ensures legal { IfOk result (λ c. IsLegal name (history_of c).deltas) }
-    ensures spelled { IfOk result (λ c. AllByRecursion IsDelta (history_of c).deltas) }
-    ensures journal { IfOk result (λ c. journal_of c ≡ Some loaded.journal) }
-    ensures damaged { IfErr result (λ r. (offset : ℕ) → r.fault ≡ LoadFault.Damaged offset → HasIllegal name offset (bytes_of loaded.records)) }
-    ensures no_disk { IfErr result (λ r. r.fault ≡ LoadFault.DiskFault → ⊥) }
-    ensures disk { IfErr result (λ r. r.disk ≡ disk_of loaded.journal) }
+    ensures ok { IfOk result (λ c. IsContained name loaded c) }
+    ensures err { IfErr result (λ r. IsTurnedDown name loaded r) }
 {
     let Loaded { journal, records } = loaded;
     let mut history = History::new(alloc, name);
