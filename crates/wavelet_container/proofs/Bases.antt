@@ -1,6 +1,7 @@
 -- Where a submission was made.
 --     replay_states        the state behind deltas is that of the point behind them
 --     state_at_base        so it is behind the first k deltas of a history
+--     at_end               it is the one at the head behind all of them
 --     valid_all            the deltas of a legal history are valid in turn
 --     opened, based        what is left to test once the id is new, and once the author may write
 --     not_found, found     no delta ends at a version; one does
@@ -11,7 +12,7 @@ use Rattle.std.proofs.Common.{◌≡◌, ℕ, suc, ◌+◌, ◌<◌, ◌≤◌, 
 use Rattle.std.specs.Cmp.Lexicographic.{bytes_decides}
 use Rattle.std.specs.Option.{option_map}
 use Rattle.std.proofs.lemmas.Bool.Decides.{nat_tests}
-use Rattle.std.proofs.lemmas.List.{take_at, drop_at, length-append, take-append-drop}
+use Rattle.std.proofs.lemmas.List.{take_all, take_at, drop_at, length-append, take-append-drop}
 use Rattle.doc_op.proofs.Applying.{no_value, same_Some, mapped}
 use Rattle.wave_base.specs.Versions.{VersionAt}
 use Rattle.wavelet_op.specs.Acts.{meanings}
@@ -52,6 +53,11 @@ valid_all name ds l = subst IsSome (sym (replay_states (start name) _ ds (legal_
 
 pub valid_here : (name : List ℕ) (ds es : List DeltaOf) → es ≡ ds → IsLegal name ds → IsSome (run_all empty_state es)
 valid_here name ds es e l = subst (λ z. IsSome (run_all empty_state z)) (sym e) (valid_all name ds l)
+
+pub at_end : (h g : HistoryOf) (k : ℕ) (ds : List DeltaOf) (s t : State) → h ≡ g → ds ≡ h.deltas → IsLegal h.name h.deltas → k ≡ length ds → t ≡ (head_of h).state → s ≡ t → state_behind g.deltas k ≡ Some s
+at_end h g k ds s t same is l long head e =
+    let here : take k h.deltas ≡ h.deltas = take_all k h.deltas (let n = ap length is in omega (arith, n, long)) in
+    ap (λ (z : HistoryOf). state_behind z.deltas k) (sym same) ∙ ap (run_all empty_state) here ∙ replay_states (start h.name) (head_of h) h.deltas (legal_end h.name h.deltas l) ∙ ap Some (sym (e ∙ head))
 
 -- ---- the first tests
 

@@ -2,6 +2,7 @@
 --     invalid_told        operations that aren't valid at their base
 --     refused_is          the refusal, from what is found at the base
 --     no_room_told        the refusal where a bound is broken
+--     can_pass, decided   its operations can be passed to the head, and become a delta
 --     near_accepted       the delta may be next
 --     near_refused        it can't be
 use Rattle.std.proofs.Common.{◌≡◌, ◌⊎◌, inl, inr, ℕ, ◌+◌, ◌<◌, ◌≤◌, Bool, true, false, ◌&&◌, nat_le, min, List, [], ◌∷◌, ◌++◌, length, take, drop, Option, Some, None, IsSome, true≢false, refl, sym, ap, subst, ◌∙◌, arith, option_and_then}
@@ -33,8 +34,9 @@ use Rattle.delta_history.proofs.Points.{behind_point, replay_append, and_then_is
 use Rattle.delta_history.proofs.Pushes.{ready}
 use Rattle.state_cache.specs.States.{state_behind}
 use Rattle.wavelet_container.specs.Decisions.{judged, IsBase, IsInvalidAt, IsNear, IsRefusal, IsSubmitted, IsValidBelow, has_room, refusal}
-use Rattle.wavelet_container.specs.Passing.{Passes}
+use Rattle.wavelet_container.specs.Passing.{CanPass, Passes}
 use Rattle.wavelet_container.proofs.Bases.{state_at_base}
+use Rattle.wavelet_container.proofs.Sizes.{empty_small, replay_sized}
 use Rattle.wavelet_container.proofs.Ways.{spelled}
 
 -- ---- at the base
@@ -187,3 +189,35 @@ refused_valid h s t k d n never (Some u) e =
 
 pub near_refused : (h : HistoryOf) (s : Submission) (t k : ℕ) (d : DeltaOf) (v : Verdict) → IsNear h s t k d → (IsLegal h.name (h.deltas ++ d ∷ []) → ⊥) → IsRefusal h s k v → judged h s t ≡ (v, None)
 near_refused h s t k d v n never r = refused_valid h s t k d n never (run n.made.base.state (meanings s.ops)) refl ∙ ap (λ z. (z, None)) (sym (r n.made.base n.made.leads))
+
+-- ---- the way to the head
+
+pub can_pass : (h : HistoryOf) (s : Submission) (k : ℕ) (since : List DeltaOf) → IsLegal h.name h.deltas → IsBase h s k → IsValidBelow h s k → has_room h s.ops ≡ true → since ≡ drop k h.deltas → (since ≡ []) ⊎ CanPass (meanings s.ops) since
+can_pass h s k since l b valid room is = go (lt_or_le k (length h.deltas))
+  where
+    go : (k < length h.deltas) ⊎ (length h.deltas ≤ k) → (since ≡ []) ⊎ CanPass (meanings s.ops) since
+    go (inr at) = inl (is ∙ drop_all k h.deltas at)
+    go (inl below) =
+        let v = some_of _ (valid below b.base.state (state_at_base h k b.base b.leads)) in
+        let both = and_parts (nat_le ((head_of h).at.version + length s.ops) max_count) (nat_le ((head_of h).count + inserted (meanings s.ops)) max_inserted) room in
+        let held : (head_of h).count + inserted (meanings s.ops) ≤ max_inserted = true_le _ _ both.1 in
+        inr (record {
+          base = b.base;
+          end = head_of h;
+          leads = ap (replay b.base) is ∙ base_leads h k b.base l b.leads;
+          after = v.0;
+          valid = v.1;
+          small = replay_sized (start h.name) b.base (take k h.deltas) empty_small b.leads;
+          room = omega (arith, held);
+        })
+
+pub decided : (h : HistoryOf) (s : Submission) (t k : ℕ) (since : List DeltaOf) (ops : List WaveletOp) (d : DeltaOf) → IsLegal h.name h.deltas → is_count (length s.ops) ≡ true → IsBase h s k → IsValidBelow h s k → has_room h s.ops ≡ true → since ≡ drop k h.deltas → Passes (meanings s.ops) since ops → IsSubmitted h s t ops d → IsNear h s t k d
+decided h s t k since ops d l some b valid room is passes made = record {
+  made = b;
+  legal = l;
+  some_ops = some;
+  room = room;
+  valid = valid;
+  passed = subst (λ ds. Passes (meanings s.ops) ds d.ops) is (subst (λ o. Passes (meanings s.ops) since o) (sym made.ops_are) passes);
+  submitted = record { id = made.id; from = made.from; time = made.time; ops_are = refl };
+}

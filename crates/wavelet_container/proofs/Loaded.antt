@@ -5,9 +5,11 @@
 --     unread               bytes of no delta
 --     not_next             bytes of a delta that can't be next
 --     gate_at              where the gate of a record stands
+--     both_ways            what holds at each answer
+--     exact_of, held_of, again_ok, damaged_of, again_err, unread_damaged      what a container's answers say of the file
 --     pushed_records, pushed_spelled     a record more
 --     illegal_at           the first record that isn't a next delta
-use Rattle.std.proofs.Common.{◌≡◌, ◌⊎◌, inl, inr, ◌^◌, ◌<◌, ℕ, zero, suc, ◌+◌, ◌≤◌, List, [], ◌∷◌, ◌++◌, length, take, drop, get_or, map, Option, Some, None, Ok, Err, refl, sym, ap, subst, ◌∙◌, arith, append_assoc, append-nil, length-append, Result}
+use Rattle.std.proofs.Common.{◌≡◌, ◌⊎◌, inl, inr, ◌^◌, ◌<◌, ℕ, zero, suc, ◌+◌, ◌≤◌, List, [], ◌∷◌, ◌++◌, length, take, drop, get_or, map, Option, Some, None, Ok, Err, IfOk, IfErr, MatchResult, false, refl, sym, ap, subst, ◌∙◌, arith, append_assoc, append-nil, length-append, Result}
 use Rattle.std.specs.List.{AllByRecursion}
 use Rattle.std.proofs.lemmas.List.{drop_more, take_more}
 use Rattle.doc_op.proofs.Applying.{same_Some}
@@ -24,8 +26,15 @@ use Rattle.delta_journal.specs.File.{StandsFor, IsDamaged, blocks, framed, heade
 use Rattle.delta_journal.specs.Stored.{bytes_of, StandFrom}
 use Rattle.delta_journal.specs.declared.stored.Stored.{Stored}
 use Rattle.delta_journal.proofs.Once.{means_once}
-use Rattle.wavelet_container.specs.Loads.{IsRead, IsPushed}
-use Rattle.wavelet_container.proofs.Journals.{spelled_more, records_more}
+use Rattle.disk_model.specs.declared.disk.Disk.{Ghosts}
+use Rattle.delta_journal.specs.Journal.{IsJournal, needs_repair}
+use Rattle.delta_journal.specs.declared.load.Loaded.{Loaded}
+use Rattle.wavelet_container.specs.Containers.{history_of, IsHeld}
+use Rattle.wavelet_container.specs.declared.container.Container.{Container}
+use Rattle.wavelet_container.specs.declared.fault.LoadFault.TheVariants.{Damaged}
+use Rattle.wavelet_container.specs.declared.load.LoadRefused.{LoadRefused}
+use Rattle.wavelet_container.specs.Loads.{IsRead, IsPushed, IsContained, IsTurnedDown}
+use Rattle.wavelet_container.proofs.Journals.{spelled_more, records_more, sure_none}
 use Rattle.wavelet_container.specs.Records.{records_of, StandsForHistory, IsIllegal, HasIllegal, IsDamagedHistory, HistoryIsOne, HistoryIsWhole}
 
 pub bytes_once : (a b : DeltaOf) → IsDelta a → IsDelta b → delta_bytes a ≡ delta_bytes b → a.from.hash ≡ b.from.hash → a ≡ b
@@ -167,3 +176,46 @@ pushed_records h g bytes k records one p same inside is before =
 
 pub pushed_spelled : (h g : HistoryOf) (bytes : List ℕ) → IsPushed h bytes g → AllByRecursion IsDelta h.deltas → AllByRecursion IsDelta g.deltas
 pushed_spelled h g bytes p s = subst (λ ds. AllByRecursion IsDelta ds) (sym p.grown.deltas) (spelled_more h.deltas p.delta s p.read.is)
+
+-- ---- a container
+
+-- the answers of both arms
+pub both_ways : {A E : Type 0} (P : A → Type 0) (Q : E → Type 0) (r : Result A E) → IfOk r P → IfErr r Q → MatchResult r P Q
+both_ways P Q (Ok x) p q = p
+both_ways P Q (Err e) p q = q
+
+pub if_err_weaker : {A E : Type 0} (r : Result A E) (P Q : E → Type 0) → ((e : E) → P e → Q e) → IfErr r P → IfErr r Q
+if_err_weaker (Ok x) P Q f p = tt
+if_err_weaker (Err e) P Q f p = f e p
+
+module _ {K : Type 0} {disk : Ghosts K} (name text : List ℕ) (file : List ℕ) (loaded : Loaded K disk) (said : text ≡ name) where
+  pub exact_of : (c : Container K disk) → IsContained name loaded c → StandsFor text (bytes_of loaded.records) file → StandsForHistory name (history_of c).deltas file
+  exact_of c is stands = record {
+    stands = subst (λ r. StandsFor name r file) (sym is.records) (subst (λ n. StandsFor n (bytes_of loaded.records) file) said stands);
+    legal = is.legal;
+    spelled = is.spelled;
+  }
+
+  pub held_of : (c : Container K disk) → IsContained name loaded c → IsJournal text (bytes_of loaded.records) loaded.journal → needs_repair loaded.journal ≡ false → IsHeld c
+  held_of c is held sure = (
+    loaded.journal,
+    is.journal,
+    record {
+      held = subst (λ n. IsJournal n (records_of (history_of c).deltas) loaded.journal) (said ∙ sym is.named) (subst (λ r. IsJournal text r loaded.journal) (sym is.records) held);
+      legal = subst (λ n. IsLegal n (history_of c).deltas) (sym is.named) is.legal;
+      spelled = is.spelled;
+      pending = inl (sure_none loaded.journal sure);
+    },
+  )
+
+  pub again_ok : (c : Container K disk) (ds : List DeltaOf) → length file < 2 ^ 64 → IsContained name loaded c → StandsFor text (bytes_of loaded.records) file → StandsForHistory name ds file → (history_of c).deltas ≡ ds
+  again_ok c ds short is stands there = history_is_one name file (history_of c).deltas ds short (exact_of c is stands) there
+
+  pub damaged_of : (r : LoadRefused K) (offset : ℕ) → IsTurnedDown name loaded r → r.fault ≡ Damaged offset → StandsFor text (bytes_of loaded.records) file → IsDamagedHistory name offset file
+  damaged_of r offset down is stands = inr (bytes_of loaded.records, subst (λ n. StandsFor n (bytes_of loaded.records) file) said stands, down.damaged offset is)
+
+  pub again_err : (r : LoadRefused K) (ds : List DeltaOf) → length file < 2 ^ 64 → IsTurnedDown name loaded r → StandsFor text (bytes_of loaded.records) file → StandsForHistory name ds file → (offset : ℕ) → r.fault ≡ Damaged offset → ⊥
+  again_err r ds short down stands there offset is = history_is_whole name file ds offset short there (damaged_of r offset down is stands)
+
+pub unread_damaged : (name text file : List ℕ) (ds : List DeltaOf) (offset : ℕ) → text ≡ name → length file < 2 ^ 64 → IsDamaged text offset file → StandsForHistory name ds file → ⊥
+unread_damaged name text file ds offset said short damaged there = history_is_whole name file ds offset short there (inl (subst (λ n. IsDamaged n offset file) said damaged))

@@ -5,9 +5,9 @@
 --     past_is          what one delta makes of operations
 --     past_none, past_first      the way through no delta, and through a first one and the others
 --     spelled          operations in normal form are those of their acts
-use Rattle.std.proofs.Common.{◌≡◌, ℕ, ◌+◌, ◌≤◌, List, [], ◌∷◌, length, Option, Some, None, refl, sym, ap, subst, ◌∙◌, arith, option_and_then}
+use Rattle.std.proofs.Common.{◌≡◌, ℕ, ◌⊎◌, inl, inr, ◌+◌, ◌≤◌, ◌<◌, drop, get_or, List, [], ◌∷◌, length, Option, Some, None, refl, sym, ap, subst, ◌∙◌, arith, option_and_then}
 use Rattle.std.specs.List.{AllByRecursion}
-use Rattle.std.proofs.lemmas.List.{length-map}
+use Rattle.std.proofs.lemmas.List.{length-map, drop_more}
 use Rattle.std.proofs.lemmas.List.Elements.{recursion_from_All}
 use Rattle.doc_items.specs.Limits.{max_count}
 use Rattle.doc_op.proofs.Applying.{same_Some}
@@ -92,3 +92,13 @@ past_first ops o os d rest p r = record {
   normal = r.normal;
   long = r.long ∙ length-map o meaning ∙ p.long ∙ sym (length-map ops meaning);
 }
+
+pub at_delta : (since : List DeltaOf) (i : ℕ) (x : DeltaOf) → i < length since → x ≡ get_or since i x → drop i since ≡ x ∷ drop (i + 1) since
+at_delta since i x h e = drop_more since i x h ∙ ap (λ z. z ∷ drop (i + 1) since) (sym e)
+
+pub not_none : (acts : List Act) (since rest : List DeltaOf) (x : DeltaOf) → (since ≡ []) ⊎ CanPass acts since → since ≡ x ∷ rest → CanPass acts (x ∷ rest)
+not_none acts since rest x (inl none) e = absurd (no_cons (sym none ∙ e))
+  where
+    no_cons : {y : DeltaOf} {ys : List DeltaOf} → [] ≡ y ∷ ys → ⊥
+    no_cons q = cc
+not_none acts since rest x (inr can) e = subst (CanPass acts) e can

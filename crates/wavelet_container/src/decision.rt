@@ -89,6 +89,7 @@ impl CachedHistory {
         ensures decided { IfOk result (λ r. IsDecided self.old submission.now time r) }
         ensures same { self.new ≡ self.old }
     {
+        let _len = submission.ops.len();
         if !has_room(self.history(), &submission.ops) {
             let verdict = self.refuse(alloc, submission, place)?;
             return Ok(Decision::Told(verdict));

@@ -15,9 +15,16 @@ fn past(alloc: Global, ops: &Ops, earlier: &Ops) -> Result<Ops, Memory>
 {
     match transform_delta(alloc, ops, earlier) {
         Ok(pair) => Ok(pair.later),
-        Err(WaveletFault::Memory) => Err(AllocError),
-        Err(_) => unreachable!(),
+        Err(fault) => Err(memory(fault)),
     }
+}
+
+// A fault that can only be want of memory.
+fn memory(fault: WaveletFault) -> Memory
+    requires { fault ≡ WaveletFault.Memory }
+{
+    let _ = fault;
+    AllocError
 }
 
 /// The operations passed through deltas, in normal form. The error is want of memory.

@@ -10,8 +10,8 @@ transform_delta-requires-clause-later c = structured_run c.requires.state c.requ
 pub transform_delta-requires-clause-earlier : goal.transform_delta-requires-clause-earlier
 transform_delta-requires-clause-earlier c = structured_run c.requires.state c.requires.after_earlier (meanings c.args.earlier.now) c.requires.earlier_goes
 
-pub unreachable-requires : goal.unreachable-requires
-unreachable-requires c = let a = no_refusal (meanings c.args.ops.now) (meanings c.args.earlier.now) in ?
+pub memory-requires : goal.memory-requires
+memory-requires c = no_refusal (meanings c.args.ops.now) (meanings c.args.earlier.now) c.in-Err.fault c.requires c.in-Err.ensures.refused
 
 pub returns-in-Ok : goal.returns-in-Ok
 returns-in-Ok c = past_is c.args.ops.now c.args.earlier.now c.in-Ok.pair c.in-Ok.ensures.ok
