@@ -57,6 +57,9 @@ acknowledged g h s t k at d v n grown legal from is =
     let version : at ≡ (head_of g).at.version = from ∙ ap (λ (z : VersionAt). z.version) n.submitted.from in
     answered_by g h s t v (Ack (head_of g).at.version next.after.at, Some d) (near_accepted g s t k d n next) (is ∙ (λ i. Ack (version i) (head i).at)) grown
 
+pub accepted_is : (g : HistoryOf) (s : Submission) (t k : ℕ) (d : DeltaOf) → IsNear g s t k d → IsNext g.name g.deltas d → (judged g s t).1 ≡ Some d
+accepted_is g s t k d n next = ap (λ (j : Judged). j.1) (near_accepted g s t k d n next)
+
 -- ---- the same history with other room
 
 alike : (g h : HistoryOf) (s : Submission) (k : ℕ) → IsBase g s k → IsBase (record { name = g.name; deltas = g.deltas; spare = h.spare }) s k
