@@ -43,7 +43,7 @@ impl CachedHistory {
         ensures ok { IfOk result (λ v. IsAnswered self.old self.new submission.now time v) }
         ensures err { OnErr result (IsSameHistory self.old self.new) }
     {
-        let at = delta.from.version;
+        let at = version(&delta);
         match self.push_applied(alloc, delta) {
             Ok(()) => Ok(self.acknowledged(at)),
             Err(HistoryFault::NotLegal) => self.refuse(alloc, submission, place),
@@ -61,4 +61,11 @@ impl CachedHistory {
         let to = self.history().head();
         Verdict::Ack { at, to }
     }
+}
+
+/// The version at which a delta is applied.
+pub(crate) fn version(delta: &AppliedDelta) -> u64
+    ensures { result ≡ delta.now.from.version }
+{
+    delta.from.version
 }

@@ -14,6 +14,7 @@ ghost use Rattle.wavelet_container.specs.Stores.{IsAnswered, IsMoved};
 use crate::cached::CachedHistory;
 use crate::decision::Decision;
 use crate::fault::AddFault;
+use crate::plain::version;
 use crate::SubmitFault;
 use delta_history::{HistoryFault, Prepared};
 use delta_journal::{Journal, JournalFault};
@@ -147,7 +148,7 @@ fn answer<K: Disk>(
     ensures done { OnOk result (needs_repair journal.new ≡ false) }
     ensures failed { IsErrOf result SubmitFault.DiskFault → Rose (on_disk journal.old) (on_disk journal.new) }
 {
-    let at = delta.from.version;
+    let at = version(&delta);
     match store(alloc, wavelet, journal, delta) {
         Ok(()) => Ok(wavelet.acknowledged(at)),
         Err(AddFault::NotLegal) => refused(alloc, wavelet, submission, place),

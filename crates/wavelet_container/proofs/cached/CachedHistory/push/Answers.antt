@@ -5,11 +5,11 @@ use Rattle.wavelet_container.proofs.Outcomes.{acknowledged, base_moved, turned_d
 use Rattle.wavelet_container.proofs.cached.CachedHistory.push.Goals as goal
 
 pub refuse-requires : goal.refuse-requires
-refuse-requires c = base_moved c.args.self.now c.push_applied.new.self c.args.submission.now c.args.place c.in-Err-NotLegal.ensures.same c.requires.made
+refuse-requires c = record { base = base_moved c.args.self.now c.push_applied.new.self c.args.submission.now c.args.place c.in-Err-NotLegal.ensures.same c.requires.made }
 
 pub returns-in-Ok-clause-ok : goal.returns-in-Ok-clause-ok
 returns-in-Ok-clause-ok c =
-    acknowledged c.args.self.now c.push_applied.new.self c.args.submission.now c.args.time c.args.place _ c.args.delta c.acknowledged.result c.requires c.in-Ok.ensures.ok c.acknowledged.ensures.legal ? c.acknowledged.ensures.is
+    acknowledged c.args.self.now c.push_applied.new.self c.args.submission.now c.args.time c.args.place c.version-at.result c.args.delta c.acknowledged.result c.requires c.in-Ok.ensures.ok c.acknowledged.ensures.legal c.version-at.ensures c.acknowledged.ensures.is
 
 pub returns-in-Err-NotLegal-clause-ok : goal.returns-in-Err-NotLegal-clause-ok
 returns-in-Err-NotLegal-clause-ok c =
