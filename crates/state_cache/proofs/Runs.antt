@@ -2,7 +2,7 @@
 --     run_all_append      of two parts of a list the second goes on where the first leads
 --     split                  so both parts of valid deltas are valid
 --     stretch_valid, stretch_leads      a stretch of them, behind a front
-use Rattle.std.proofs.Common.{◌≡◌, ℕ, zero, suc, ◌+◌, List, [], ◌∷◌, ◌++◌, take, drop, Option, Some, None, IsSome, true≢false, refl, sym, ap, subst, ◌∙◌, option_and_then}
+use Rattle.std.proofs.Common.{◌≡◌, ℕ, ◌+◌, List, [], ◌∷◌, ◌++◌, take, drop, Option, Some, None, IsSome, true≢false, refl, sym, ap, subst, ◌∙◌, option_and_then}
 use Rattle.std.proofs.Math.Seq.{take-add}
 use Rattle.std.proofs.lemmas.List.{take-append-drop}
 use Rattle.doc_op.proofs.Applying.{same_Some}
@@ -36,8 +36,8 @@ split s xs ys h =
 pub stretch_valid : (ds : List DeltaOf) (n m : ℕ) (s : State) → IsSome (run_all empty_state ds) → state_behind ds n ≡ Some s → IsSome (run_all s (take m (drop n ds)))
 stretch_valid ds n m s h e =
     let front : IsSome (run_all empty_state (take (n + m) ds)) = (
-      let a = split empty_state (take (n + m) ds) (drop (n + m) ds) (subst (λ z. IsSome (run_all empty_state z)) (sym (take-append-drop (n + m) ds)) h) in
-      subst IsSome (sym a.leads) refl
+    let a = split empty_state (take (n + m) ds) (drop (n + m) ds) (subst (λ z. IsSome (run_all empty_state z)) (sym (take-append-drop (n + m) ds)) h) in
+    subst IsSome (sym a.leads) refl
     ) in
     let b = split empty_state (take n ds) (take m (drop n ds)) (subst (λ z. IsSome (run_all empty_state z)) (take-add n m ds) front) in
     subst (λ z. IsSome (run_all z (take m (drop n ds)))) (same_Some (sym b.leads ∙ e)) b.rest

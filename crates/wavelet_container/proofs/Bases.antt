@@ -136,7 +136,7 @@ is_base h s host m e is same =
     let whole : c.before ++ f.since ≡ h.deltas = c.whole in
     let legal : IsLegalFrom h.name [] (c.before ++ f.since) = subst (λ z. IsLegalFrom h.name [] z) (sym whole) m.legal in
     let place : started_below s.at.version h.deltas ≡ length c.before =
-        ap (started_below s.at.version) (sym whole) ∙ ap (λ v. started_below v (c.before ++ f.since)) (sym c.version) ∙ started_from h.name [] c.before f.since (start h.name) f.base legal refl c.leads in
+    ap (started_below s.at.version) (sym whole) ∙ ap (λ v. started_below v (c.before ++ f.since)) (sym c.version) ∙ started_from h.name [] c.before f.since (start h.name) f.base legal refl c.leads in
     let long : length h.deltas ≡ length c.before + length f.since = ap length (sym whole) ∙ length-append c.before f.since in
     let front : take (started_below s.at.version h.deltas) h.deltas ≡ c.before = (λ i. take (place i) (sym whole i)) ∙ take_at c.before f.since (length c.before) refl in
     let back : drop (started_below s.at.version h.deltas) h.deltas ≡ f.since = (λ i. drop (place i) (sym whole i)) ∙ drop_at c.before f.since (length c.before) refl in

@@ -106,9 +106,7 @@ impl<K: Disk> Container<K> {
         ensures disk { IsErrOf result SubmitFault.DiskFault → IsSome (journal_of self.old) }
     {
         match &mut self.journal {
-            Some(journal) => {
-                submit_stored(alloc, &mut self.wavelet, journal, submission, time)
-            }
+            Some(journal) => { submit_stored(alloc, &mut self.wavelet, journal, submission, time) }
             None => Ok(self.wavelet.submit(alloc, submission, time)?),
         }
     }

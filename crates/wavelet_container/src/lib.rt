@@ -7,6 +7,7 @@ mod container;
 mod decision;
 mod early;
 mod fault;
+mod laws;
 mod load;
 mod passing;
 mod plain;
@@ -14,4 +15,5 @@ mod stored;
 
 pub use container::Container;
 pub use fault::{LoadFault, SubmitFault};
+pub use laws::stored_history_is_one;
 pub use load::LoadRefused;

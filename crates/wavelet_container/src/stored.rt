@@ -11,11 +11,11 @@ ghost use Rattle.delta_journal.specs.Journal.{IsJournal, WhereHeld, on_disk, lef
 ghost use Rattle.wavelet_container.specs.Decisions.{judged, IsBase, IsNear, IsRefusal};
 ghost use Rattle.wavelet_container.specs.Stores.{IsAnswered, IsMoved};
 
+use crate::SubmitFault;
 use crate::cached::CachedHistory;
 use crate::decision::Decision;
 use crate::fault::AddFault;
 use crate::plain::version;
-use crate::SubmitFault;
 use delta_history::{HistoryFault, Prepared};
 use delta_journal::{Journal, JournalFault};
 use disk_model::Disk;

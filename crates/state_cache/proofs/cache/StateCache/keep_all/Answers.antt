@@ -1,4 +1,4 @@
-use Rattle.std.proofs.Common.{◌≡◌, refl, sym, ap, ◌∙◌, arith, le_refl, length}
+use Rattle.std.proofs.Common.{sym, ap, ◌∙◌, le_refl, length}
 use Rattle.std.proofs.lemmas.List.{take_all}
 use Rattle.state_cache.proofs.Caches.{begun_kept, begun_long}
 use Rattle.state_cache.proofs.cache.StateCache.keep_all.Goals as goal

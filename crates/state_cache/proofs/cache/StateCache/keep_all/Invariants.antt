@@ -1,4 +1,4 @@
-use Rattle.std.proofs.Common.{◌≡◌, ◌≤◌, ◌<◌, ◌+◌, ◌*◌, ◌/◌, length, take}
+use Rattle.std.proofs.Common.{◌≡◌, ◌≤◌, ◌<◌, length, take}
 use Rattle.state_cache.specs.States.{AreKept}
 use Rattle.state_cache.proofs.cache.StateCache.keep_all.Given as goal
 

@@ -1,6 +1,5 @@
-use Rattle.std.proofs.Common.{rules, ◌≡◌, ◌+◌, ◌*◌, ◌-◌, ◌<◌, ◌++◌, ◌∷◌, [], Some, refl, sym, ap, subst, ◌∙◌, arith, length, List, take, drop}
-use Rattle.wavelet_op.specs.States.{State}
-use Rattle.state_cache.specs.States.{AreKept, run_all, state_behind}
+use Rattle.std.proofs.Common.{rules, ◌≡◌, ◌+◌, ◌*◌, ◌-◌, ◌++◌, ◌∷◌, [], sym, ap, subst, ◌∙◌, arith, length}
+use Rattle.state_cache.specs.States.{AreKept, state_behind}
 use Rattle.state_cache.proofs.Runs.{stretch_valid, stretch_leads}
 use Rattle.state_cache.proofs.Caches.{looked_up, kept_more}
 use Rattle.state_cache.proofs.cache.StateCache.keep_next.Goals as goal

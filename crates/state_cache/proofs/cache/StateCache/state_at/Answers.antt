@@ -1,4 +1,4 @@
-use Rattle.std.proofs.Common.{rules, ◌≡◌, ◌+◌, ◌*◌, ◌-◌, ◌/◌, ◌<◌, ◌≤◌, Some, sym, ap, subst, ◌∙◌, arith, length}
+use Rattle.std.proofs.Common.{rules, ◌≡◌, ◌+◌, ◌*◌, ◌-◌, ◌/◌, sym, ap, ◌∙◌, arith}
 use Rattle.state_cache.specs.States.{state_behind}
 use Rattle.state_cache.proofs.Runs.{stretch_valid, stretch_leads}
 use Rattle.state_cache.proofs.Caches.{looked_up}
