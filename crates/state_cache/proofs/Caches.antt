@@ -9,7 +9,8 @@ use Rattle.std.proofs.lemmas.Option.{slice_get_within, slice_get_read}
 use Rattle.doc_op.proofs.Applying.{same_Some, no_value}
 use Rattle.wavelet_op.specs.Deltas.{DeltaOf}
 use Rattle.wavelet_op.specs.States.{State, empty_state}
-use Rattle.state_cache.specs.States.{run_all, state_behind, AreKept, IsCacheOf, IsBegun}
+use Rattle.delta_history.specs.Points.{run_all}
+use Rattle.state_cache.specs.States.{state_behind, AreKept, IsCacheOf, IsBegun}
 
 pub begun_kept : (ds : List DeltaOf) (states : List State) → IsBegun ds states → AreKept ds states
 begun_kept ds states b k s at =

@@ -10,7 +10,8 @@ use Rattle.wavelet_op.specs.Acts.{meanings}
 use Rattle.wavelet_op.specs.Deltas.{DeltaOf}
 use Rattle.wavelet_op.specs.States.{State, empty_state, run}
 use Rattle.wavelet_op.proofs.Partial.{and_then_some, and_then_same, and_then_twice}
-use Rattle.state_cache.specs.States.{run_all, state_behind}
+use Rattle.delta_history.specs.Points.{run_all}
+use Rattle.state_cache.specs.States.{state_behind}
 
 pub run_all_append : (s : State) (xs ys : List DeltaOf) → run_all s (xs ++ ys) ≡ option_and_then (λ t. run_all t ys) (run_all s xs)
 run_all_append s [] ys = refl

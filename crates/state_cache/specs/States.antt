@@ -1,17 +1,12 @@
 -- The states behind the deltas of a history, and those of them that are kept.
---     run_all s ds           the state behind deltas in turn, where each of them is valid
 --     state_behind ds n      the state behind the first n deltas, from the state without anything on
 --     AreKept ds states      the k-th of the states is the one behind the first 64 k deltas
 --     IsCacheOf ds states    these are the states behind 0, 64, 128 and so on of the deltas
 --     IsBegun ds states      so they are of deltas with which these ones begin
-use Rattle.std.specs.Prelude.{◌≡◌, ℕ, ◌+◌, ◌*◌, ◌<◌, ◌≤◌, List, [], ◌∷◌, ◌++◌, length, take, slice_get, Option, Some, option_and_then}
-use Rattle.wavelet_op.specs.Acts.{meanings}
+use Rattle.std.specs.Prelude.{◌≡◌, ℕ, ◌+◌, ◌*◌, ◌<◌, ◌≤◌, List, ◌++◌, length, take, slice_get, Option, Some}
 use Rattle.wavelet_op.specs.Deltas.{DeltaOf}
-use Rattle.wavelet_op.specs.States.{State, empty_state, run}
-
-abbrev pub run_all : State → List DeltaOf → Option State
-run_all s [] = Some s
-run_all s (d ∷ ds) = option_and_then (λ t. run_all t ds) (run s (meanings d.ops))
+use Rattle.wavelet_op.specs.States.{State, empty_state}
+use Rattle.delta_history.specs.Points.{run_all}
 
 abbrev pub state_behind : List DeltaOf → ℕ → Option State
 state_behind ds n = run_all empty_state (take n ds)

@@ -2,7 +2,8 @@
 ghost use Rattle.std.specs.Prelude.{◌≡◌, ◌+◌, ◌*◌, ◌<◌, ◌≤◌, ◌++◌, ◌∷◌, [], length, take, Some, IsSome, IfOk, OnOk, OnErr};
 ghost use Rattle.wavelet_op.specs.Acts.{meanings};
 ghost use Rattle.wavelet_op.specs.States.{empty_state, run};
-ghost use Rattle.state_cache.specs.States.{run_all, state_behind, AreKept, IsCacheOf, IsBegun};
+ghost use Rattle.delta_history.specs.Points.{run_all};
+ghost use Rattle.state_cache.specs.States.{state_behind, AreKept, IsCacheOf, IsBegun};
 
 use crate::Steps;
 use doc_items::Memory;

@@ -1,5 +1,4 @@
 -- Where a submission was made.
---     replay_states        the state behind deltas is that of the point behind them
 --     state_at_base        so it is behind the first k deltas of a history
 --     at_end               it is the one at the head behind all of them
 --     valid_all            the deltas of a legal history are valid in turn
@@ -30,26 +29,19 @@ use Rattle.delta_history.specs.Verdicts.{kept, same_hash, judge_kept, judge_head
 use Rattle.delta_history.proofs.Chains.{some_ops, starts_at, goes_from}
 use Rattle.delta_history.proofs.Finding.{legal_end}
 use Rattle.delta_history.proofs.Keeping.{kept_there}
-use Rattle.delta_history.proofs.Points.{behind_point, replay_more, rises}
+use Rattle.delta_history.proofs.Points.{behind_point, replay_more, rises, run_some}
 use Rattle.delta_history.proofs.Versions.{IsCut, cut_is}
-use Rattle.state_cache.specs.States.{run_all, state_behind}
+use Rattle.delta_history.specs.Points.{run_all}
+use Rattle.state_cache.specs.States.{state_behind}
 use Rattle.wavelet_container.specs.Decisions.{judged, MayWrite, IsBase}
 
 -- ---- states
 
-pub replay_states : (p q : Point) (ds : List DeltaOf) → replay p ds ≡ Some q → run_all p.state ds ≡ Some q.state
-replay_states p q [] e = ap (λ (z : Point). Some z.state) (same_Some e)
-replay_states p q (d ∷ ds) e =
-    let m = and_then_some (next_point p d) (λ z. replay z ds) q e in
-    let b = behind_point p m.0 d m.1 in
-    let rest = replay_states m.0 q ds m.2 in
-    ap (option_and_then (λ t. run_all t ds)) b.goes ∙ ap (λ t. run_all t ds) (sym b.same) ∙ rest
-
 pub state_at_base : (h : HistoryOf) (k : ℕ) (p : Point) → replay (start h.name) (take k h.deltas) ≡ Some p → state_behind h.deltas k ≡ Some p.state
-state_at_base h k p e = replay_states (start h.name) p (take k h.deltas) e
+state_at_base h k p e = run_some (start h.name) p (take k h.deltas) e
 
 pub valid_all : (name : List ℕ) (ds : List DeltaOf) → IsLegal name ds → IsSome (run_all empty_state ds)
-valid_all name ds l = subst IsSome (sym (replay_states (start name) _ ds (legal_end name ds l))) refl
+valid_all name ds l = subst IsSome (sym (run_some (start name) _ ds (legal_end name ds l))) refl
 
 pub valid_here : (name : List ℕ) (ds es : List DeltaOf) → es ≡ ds → IsLegal name ds → IsSome (run_all empty_state es)
 valid_here name ds es e l = subst (λ z. IsSome (run_all empty_state z)) (sym e) (valid_all name ds l)
@@ -57,7 +49,7 @@ valid_here name ds es e l = subst (λ z. IsSome (run_all empty_state z)) (sym e)
 pub at_end : (h g : HistoryOf) (k : ℕ) (ds : List DeltaOf) (s t : State) → h ≡ g → ds ≡ h.deltas → IsLegal h.name h.deltas → k ≡ length ds → t ≡ (head_of h).state → s ≡ t → state_behind g.deltas k ≡ Some s
 at_end h g k ds s t same is l long head e =
     let here : take k h.deltas ≡ h.deltas = take_all k h.deltas (let n = ap length is in omega (arith, n, long)) in
-    ap (λ (z : HistoryOf). state_behind z.deltas k) (sym same) ∙ ap (run_all empty_state) here ∙ replay_states (start h.name) (head_of h) h.deltas (legal_end h.name h.deltas l) ∙ ap Some (sym (e ∙ head))
+    ap (λ (z : HistoryOf). state_behind z.deltas k) (sym same) ∙ ap (run_all empty_state) here ∙ run_some (start h.name) (head_of h) h.deltas (legal_end h.name h.deltas l) ∙ ap Some (sym (e ∙ head))
 
 -- ---- the first tests
 

@@ -23,7 +23,8 @@ use Rattle.wavelet_op.specs.declared.verdict.Verdict.{Verdict}
 use Rattle.wavelet_op.specs.declared.verdict.Verdict.TheVariants.{Ack, Invalid, Full}
 use Rattle.wavelet_codec.specs.Spelling.{delta_bytes}
 use Rattle.delta_history.specs.Histories.{HistoryOf, head_of}
-use Rattle.delta_history.specs.Legal.{has_id, max_inserted, max_delta, standing, may_write, IsNext, IsLegal}
+use Rattle.wavelet_state.specs.Snapshots.{max_inserted}
+use Rattle.delta_history.specs.Legal.{has_id, max_delta, standing, may_write, IsNext, IsLegal}
 use Rattle.delta_history.specs.Passing.{all_acts}
 use Rattle.delta_history.specs.Points.{Point, start, acts_of, next_point, replay, end_of}
 use Rattle.delta_history.specs.Pushes.{IsAsked}

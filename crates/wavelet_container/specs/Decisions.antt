@@ -20,7 +20,8 @@ use Rattle.wavelet_op.specs.declared.role.Role.TheVariants as role
 use Rattle.wavelet_op.specs.declared.verdict.Verdict.{Verdict}
 use Rattle.wavelet_op.specs.declared.verdict.Verdict.TheVariants.{Invalid, Full}
 use Rattle.delta_history.specs.Histories.{HistoryOf, head_of}
-use Rattle.delta_history.specs.Legal.{has_id, max_inserted, standing, may_write, IsLegal}
+use Rattle.wavelet_state.specs.Snapshots.{max_inserted}
+use Rattle.delta_history.specs.Legal.{has_id, standing, may_write, IsLegal}
 use Rattle.delta_history.specs.Points.{Point, start, replay}
 use Rattle.delta_history.specs.Verdicts.{kept, Judged, judge, judge_ops}
 use Rattle.state_cache.specs.States.{state_behind}

@@ -5,7 +5,8 @@ ghost use Rattle.wavelet_op.specs.States.{empty_state};
 ghost use Rattle.delta_history.specs.Histories.{IsSameHistory, IsGrown};
 ghost use Rattle.delta_history.specs.Legal.{IsLegal};
 ghost use Rattle.delta_history.specs.Pushes.{IsReady, IsRefused};
-ghost use Rattle.state_cache.specs.States.{run_all, state_behind, IsBegun, IsCacheOf};
+ghost use Rattle.delta_history.specs.Points.{run_all};
+ghost use Rattle.state_cache.specs.States.{state_behind, IsBegun, IsCacheOf};
 
 use delta_history::{History, HistoryFault, Prepared};
 use doc_items::Memory;
@@ -86,7 +87,8 @@ impl CachedHistory {
 
     /// The delta, prepared as by `History::prepare`.
     pub fn prepare(&mut self, alloc: Global, delta: AppliedDelta) -> Result<Prepared, HistoryFault>
-        ensures ok { IfOk result (λ p. (p.delta ≡ delta) × IsReady self.old delta (record { at = p.step.to; state = p.state; count = p.step.inserted })) }
+        ensures delta { IfOk result (λ p. p.delta ≡ delta) }
+        ensures ready { IfOk result (λ p. IsReady self.old delta p.after) }
         ensures room { OnOk result (0 < self.new.spare) }
         ensures refused { IfErr result (IsRefused self.old delta) }
         ensures same { IsSameHistory self.old self.new }
@@ -96,7 +98,7 @@ impl CachedHistory {
 
     /// The prepared delta is behind the others, with the conditions of `History::commit`.
     pub fn commit(&mut self, prepared: Prepared)
-        requires ready { IsReady self.old prepared.delta (record { at = prepared.step.to; state = prepared.state; count = prepared.step.inserted }) }
+        requires ready { IsReady self.old prepared.delta prepared.after }
         requires room { 0 < self.old.spare }
         ensures { IsGrown self.old prepared.delta self.new }
     {

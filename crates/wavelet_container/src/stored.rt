@@ -46,7 +46,8 @@ fn prepared(
     delta: AppliedDelta,
 ) -> Result<Prepared, AddFault>
     requires { delta.from ≡ (head_of wavelet.old).at }
-    ensures ok { IfOk result (λ p. (p.delta ≡ delta) × IsReady wavelet.old delta (record { at = p.step.to; state = p.state; count = p.step.inserted })) }
+    ensures delta { IfOk result (λ p. p.delta ≡ delta) }
+    ensures ready { IfOk result (λ p. IsReady wavelet.old delta p.after) }
     ensures room { OnOk result (0 < wavelet.new.spare) }
     ensures refused { IsErrOf result AddFault.NotLegal → IsLegal wavelet.old.name (wavelet.old.deltas ++ delta ∷ []) → ⊥ }
     ensures no_disk { IsErrOf result AddFault.DiskFault → ⊥ }

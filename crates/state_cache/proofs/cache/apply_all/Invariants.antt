@@ -1,5 +1,5 @@
 use Rattle.std.proofs.Common.{◌≡◌, drop}
-use Rattle.state_cache.specs.States.{run_all}
+use Rattle.delta_history.specs.Points.{run_all}
 use Rattle.state_cache.proofs.cache.apply_all.Given as goal
 
 abbrev pub invariant-loop-delta : goal.invariant-loop-delta
