@@ -27,7 +27,8 @@ fn first(alloc: Global) -> Result<Vec<u8>, Fail> {
 // A file with the first delta as each of so many records.
 fn file(alloc: Global, records: usize) -> Result<Vec<u8>, Fail> {
     let disk = MemoryDisk::new(alloc, Vec::new(alloc), Vec::new(alloc), None);
-    let mut journal = Journal::start(alloc, disk, "a.com/w1/a.com/conv+root")?;
+    let name = name(alloc)?;
+    let mut journal = Journal::start(alloc, disk, name.text())?;
     let bytes = first(alloc)?;
     for _ in 0..records {
         if !journal.needs_repair() {

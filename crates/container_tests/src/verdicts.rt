@@ -130,7 +130,11 @@ fn noop(alloc: Global, number: u64, at: HashedVersion) -> Result<Submission, Fai
 fn a_base_far_behind(rt: HostRuntime) -> Result<(), Fail> {
     let alloc = rt.alloc();
     let mut container: Container<MemoryDisk> = Container::new(alloc, name(alloc)?);
-    let told = answer(alloc, &mut container, &("alice@a.com", 1, 0, "add alice@a.com; b+1: +hi", ""))?;
+    let told = answer(
+        alloc,
+        &mut container,
+        &("alice@a.com", 1, 0, "add alice@a.com; b+1: +hi", ""),
+    )?;
     assert!(rt; told.as_str() == "ack 0 2");
     for number in 2..131u64 {
         let made = noop(alloc, number, container.history().head())?;
