@@ -1,27 +1,21 @@
 // Files that are no journals of a legal history. The first record's gate is at 37, and each record takes 96 bytes: a gate, eight bytes of
 // length, and the 87 bytes of the delta.
 use crate::verdicts::name;
+use delta_history::History;
 use delta_journal::Journal;
 use disk_model::MemoryDisk;
 use std::alloc::Global;
-use std::process::Abort;
 use std::test::Fail;
-use wave_base::HashedVersion;
-use wave_hash::zero_hash;
-use wavelet_codec::write_applied;
 use wavelet_container::{Container, LoadFault};
 use wavelet_words::delta_at;
 
 // The bytes of the first delta.
 fn first(alloc: Global) -> Result<Vec<u8>, Fail> {
-    let from = HashedVersion {
-        version: 0,
-        hash: zero_hash(&name(alloc)?),
-    };
-    let delta = delta_at(alloc, "alice@a.com", 1, from, "add alice@a.com; b+1: +hi")?;
-    let mut bytes = Vec::new(alloc);
-    write_applied(alloc, &delta, &mut bytes)?;
-    Ok(bytes)
+    let mut history = History::new(alloc, name(alloc)?);
+    let words = "add alice@a.com; b+1: +hi";
+    let delta = delta_at(alloc, "alice@a.com", 1, history.head(), words)?;
+    let prepared = history.prepare(alloc, delta)?;
+    Ok(prepared.bytes().to_vec(alloc)?)
 }
 
 // A file with the first delta as each of so many records.

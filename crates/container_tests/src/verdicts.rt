@@ -1,5 +1,7 @@
 // Submissions one after the other, and what becomes of each. A verdict stands as words: `ack AT TO` with versions, `absent`, `read only`,
 // `unknown HEAD`, `wrong hash`, `invalid INDEX`, `full`.
+ghost use Rattle.std.specs.Prelude.{◌≤◌};
+
 use disk_model::{Disk, MemoryDisk};
 use std::alloc::Global;
 use std::process::Abort;
