@@ -39,12 +39,12 @@ enum RecordFault {
 }
 
 // The delta of a record, whose hash is that at the head.
-fn read(alloc: Global, history: &History, record: &[u8]) -> Result<AppliedDelta, RecordFault>
-    ensures read { IfOk result (λ d. IsRead history.now record.now d) }
-    ensures refused { IfErr result (λ e. e ≡ RecordFault.Illegal → IsIllegal history.now.name history.now.deltas record.now) }
+fn read(alloc: Global, history: &History, bytes: &[u8]) -> Result<AppliedDelta, RecordFault>
+    ensures read { IfOk result (λ d. IsRead history.now bytes.now d) }
+    ensures refused { IfErr result (λ e. e ≡ RecordFault.Illegal → IsIllegal history.now.name history.now.deltas bytes.now) }
 {
     let head = history.head();
-    match read_applied(alloc, record, &head.hash) {
+    match read_applied(alloc, bytes, &head.hash) {
         Ok(delta) => Ok(delta),
         Err(CodecFault::BadBytes) => Err(RecordFault::Illegal),
         Err(CodecFault::Memory) => Err(RecordFault::Memory),
@@ -52,14 +52,14 @@ fn read(alloc: Global, history: &History, record: &[u8]) -> Result<AppliedDelta,
 }
 
 // The delta of a record is behind the others, if it is the next one.
-fn push(alloc: Global, history: &mut History, record: &[u8]) -> Result<(), RecordFault>
-    ensures ok { OnOk result (IsPushed history.old record.now history.new) }
-    ensures refused { IfErr result (λ e. e ≡ RecordFault.Illegal → IsIllegal history.old.name history.old.deltas record.now) }
+fn push(alloc: Global, history: &mut History, bytes: &[u8]) -> Result<(), RecordFault>
+    ensures ok { OnOk result (IsPushed history.old bytes.now history.new) }
+    ensures refused { IfErr result (λ e. e ≡ RecordFault.Illegal → IsIllegal history.old.name history.old.deltas bytes.now) }
     ensures legal { IsLegal history.old.name history.old.deltas }
     ensures same { OnErr result (IsSameHistory history.old history.new) }
 {
     let _deltas = history.deltas();
-    let delta = read(alloc, history, record)?;
+    let delta = read(alloc, history, bytes)?;
     match history.push_applied(alloc, delta) {
         Ok(()) => Ok(()),
         Err(HistoryFault::NotNext { .. }) => Err(RecordFault::Illegal),
