@@ -7,30 +7,29 @@
 --     started_cut          the place of a point among the deltas
 --     hash_turned          the test of hashes, the other way round
 --     is_base, is_other    the hash there is that of the submission, or another
-use Rattle.std.proofs.Common.{◌≡◌, ℕ, suc, ◌+◌, ◌<◌, ◌≤◌, Bool, true, false, cond, nat_lt, List, [], ◌∷◌, ◌++◌, length, take, drop, Option, Some, None, IsSome, true≢false, refl, sym, ap, subst, ◌∙◌, arith, option_and_then}
+use Rattle.std.proofs.Common.{◌≡◌, ℕ, suc, ◌+◌, ◌<◌, ◌≤◌, Bool, true, false, cond, nat_lt, List, [], ◌∷◌, ◌++◌, length, take, drop, Option, Some, None, IsSome, true≢false, refl, sym, ap, subst, ◌∙◌, arith}
 use Rattle.std.specs.Cmp.Lexicographic.{bytes_decides}
 use Rattle.std.specs.Option.{option_map}
 use Rattle.std.proofs.lemmas.Bool.Decides.{nat_tests}
-use Rattle.std.proofs.lemmas.List.{take_all, take_at, drop_at, length-append, take-append-drop}
+use Rattle.std.proofs.lemmas.List.{take_all, take_at, drop_at, length-append}
 use Rattle.doc_op.proofs.Applying.{no_value, same_Some, mapped}
 use Rattle.wave_base.specs.Versions.{VersionAt}
 use Rattle.wavelet_op.specs.Acts.{meanings}
 use Rattle.wavelet_op.specs.Deltas.{DeltaOf}
 use Rattle.wavelet_op.specs.States.{State, empty_state, run}
 use Rattle.wavelet_op.specs.declared.delta.Submission.{Submission}
-use Rattle.wavelet_op.specs.declared.role.Role.TheVariants as role
 use Rattle.wavelet_op.specs.declared.verdict.Verdict.TheVariants.{UnknownVersion, WrongHash}
 use Rattle.wavelet_op.proofs.Partial.{and_then_some}
 use Rattle.delta_history.specs.Histories.{HistoryOf, head_of, hash_found}
-use Rattle.delta_history.specs.Legal.{has_id, standing, may_write, IsLegalFrom, IsLegal}
+use Rattle.delta_history.specs.Legal.{standing, may_write, IsLegalFrom, IsLegal}
 use Rattle.delta_history.specs.Places.{started_below}
-use Rattle.delta_history.specs.Points.{Point, start, acts_of, next_point, replay, cut, point_at}
+use Rattle.delta_history.specs.Points.{Point, start, next_point, replay, cut, point_at}
 use Rattle.delta_history.specs.Verdicts.{kept, same_hash, judge_kept, judge_head, judge_author, judge_base, judge_hash, judge_ops}
 use Rattle.delta_history.proofs.Chains.{some_ops, starts_at, goes_from}
 use Rattle.delta_history.proofs.Finding.{legal_end}
 use Rattle.delta_history.proofs.Keeping.{kept_there}
 use Rattle.delta_history.proofs.Points.{behind_point, replay_more, rises, run_some}
-use Rattle.delta_history.proofs.Versions.{IsCut, cut_is}
+use Rattle.delta_history.proofs.Versions.{cut_is}
 use Rattle.delta_history.specs.Points.{run_all}
 use Rattle.state_cache.specs.States.{state_behind}
 use Rattle.wavelet_container.specs.Decisions.{judged, MayWrite, IsBase}

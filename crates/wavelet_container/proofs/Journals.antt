@@ -7,10 +7,10 @@
 --     moved_append        a record was put behind the others, or it was tried
 --     moved_on            one call after another
 --     every_image         where no repair is pending every image stands for the history
-use Rattle.std.proofs.Common.{◌≡◌, ◌⊎◌, inl, inr, ⊎_elim, ℕ, ◌+◌, ◌≤◌, Bool, true, false, List, [], ◌∷◌, ◌++◌, length, map, Option, Some, None, refl, sym, ap, subst, ◌∙◌, arith, append-nil, le_refl}
+use Rattle.std.proofs.Common.{◌≡◌, ◌⊎◌, inl, inr, ⊎_elim, ℕ, ◌≤◌, false, List, [], ◌∷◌, ◌++◌, Option, Some, refl, sym, ap, subst, ◌∙◌, arith, append-nil, le_refl}
 use Rattle.std.specs.List.{AllByRecursion}
 use Rattle.std.proofs.lemmas.List.{map-append}
-use Rattle.disk_model.specs.Disk.{DiskView, IsClocked, LeavesOnly}
+use Rattle.disk_model.specs.Disk.{IsClocked, LeavesOnly}
 use Rattle.disk_model.specs.declared.disk.Disk.{Ghosts}
 use Rattle.disk_model.proofs.Moments.{started, joined, weaker}
 use Rattle.wavelet_op.specs.Deltas.{DeltaOf}
@@ -27,7 +27,7 @@ use Rattle.delta_journal.specs.declared.stage.Stage.{Stage}
 use Rattle.delta_journal.specs.declared.stage.Stage.TheVariants.{Blank, Shut, Opening, Headed, Adding}
 use Rattle.delta_journal.proofs.Stages.{sure_stands}
 use Rattle.wavelet_container.specs.Records.{records_of, StandsForHistory}
-use Rattle.wavelet_container.specs.Stores.{IsPending, IsStored, IsMoved, IsLeftOver, MayFollow, StandsForOneMore}
+use Rattle.wavelet_container.specs.Stores.{IsPending, IsStored, IsMoved, MayFollow, StandsForOneMore}
 
 sure_none_at : (stage : Stage) → is_unsure_at stage ≡ false → left_over_at stage ≡ []
 sure_none_at Blank e = refl

@@ -5,7 +5,7 @@
 --     can_pass, decided   its operations can be passed to the head, and become a delta
 --     near_accepted       the delta may be next
 --     near_refused        it can't be
-use Rattle.std.proofs.Common.{◌≡◌, ◌⊎◌, inl, inr, ℕ, ◌+◌, ◌<◌, ◌≤◌, Bool, true, false, ◌&&◌, nat_le, min, List, [], ◌∷◌, ◌++◌, length, take, drop, Option, Some, None, IsSome, true≢false, refl, sym, ap, subst, ◌∙◌, arith, option_and_then}
+use Rattle.std.proofs.Common.{◌≡◌, ◌⊎◌, inl, inr, ℕ, ◌+◌, ◌<◌, ◌≤◌, Bool, true, false, ◌&&◌, nat_le, List, [], ◌∷◌, ◌++◌, length, take, drop, Option, Some, None, IsSome, true≢false, refl, sym, ap, subst, ◌∙◌, arith}
 use Rattle.std.proofs.lemmas.Bool.{and_parts}
 use Rattle.std.proofs.lemmas.Bool.Decides.{nat_tests}
 use Rattle.std.proofs.lemmas.List.{length-map, take_all, drop_all, take-append-drop}
@@ -26,14 +26,13 @@ use Rattle.delta_history.specs.Histories.{HistoryOf, head_of}
 use Rattle.wavelet_state.specs.Snapshots.{max_inserted}
 use Rattle.delta_history.specs.Legal.{has_id, max_delta, standing, may_write, IsNext, IsLegal}
 use Rattle.delta_history.specs.Passing.{all_acts}
-use Rattle.delta_history.specs.Points.{Point, start, acts_of, next_point, replay, end_of}
+use Rattle.delta_history.specs.Points.{Point, start, acts_of, next_point, replay}
 use Rattle.delta_history.specs.Pushes.{IsAsked}
-use Rattle.delta_history.specs.Verdicts.{Judged, accepted, is_within, ops_of, judge_ops, judge_pass, judge_bounds, judge_next}
+use Rattle.delta_history.specs.Verdicts.{accepted, is_within, judge_ops, judge_pass, judge_bounds, judge_next}
 use Rattle.delta_history.proofs.Chains.{goes_on}
 use Rattle.delta_history.proofs.Finding.{legal_end}
 use Rattle.delta_history.proofs.Points.{behind_point, replay_append, and_then_is, pass_through}
 use Rattle.delta_history.proofs.Pushes.{ready}
-use Rattle.state_cache.specs.States.{state_behind}
 use Rattle.wavelet_container.specs.Decisions.{judged, IsBase, IsInvalidAt, IsNear, IsRefusal, IsSubmitted, IsValidBelow, has_room, refusal}
 use Rattle.wavelet_container.specs.Passing.{CanPass, Passes}
 use Rattle.wavelet_container.proofs.Bases.{state_at_base}

@@ -9,7 +9,7 @@
 --     exact_of, held_of, again_ok, damaged_of, again_err, unread_damaged      what a container's answers say of the file
 --     pushed_records, pushed_spelled     a record more
 --     illegal_at           the first record that isn't a next delta
-use Rattle.std.proofs.Common.{◌≡◌, ◌⊎◌, inl, inr, ◌^◌, ◌<◌, ℕ, zero, suc, ◌+◌, ◌≤◌, List, [], ◌∷◌, ◌++◌, length, take, drop, get_or, map, Option, Some, None, Ok, Err, IfOk, IfErr, MatchResult, false, refl, sym, ap, subst, ◌∙◌, arith, append_assoc, append-nil, length-append, Result}
+use Rattle.std.proofs.Common.{◌≡◌, inl, inr, ◌^◌, ◌<◌, ℕ, zero, suc, ◌+◌, List, [], ◌∷◌, ◌++◌, length, take, drop, get_or, Ok, Err, IfOk, IfErr, MatchResult, false, refl, sym, ap, subst, ◌∙◌, arith, append_assoc, append-nil, length-append, Result}
 use Rattle.std.specs.List.{AllByRecursion}
 use Rattle.std.proofs.lemmas.List.{drop_more, take_more}
 use Rattle.doc_op.proofs.Applying.{same_Some}
@@ -17,12 +17,12 @@ use Rattle.wave_base.specs.Versions.{VersionAt}
 use Rattle.wavelet_op.specs.Deltas.{DeltaOf}
 use Rattle.wavelet_codec.specs.Spelling.{delta_bytes, IsDelta, IsDeltaBytes}
 use Rattle.wavelet_codec.proofs.Deltas.{alike}
-use Rattle.delta_history.specs.Histories.{HistoryOf, head_of, IsGrown}
+use Rattle.delta_history.specs.Histories.{HistoryOf, head_of}
 use Rattle.delta_history.specs.Legal.{IsNext, IsLegalFrom, IsLegal}
-use Rattle.delta_history.specs.Points.{Point, start, replay}
-use Rattle.delta_history.proofs.Chains.{goes_on, legal_behind}
+use Rattle.delta_history.specs.Points.{Point}
+use Rattle.delta_history.proofs.Chains.{goes_on}
 use Rattle.delta_history.proofs.Finding.{legal_end}
-use Rattle.delta_journal.specs.File.{StandsFor, IsDamaged, blocks, framed, header, opened}
+use Rattle.delta_journal.specs.File.{StandsFor, IsDamaged, blocks, framed, header}
 use Rattle.delta_journal.specs.Stored.{bytes_of, StandFrom}
 use Rattle.delta_journal.specs.declared.stored.Stored.{Stored}
 use Rattle.delta_journal.proofs.Once.{means_once}

@@ -4,24 +4,21 @@
 --     acknowledged       the delta is behind the others
 --     turned_down        it can't be next
 --     near_moved         in the same state of a history, but for the room
-use Rattle.std.proofs.Common.{◌≡◌, ℕ, ◌+◌, ◌<◌, MatchOption, arith, length, List, [], ◌∷◌, ◌++◌, take, drop, Option, Some, None, refl, sym, ap, subst, ◌∙◌, unwrap_or}
-use Rattle.doc_op.proofs.Applying.{no_value, same_Some}
+use Rattle.std.proofs.Common.{◌≡◌, ℕ, ◌<◌, MatchOption, arith, length, [], ◌∷◌, ◌++◌, Option, Some, None, refl, sym, ap, subst, ◌∙◌, unwrap_or}
+use Rattle.doc_op.proofs.Applying.{no_value}
 use Rattle.wave_base.specs.Versions.{VersionAt}
-use Rattle.wavelet_op.specs.Acts.{meanings}
 use Rattle.wavelet_op.specs.Deltas.{DeltaOf}
-use Rattle.wavelet_op.specs.States.{run}
 use Rattle.wavelet_op.specs.declared.delta.Submission.{Submission}
 use Rattle.wavelet_op.specs.declared.verdict.Verdict.{Verdict}
 use Rattle.wavelet_op.specs.declared.verdict.Verdict.TheVariants.{Ack}
 use Rattle.delta_history.specs.Histories.{HistoryOf, head_of, IsSameHistory, IsGrown}
 use Rattle.wavelet_codec.specs.Spelling.{delta_bytes}
 use Rattle.delta_history.specs.Legal.{max_delta, IsNext, IsLegal}
-use Rattle.delta_history.specs.Points.{Point, start, replay, end_of}
+use Rattle.delta_history.specs.Points.{start, end_of}
 use Rattle.delta_history.specs.Verdicts.{Judged}
 use Rattle.delta_history.proofs.Chains.{legal_behind}
-use Rattle.delta_history.proofs.Finding.{legal_end}
 use Rattle.delta_history.proofs.Points.{replay_more}
-use Rattle.wavelet_container.specs.Decisions.{judged, IsBase, IsNear, IsRefusal, refusal}
+use Rattle.wavelet_container.specs.Decisions.{judged, IsBase, IsNear, IsRefusal}
 use Rattle.wavelet_container.specs.Stores.{IsGrownBy, IsAnswered}
 use Rattle.wavelet_container.proofs.Judging.{near_accepted, near_refused}
 

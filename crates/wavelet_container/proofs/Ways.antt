@@ -5,11 +5,10 @@
 --     past_is          what one delta makes of operations
 --     past_none, past_first      the way through no delta, and through a first one and the others
 --     spelled          operations in normal form are those of their acts
-use Rattle.std.proofs.Common.{◌≡◌, ℕ, ◌⊎◌, inl, inr, ◌+◌, ◌≤◌, ◌<◌, drop, get_or, List, [], ◌∷◌, length, Option, Some, None, refl, sym, ap, subst, ◌∙◌, arith, option_and_then}
+use Rattle.std.proofs.Common.{◌≡◌, ℕ, ◌⊎◌, inl, inr, ◌+◌, ◌≤◌, ◌<◌, drop, get_or, List, [], ◌∷◌, length, Some, refl, sym, ap, subst, ◌∙◌, arith}
 use Rattle.std.specs.List.{AllByRecursion}
 use Rattle.std.proofs.lemmas.List.{length-map, drop_more}
 use Rattle.std.proofs.lemmas.List.Elements.{recursion_from_All}
-use Rattle.doc_items.specs.Limits.{max_count}
 use Rattle.doc_op.proofs.Applying.{same_Some}
 use Rattle.wavelet_op.specs.Acts.{Act, meaning, meanings, inserted, IsNormal, AreNormal}
 use Rattle.wavelet_op.specs.Deltas.{DeltaOf}
@@ -25,7 +24,7 @@ use Rattle.delta_history.specs.Points.{Point, acts_of, next_point, replay}
 use Rattle.delta_history.specs.Passing.{all_acts}
 use Rattle.delta_history.specs.Verdicts.{op_of, ops_of}
 use Rattle.delta_history.proofs.Points.{and_then_is, behind_point}
-use Rattle.wavelet_container.specs.Passing.{AreSmall, CanCross, CanPass, IsPast, Passes}
+use Rattle.wavelet_container.specs.Passing.{CanCross, CanPass, IsPast, Passes}
 use Rattle.wavelet_container.proofs.Sizes.{next_sized, counts_rise}
 
 record IsFirst (acts : List Act) (d : DeltaOf) (ds : List DeltaOf) (c : CanPass acts (d ∷ ds)) : Type 0 where

@@ -4,26 +4,22 @@
 --     grid_within        lists
 --     CanCross           two lists that are valid at one state, with room for all that they insert
 --     crossed, no_refusal      so their transform is given, and not refused
-use Rattle.std.proofs.Common.{◌≡◌, ℕ, zero, suc, ◌+◌, ◌≤◌, ◌<◌, Bool, true, false, cond, not, ◌||◌, nat_le, max, List, [], ◌∷◌, length, Option, Some, None, Result, Ok, Err, refl, sym, ap, subst, ◌∙◌, arith, option_and_then}
+use Rattle.std.proofs.Common.{◌≡◌, ℕ, suc, ◌+◌, ◌≤◌, Bool, true, false, cond, not, ◌||◌, nat_le, List, [], ◌∷◌, Some, Result, Ok, Err, refl, sym, ap, ◌∙◌, arith}
 use Rattle.std.specs.Option.{ok_or}
-use Rattle.std.specs.Result.{result_ok}
 use Rattle.std.proofs.lemmas.Bool.Decides.{nat_tests}
 use Rattle.doc_items.specs.Limits.{max_count}
 use Rattle.doc_items.specs.Maps.{Key, same_text}
-use Rattle.doc_items.specs.declared.item.Item.{Item}
 use Rattle.doc_op.specs.Actions.{Action}
 use Rattle.doc_op.specs.Lengths.{input_len, inserted_len}
-use Rattle.doc_op.proofs.Applying.{no_value, same_Some}
 use Rattle.op_transform.specs.Results.{together}
 use Rattle.wavelet_op.specs.Acts.{Act, Idle, Adds, Removes, Sets, Mutates, inserted_act, inserted}
 use Rattle.wavelet_op.specs.Grids.{and_next, earlier_front, later_front, at_index, pass_one, grid_by, grid, bounded_grid}
 use Rattle.wavelet_op.specs.Results.{Refuses}
 use Rattle.wavelet_op.specs.States.{State, document_of, with_document, mutate, apply_act, run}
-use Rattle.wavelet_op.specs.Transform.{Both, Refusal, TooLarge, Clash, act_transform, is_within, exact, bounded}
+use Rattle.wavelet_op.specs.Transform.{Both, TooLarge, Clash, act_transform, is_within, exact, bounded}
 use Rattle.wavelet_op.specs.declared.fault.WaveletFault.{WaveletFault}
 use Rattle.wavelet_op.specs.declared.fault.WaveletFault.TheVariants.{OpInvalid, CountTooLarge, Conflict, DontFit, Memory}
 use Rattle.wavelet_op.proofs.Grids.{square_one, delta_square}
-use Rattle.wavelet_op.proofs.Maps.{same_text_is}
 use Rattle.wavelet_op.proofs.Partial.{and_then_some, ok_some}
 use Rattle.wavelet_op.proofs.Squares.{act_square}
 use Rattle.wavelet_container.specs.Passing.{AreSmall, CanCross}

@@ -8,7 +8,7 @@
 --     IsNear h s t k d      the delta d is what the submission becomes: that is the verdict, unless the delta can't be next
 --     IsDecided h s t r     what is told at once is the verdict
 --     refusal_of h s k v    this verdict is the refusal
-use Rattle.std.specs.Prelude.{◌≡◌, ◌≤◌, ◌<◌, ◌+◌, ℕ, Bool, true, false, ◌&&◌, nat_le, min, List, [], length, take, drop, Option, Some, None, IsSome}
+use Rattle.std.specs.Prelude.{◌≡◌, ◌≤◌, ◌<◌, ◌+◌, ℕ, Bool, true, false, ◌&&◌, nat_le, min, List, length, take, drop, Option, Some, None, IsSome}
 use Rattle.doc_items.specs.Limits.{max_count}
 use Rattle.wave_base.specs.Versions.{VersionAt}
 use Rattle.wavelet_op.specs.Acts.{Act, meanings, inserted}

@@ -7,7 +7,7 @@
 --     IsDamagedHistory n o f   the file is no journal of a legal history, by what stands at the offset
 --     HistoryIsOne             the law: a file stands for one legal history at most
 --     HistoryIsWhole           the law: a file that stands for one isn't damaged
-use Rattle.std.specs.Prelude.{◌≡◌, ◌⊎◌, ◌^◌, ◌<◌, ℕ, List, [], ◌∷◌, ◌++◌, length, map}
+use Rattle.std.specs.Prelude.{◌≡◌, ◌⊎◌, ◌^◌, ◌<◌, ℕ, List, ◌∷◌, ◌++◌, length, map}
 use Rattle.std.specs.List.{AllByRecursion}
 use Rattle.wavelet_op.specs.Deltas.{DeltaOf}
 use Rattle.wavelet_codec.specs.Spelling.{delta_bytes, IsDelta}

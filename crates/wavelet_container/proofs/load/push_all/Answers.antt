@@ -1,9 +1,7 @@
-use Rattle.std.proofs.Common.{◌≡◌, ◌∙◌, sym, ap, subst, List, ℕ}
-use Rattle.wavelet_op.specs.Deltas.{DeltaOf}
+use Rattle.std.proofs.Common.{◌≡◌, ◌∙◌, subst, List, ℕ}
 use Rattle.delta_history.specs.Legal.{IsLegal}
 use Rattle.delta_journal.specs.Stored.{bytes_of}
 use Rattle.wavelet_container.specs.Records.{HasIllegal, IsIllegal}
-use Rattle.wavelet_container.specs.declared.fault.LoadFault.{LoadFault}
 use Rattle.wavelet_container.specs.declared.fault.LoadFault.TheVariants.{Damaged}
 use Rattle.wavelet_container.proofs.Loaded.{illegal_at, pushed_records, pushed_spelled}
 use Rattle.wavelet_container.proofs.load.push_all.Goals as goal

@@ -1,4 +1,4 @@
-use Rattle.std.proofs.Common.{◌≡◌, ◌∷◌, ◌+◌, drop, sym, ap, subst, List}
+use Rattle.std.proofs.Common.{◌+◌, drop, sym, ap, subst, List}
 use Rattle.wavelet_op.specs.Acts.{meanings}
 use Rattle.wavelet_op.specs.Deltas.{DeltaOf}
 use Rattle.wavelet_op.specs.declared.op.WaveletOp.{WaveletOp}

@@ -1,10 +1,9 @@
-use Rattle.std.proofs.Common.{◌≡◌, ◌∷◌, sym, ap, subst, List}
-use Rattle.std.proofs.lemmas.Result.{IfOk-weaker}
+use Rattle.std.proofs.Common.{sym, ap, subst, List}
 use Rattle.wavelet_op.specs.Acts.{meanings}
 use Rattle.wavelet_op.specs.Deltas.{DeltaOf}
 use Rattle.wavelet_op.specs.declared.op.WaveletOp.{WaveletOp}
-use Rattle.wavelet_container.specs.Passing.{CanCross, CanPass, IsPast}
-use Rattle.wavelet_container.proofs.Ways.{can_cross, not_none, rest_can, past_first, past_none}
+use Rattle.wavelet_container.specs.Passing.{CanCross, IsPast}
+use Rattle.wavelet_container.proofs.Ways.{can_cross, not_none, rest_can}
 use Rattle.wavelet_container.proofs.passing.passed.Goals as goal
 
 pub past-requires : goal.past-requires

@@ -1,4 +1,4 @@
-use Rattle.std.proofs.Common.{◌≡◌, subst, Option, ℕ}
+use Rattle.std.proofs.Common.{subst, Option, ℕ}
 use Rattle.wavelet_op.specs.Acts.{meanings}
 use Rattle.wavelet_container.specs.Decisions.{IsInvalidAt}
 use Rattle.wavelet_container.proofs.Judging.{invalid_told}

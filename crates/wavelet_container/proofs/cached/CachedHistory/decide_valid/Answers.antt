@@ -1,10 +1,9 @@
-use Rattle.std.proofs.Common.{◌≡◌, ◌∙◌, true, sym, ap, subst, drop, List}
+use Rattle.std.proofs.Common.{◌≡◌, ◌∙◌, true, sym, ap, subst, drop}
 use Rattle.std.proofs.lemmas.List.{take_rest}
 use Rattle.delta_history.specs.Histories.{HistoryOf}
 use Rattle.delta_history.specs.Legal.{IsLegal}
-use Rattle.wavelet_op.specs.Deltas.{DeltaOf}
 use Rattle.wavelet_container.specs.Decisions.{has_room}
-use Rattle.wavelet_container.proofs.Judging.{can_pass, decided, no_room_told}
+use Rattle.wavelet_container.proofs.Judging.{can_pass}
 use Rattle.wavelet_container.proofs.cached.CachedHistory.decide_valid.Goals as goal
 
 pub passed-requires : goal.passed-requires

@@ -1,4 +1,4 @@
-use Rattle.std.proofs.Common.{◌≡◌, subst}
+use Rattle.std.proofs.Common.{subst}
 use Rattle.std.proofs.lemmas.Result.{IfOk-weaker}
 use Rattle.delta_history.specs.Pushes.{IsRefused}
 use Rattle.wavelet_container.proofs.Outcomes.{acknowledged, base_moved, turned_down}

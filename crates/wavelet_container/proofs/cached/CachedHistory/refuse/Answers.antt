@@ -1,4 +1,4 @@
-use Rattle.std.proofs.Common.{◌≡◌, ◌∙◌, ap, subst, Option, Some, None, ℕ}
+use Rattle.std.proofs.Common.{◌∙◌, ap, subst, Option, Some, None, ℕ}
 use Rattle.wavelet_op.specs.Acts.{meanings}
 use Rattle.wavelet_op.specs.declared.verdict.Verdict.TheVariants.{Full}
 use Rattle.delta_history.specs.Histories.{HistoryOf, head_of}

@@ -1,4 +1,4 @@
-use Rattle.std.proofs.Common.{◌≡◌, ◌<◌, ◌^◌, ℕ, inl, arith, length, subst, ◌∙◌, List}
+use Rattle.std.proofs.Common.{◌<◌, ◌^◌, ℕ, inl, arith, subst, List}
 use Rattle.std.proofs.lemmas.Result.{IfOk-weaker}
 use Rattle.delta_journal.specs.File.{IsDamaged}
 use Rattle.wavelet_container.proofs.Loaded.{both_ways, exact_of, held_of, again_ok, again_err, damaged_of, unread_damaged, if_err_weaker}

@@ -1,4 +1,4 @@
-use Rattle.std.proofs.Common.{refl, sym, ap, ◌∙◌}
+use Rattle.std.proofs.Common.{refl, ap, ◌∙◌}
 use Rattle.delta_history.specs.Histories.{HistoryOf}
 use Rattle.wavelet_container.proofs.Journals.{stored_at_start}
 use Rattle.wavelet_container.proofs.container.Container.start.Goals as goal
