@@ -1,0 +1,6 @@
+pub mod Containers
+pub mod Decisions
+pub mod Loads
+pub mod Passing
+pub mod Records
+pub mod Stores

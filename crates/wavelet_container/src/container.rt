@@ -1,0 +1,113 @@
+// The history of a wavelet at its host, with its journal.
+ghost use Rattle.std.specs.Prelude.{◌≡◌, ◌≤◌, ◌^◌, ◌<◌, [], false, IfOk, OnOk, OnErr, IsErrOf, IsSome, IfSome, IsTrue, Some, None, length};
+ghost use Rattle.std.specs.Option.{option_map};
+ghost use Rattle.disk_model.specs.Disk.{LeavesJust, Rose};
+ghost use Rattle.delta_history.specs.Histories.{IsSameHistory};
+ghost use Rattle.delta_journal.specs.Journal.{disk_of, on_disk, left_over, needs_repair, EachImage};
+ghost use Rattle.wavelet_container.specs.Decisions.{judged};
+ghost use Rattle.wavelet_container.specs.Records.{StandsForHistory};
+ghost use Rattle.wavelet_container.specs.Stores.{IsGrownBy, IsStored, IsLeftOver};
+ghost use Rattle.wavelet_container.specs.Containers.{history_of, journal_of, OfBoth, Moments, IsHeld};
+
+use crate::SubmitFault;
+use crate::cached::CachedHistory;
+use crate::stored::submit_stored;
+use delta_history::History;
+use delta_journal::Journal;
+use disk_model::Disk;
+use doc_items::Memory;
+use std::alloc::Global;
+use wave_base::WaveletName;
+use wavelet_op::{Submission, Verdict};
+
+/// The history of a wavelet at its host. With a journal, each delta is on the disk before it is acknowledged.
+#[derive(Drop)]
+pub struct Container<K: Disk> {
+    pub(crate) wavelet: CachedHistory,
+    pub(crate) journal: Option<Journal<K>>,
+}
+
+impl<K: Disk> Container<K> {
+    /// The empty history, without a journal.
+    pub fn new(alloc: Global, name: WaveletName) -> Container<K>
+        ensures name { (history_of result).name ≡ name }
+        ensures empty { (history_of result).deltas ≡ [] }
+        ensures plain { journal_of result ≡ None }
+    {
+        Container {
+            wavelet: CachedHistory::of(History::new(alloc, name)),
+            journal: None,
+        }
+    }
+
+    /// The empty history over a new journal. The disk reads as empty, and a crash leaves it empty, where it tells that. The error
+    /// is want of memory.
+    pub fn start(alloc: Global, name: WaveletName, disk: K) -> Result<Container<K>, Memory>
+    where
+        K: Drop,
+        requires empty { IsTrue K.tells → (K.view disk).seen ≡ [] }
+        requires synced { IsTrue K.tells → LeavesJust [] (K.view disk) }
+        ensures name { IfOk result (λ c. (history_of c).name ≡ name) }
+        ensures empty { IfOk result (λ c. (history_of c).deltas ≡ []) }
+        ensures held { IfOk result (λ c. IsTrue K.tells → IsHeld c) }
+        ensures whole { IfOk result (λ c. IfSome (journal_of c) (λ j. needs_repair j ≡ false)) }
+        ensures disk { IfOk result (λ c. option_map disk_of (journal_of c) ≡ Some disk) }
+    {
+        let journal = Journal::start(alloc, disk, name.text())?;
+        Ok(Container {
+            wavelet: CachedHistory::of(History::new(alloc, name)),
+            journal: Some(journal),
+        })
+    }
+
+    /// The history.
+    pub fn history(&self) -> &History
+        ensures { result.now ≡ history_of self.now }
+    {
+        self.wavelet.history()
+    }
+
+    /// Gives the disk; None exactly where there is no journal.
+    pub fn close(self) -> Option<K>
+        ensures { result ≡ option_map disk_of (journal_of self) }
+    {
+        let Container {
+            wavelet: _,
+            journal,
+        } = self;
+        match journal {
+            Some(journal) => Some(journal.close()),
+            None => None,
+        }
+    }
+
+    /// The verdict on a submission at the time, in milliseconds; the history grows by just the delta that is accepted. With a
+    /// journal a pending repair comes first, and an accepted delta is on the disk before the history has it: at `Ok` every image
+    /// stands for the history. At `DiskFault` and at `Memory` the history is as before; each image stands for it, or for it and the
+    /// accepted delta, and a repair may be pending.
+    pub fn submit(
+        &mut self,
+        alloc: Global,
+        submission: &Submission,
+        time: u64,
+    ) -> Result<Verdict, SubmitFault>
+        ensures verdict { IfOk result (λ v. v ≡ (judged (history_of self.old) submission.now time).0) }
+        ensures grown { OnOk result (IsGrownBy (history_of self.old) (judged (history_of self.old) submission.now time).1 (history_of self.new)) }
+        ensures same { OnErr result (IsSameHistory (history_of self.old) (history_of self.new)) }
+
+        ensures stored { OfBoth (journal_of self.old) (journal_of self.new) (λ i j. IsStored (history_of self.old) i → IsStored (history_of self.new) j) }
+        ensures any_moment { OfBoth (journal_of self.old) (journal_of self.new) (λ i j. IsStored (history_of self.old) i → Moments (history_of self.old) submission.now time i j) }
+        ensures every_image { OnOk result (OfBoth (journal_of self.old) (journal_of self.new) (λ i j. IsStored (history_of self.old) i → EachImage j (StandsForHistory (history_of self.new).name (history_of self.new).deltas))) }
+        ensures done { OnOk result (OfBoth (journal_of self.old) (journal_of self.new) (λ i j. needs_repair j ≡ false)) }
+        ensures left_over { OfBoth (journal_of self.old) (journal_of self.new) (λ i j. IsLeftOver (left_over i) (judged (history_of self.old) submission.now time).1 (left_over j)) }
+
+        ensures later { OfBoth (journal_of self.old) (journal_of self.new) (λ i j. (on_disk i).faults ≤ (on_disk j).faults) }
+        ensures failed { IsErrOf result SubmitFault.DiskFault → OfBoth (journal_of self.old) (journal_of self.new) (λ i j. Rose (on_disk i) (on_disk j)) }
+        ensures disk { IsErrOf result SubmitFault.DiskFault → IsSome (journal_of self.old) }
+    {
+        match &mut self.journal {
+            Some(journal) => { submit_stored(alloc, &mut self.wavelet, journal, submission, time) }
+            None => Ok(self.wavelet.submit(alloc, submission, time)?),
+        }
+    }
+}

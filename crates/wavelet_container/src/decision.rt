@@ -1,0 +1,199 @@
+// What becomes of a submission, up to the delta that it becomes.
+ghost use Rattle.std.specs.Prelude.{◌≡◌, ◌≤◌, ◌*◌, length, IsSome, IfOk, MatchOption, None};
+ghost use Rattle.doc_items.specs.Limits.{max_count};
+ghost use Rattle.wavelet_op.specs.Acts.{inserted_act, inserted, meaning, meanings, AreNormal};
+ghost use Rattle.wavelet_op.specs.States.{run, first_invalid};
+ghost use Rattle.wavelet_container.specs.Decisions.{IsBase, IsDecided, IsRefusal, IsInvalidAt, IsSubmitted, IsValidBelow, has_room};
+
+use crate::cached::CachedHistory;
+use crate::early::{Tested, test};
+use crate::passing::passed;
+use delta_history::History;
+use doc_items::{MAX_COUNT, Memory};
+use std::alloc::{AllocError, Global};
+use wavelet_op::{AppliedDelta, Ops, Submission, Verdict, WaveletFault, WaveletOp};
+use wavelet_state::{MAX_INSERTED, WaveletState, apply_delta};
+
+/// What is decided about a submission.
+#[derive(Drop)]
+pub(crate) enum Decision {
+    /// The verdict.
+    Told(Verdict),
+    /// It was made behind so many deltas, and becomes this delta, unless that can't be the next one.
+    Near(usize, AppliedDelta),
+}
+
+impl CachedHistory {
+    /// The verdict, or the delta that the submission becomes at the time.
+    pub fn decide(
+        &mut self,
+        alloc: Global,
+        submission: &Submission,
+        time: u64,
+    ) -> Result<Decision, Memory>
+        ensures decided { IfOk result (λ r. IsDecided self.old submission.now time r) }
+        ensures same { self.new ≡ self.old }
+    {
+        match test(self.history(), submission) {
+            Tested::Told(verdict) => Ok(Decision::Told(verdict)),
+            Tested::Base(place) => self.decide_from(alloc, submission, time, place),
+        }
+    }
+
+    // So it is, where its operations were made behind so many deltas.
+    fn decide_from(
+        &mut self,
+        alloc: Global,
+        submission: &Submission,
+        time: u64,
+        place: usize,
+    ) -> Result<Decision, Memory>
+        requires base { IsBase self.old submission.now place }
+        ensures decided { IfOk result (λ r. IsDecided self.old submission.now time r) }
+        ensures same { self.new ≡ self.old }
+    {
+        if place < self.history().deltas().len() {
+            return self.decide_behind(alloc, submission, time, place);
+        }
+        self.decide_valid(alloc, submission, time, place)
+    }
+
+    // So it is, below the head.
+    fn decide_behind(
+        &mut self,
+        alloc: Global,
+        submission: &Submission,
+        time: u64,
+        place: usize,
+    ) -> Result<Decision, Memory>
+        requires base { IsBase self.old submission.now place }
+        ensures decided { IfOk result (λ r. IsDecided self.old submission.now time r) }
+        ensures same { self.new ≡ self.old }
+    {
+        match self.invalid_at(alloc, &submission.ops, place)? {
+            Some(index) => Ok(Decision::Told(Verdict::Invalid { index })),
+            None => self.decide_valid(alloc, submission, time, place),
+        }
+    }
+
+    // So it is, at the head, or below it where the operations are valid at the base.
+    fn decide_valid(
+        &mut self,
+        alloc: Global,
+        submission: &Submission,
+        time: u64,
+        place: usize,
+    ) -> Result<Decision, Memory>
+        requires base { IsBase self.old submission.now place }
+        requires valid { IsValidBelow self.old submission.now place }
+        ensures decided { IfOk result (λ r. IsDecided self.old submission.now time r) }
+        ensures same { self.new ≡ self.old }
+    {
+        let _len = submission.ops.len();
+        if !has_room(self.history(), &submission.ops) {
+            let verdict = self.refuse(alloc, submission, place)?;
+            return Ok(Decision::Told(verdict));
+        }
+        let ops = passed(alloc, &submission.ops, &self.history().deltas()[place..])?;
+        let delta = delta_of(alloc, self.history(), submission, time, ops)?;
+        Ok(Decision::Near(place, delta))
+    }
+
+    /// The verdict where no delta can follow: that the operations aren't valid at their base, or else that there is no room.
+    pub fn refuse(
+        &mut self,
+        alloc: Global,
+        submission: &Submission,
+        place: usize,
+    ) -> Result<Verdict, Memory>
+        requires base { IsBase self.old submission.now place }
+        ensures verdict { IfOk result (λ v. IsRefusal self.old submission.now place v) }
+        ensures same { self.new ≡ self.old }
+    {
+        let invalid = self.invalid_at(alloc, &submission.ops, place)?;
+        let head = self.history().head();
+        match invalid {
+            Some(index) => Ok(Verdict::Invalid { index }),
+            None => Ok(Verdict::Full { head }),
+        }
+    }
+
+    // The index of the first operation that isn't valid behind the first `place` deltas; None where all are.
+    fn invalid_at(&mut self, alloc: Global, ops: &Ops, place: usize) -> Result<Option<u32>, Memory>
+        requires { place ≤ length self.old.deltas }
+        ensures invalid { IfOk result (λ o. IsInvalidAt self.old place (meanings ops.now) o) }
+        ensures same { self.new ≡ self.old }
+    {
+        let state = self.state_behind(alloc, place)?;
+        first_invalid(alloc, state, ops)
+    }
+}
+
+// The index of the first operation that isn't valid at the state; None where all are.
+fn first_invalid(alloc: Global, state: WaveletState, ops: &Ops) -> Result<Option<u32>, Memory>
+    ensures { IfOk result (λ o. MatchOption o (IsSome (run state (meanings ops.now))) (λ k. (k ≡ first_invalid state (meanings ops.now)) × (run state (meanings ops.now) ≡ None))) }
+{
+    let mut state = state;
+    match apply_delta(alloc, &mut state, ops) {
+        Ok(()) => Ok(None),
+        Err(WaveletFault::OpInvalid(index)) => Ok(Some(index)),
+        Err(WaveletFault::Memory) => Err(AllocError),
+        Err(_) => unreachable!(),
+    }
+}
+
+// The number of items that an operation inserts.
+#[tactic(auto, unfolding(wavelet_op::specs::Acts::inserted_act))]
+fn inserted_by(op: &WaveletOp) -> u64
+    ensures value { result ≡ inserted_act (meaning op.now) }
+    ensures bound { result ≤ max_count }
+{
+    match op {
+        WaveletOp::NoOp => 0,
+        WaveletOp::Add(_) => 0,
+        WaveletOp::Remove(_) => 0,
+        WaveletOp::Mutate { op, .. } => op.inserted(),
+        WaveletOp::SetRole { .. } => 0,
+    }
+}
+
+// The number of items that operations insert.
+fn inserted(ops: &Ops) -> u64
+    ensures value { result ≡ inserted (meanings ops.now) }
+    ensures bound { result ≤ 1000 * max_count }
+{
+    let list = ops.as_slice();
+    let mut sum = 0;
+    for op in list {
+        sum += inserted_by(op);
+    }
+    sum
+}
+
+// Whether the bounds of versions and of items hold with the operations behind the head.
+fn has_room(history: &History, ops: &Ops) -> bool
+    ensures { result ≡ has_room history.now ops.now }
+{
+    history.head().version + ops.len() <= MAX_COUNT
+        && history.inserted() + inserted(ops) <= MAX_INSERTED
+}
+
+// The delta that a submission becomes at the head, with these operations.
+fn delta_of(
+    alloc: Global,
+    history: &History,
+    submission: &Submission,
+    time: u64,
+    ops: Ops,
+) -> Result<AppliedDelta, Memory>
+    requires { AreNormal ops }
+    ensures { IfOk result (λ d. IsSubmitted history.now submission.now time ops d) }
+{
+    let id = submission.id.copy(alloc)?;
+    Ok(AppliedDelta {
+        id,
+        from: history.head(),
+        time: time.min(MAX_COUNT),
+        ops,
+    })
+}
