@@ -1,0 +1,4 @@
+pub mod Normals
+pub mod Back
+pub mod Floats
+pub mod Deltas

@@ -1,0 +1,4 @@
+pub mod Operations
+pub mod Reasons
+pub mod Verdicts
+pub mod Deltas
