@@ -22,7 +22,7 @@ is_read hash bytes fits d h at is = again_from hash bytes fits d h at is (delta_
 
 none_from : (hash bytes : List ℕ) → IsBytes bytes → ¬ (IsDeltaBytes bytes) → (o : Option DeltaOf) → delta_at hash bytes ≡ o → delta_at hash bytes ≡ None
 none_from hash bytes fits h None e = e
-none_from hash bytes fits h (Some d) e = absurd (h (d, (is_delta hash bytes fits (Ok d) e, has_bytes hash bytes fits (Ok d) e)))
+none_from hash bytes fits h (Some d) e = absurd (h (d, is_delta hash bytes fits (Ok d) e, has_bytes hash bytes fits (Ok d) e))
 
 pub is_none : (hash bytes : List ℕ) → IsBytes bytes → ¬ (IsDeltaBytes bytes) → delta_at hash bytes ≡ None
 is_none hash bytes fits h = none_from hash bytes fits h (delta_at hash bytes) refl

@@ -10,7 +10,7 @@ use Rattle.wavelet_op.specs.declared.op.WaveletOp.TheVariants.{NoOp, Add, Remove
 use Rattle.message_parts.specs.Operations.{normal_op, normal_ops}
 
 -- the operation in normal form of an act
-form : Act → WaveletOp
+abbrev form : Act → WaveletOp
 form Idle = NoOp
 form (Adds a) = Add a
 form (Removes a) = Remove a

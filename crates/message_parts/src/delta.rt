@@ -2,8 +2,9 @@
 ghost use Rattle.std.specs.Prelude.{◌≡◌, ◌<◌, length, Some, IfOk};
 ghost use Rattle.serde_json.specs.View.{view};
 ghost use Rattle.op_codec.specs.Spelling.{limit};
+ghost use Rattle.wave_fields.specs.Read.{bytes_of};
 ghost use Rattle.wave_fields.specs.Write.{bytes_data};
-ghost use Rattle.wavelet_codec.specs.Spelling.{delta_bytes};
+ghost use Rattle.wavelet_codec.specs.Spelling.{delta_bytes, IsDelta};
 ghost use Rattle.wavelet_codec.specs.Reading.{delta_at as delta_read};
 ghost use Rattle.message_parts.specs.Deltas.{at_version, delta_of};
 
@@ -56,14 +57,25 @@ pub fn delta_at(alloc: Global, value: &Value) -> Result<Option<AppliedDelta>, Me
     delta_from(alloc, bytes.as_slice(), from)
 }
 
-/// The bytes of a delta, which are fewer than 4,294,967,296, in base64. The error is want of memory.
 #[tactic(auto, using(crate::proofs::Deltas::is_read))]
+fn encoded(alloc: Global, delta: &AppliedDelta, bytes: &[u8]) -> Result<Value, Memory>
+    requires bytes { bytes.now ≡ delta_bytes delta.now }
+    requires is { IsDelta delta.now }
+    ensures value { IfOk result (λ v. view v ≡ bytes_data (delta_bytes delta.now)) }
+    ensures whole { IfOk result (λ v. bytes_of (bytes_data (delta_bytes delta.now)) ≡ Some (delta_bytes delta.now)) }
+    ensures back { delta_read delta.now.from.hash (delta_bytes delta.now) ≡ Some delta.now }
+{
+    bytes_value(alloc, bytes)
+}
+
+/// The bytes of a delta, which are fewer than 4,294,967,296, in base64, as they are read. The error is want of memory.
 pub fn delta_value(alloc: Global, delta: &AppliedDelta) -> Result<Value, Memory>
     requires { length (delta_bytes delta.now) < limit }
     ensures value { IfOk result (λ v. view v ≡ bytes_data (delta_bytes delta.now)) }
+    ensures whole { IfOk result (λ v. bytes_of (bytes_data (delta_bytes delta.now)) ≡ Some (delta_bytes delta.now)) }
     ensures back { IfOk result (λ v. delta_read delta.now.from.hash (delta_bytes delta.now) ≡ Some delta.now) }
 {
     let mut bytes = Vec::new(alloc);
     write_applied(alloc, delta, &mut bytes)?;
-    bytes_value(alloc, bytes.as_slice())
+    encoded(alloc, delta, bytes.as_slice())
 }

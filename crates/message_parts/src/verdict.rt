@@ -56,6 +56,15 @@ fn invalid(value: &Value, count: usize) -> Option<Verdict>
     Some(Verdict::Invalid { index: index as u32 })
 }
 
+fn wrong_hash(alloc: Global, value: &Value, count: usize) -> Result<Option<Verdict>, Memory>
+    ensures { IfOk result (λ verdict. verdict ≡ of_members count (view value.now) (option_map Verdict.WrongHash (in_member hash_of (codes "hash") (view value.now)))) }
+{
+    match hash_of_members(alloc, value, count)? {
+        Some(host) => Ok(Some(Verdict::WrongHash { host })),
+        None => Ok(None),
+    }
+}
+
 fn refusal_named(
     alloc: Global,
     value: &Value,
@@ -72,10 +81,7 @@ fn refusal_named(
             let head = version_of_members(alloc, value, others + 3)?;
             Ok(head.map(|head| Verdict::UnknownVersion { head }))
         }
-        "WrongHash" => {
-            let host = hash_of_members(alloc, value, others + 2)?;
-            Ok(host.map(|host| Verdict::WrongHash { host }))
-        }
+        "WrongHash" => wrong_hash(alloc, value, others + 2),
         "Invalid" => Ok(invalid(value, others + 2)),
         "Full" => {
             let head = version_of_members(alloc, value, others + 3)?;
@@ -146,6 +152,15 @@ fn plain_reason(value: &Value, count: usize, reason: UnopenedReason) -> Option<U
     }
 }
 
+fn wrong_hash_there(alloc: Global, value: &Value) -> Result<Option<UnopenedReason>, Memory>
+    ensures { IfOk result (λ reason. reason ≡ of_members 4 (view value.now) (option_map UnopenedReason.WrongHash (in_member hash_of (codes "hash") (view value.now)))) }
+{
+    match hash_of_members(alloc, value, 4)? {
+        Some(host) => Ok(Some(UnopenedReason::WrongHash { host })),
+        None => Ok(None),
+    }
+}
+
 fn unopened_named(alloc: Global, value: &Value, kind: &str) -> Result<Option<UnopenedReason>, Memory>
     ensures { IfOk result (λ reason. reason ≡ unopened_named kind.now (view value.now)) }
 {
@@ -155,10 +170,7 @@ fn unopened_named(alloc: Global, value: &Value, kind: &str) -> Result<Option<Uno
             let head = version_of_members(alloc, value, 5)?;
             Ok(head.map(|head| UnopenedReason::UnknownVersion { head }))
         }
-        "WrongHash" => {
-            let host = hash_of_members(alloc, value, 4)?;
-            Ok(host.map(|host| UnopenedReason::WrongHash { host }))
-        }
+        "WrongHash" => wrong_hash_there(alloc, value),
         "TooLarge" => Ok(plain_reason(value, 3, UnopenedReason::TooLarge)),
         _ => Ok(None),
     }

@@ -1,4 +1,6 @@
 -- What a session makes of a message that was read: the session afterwards, and what the message asks for.
+--     fresh domain peers        a new session
+--     has_user s, has_peer s    a `hello`, a `peer` was accepted
 --     refused s r               the session stays, and the message is refused
 --     is_new s                  there is neither a user nor a peer
 --     fits_domain s t           the address is of the session's domain, where it has one
@@ -40,6 +42,26 @@ use Rattle.session_core.specs.declared.request.Request.TheVariants as ask
 
 abbrev pub Taken : Type 0
 Taken = Session × Request
+
+-- a new session
+abbrev pub fresh : Option Key → List Key → Session
+fresh domain peers = record { domain = domain; peers = peers; party = Nobody; openings = []; waiting = []; tellings = [] }
+
+abbrev pub party_is_user : Party → Bool
+party_is_user Nobody = false
+party_is_user (User u) = true
+party_is_user (Domain d) = false
+
+abbrev pub party_is_peer : Party → Bool
+party_is_peer Nobody = false
+party_is_peer (User u) = false
+party_is_peer (Domain d) = true
+
+abbrev pub has_user : Session → Bool
+has_user s = party_is_user s.party
+
+abbrev pub has_peer : Session → Bool
+has_peer s = party_is_peer s.party
 
 abbrev pub refused : Session → BadReason → Taken
 refused s reason = (s, ask.Reply (Bad reason))

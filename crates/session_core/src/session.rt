@@ -1,4 +1,9 @@
 // A session: who it is, and what it has open.
+ghost use Rattle.std.specs.Prelude.{◌≡◌};
+ghost use Rattle.session_core.specs.Rules.{fresh, has_user, has_peer};
+
+use crate::lists::{Domains, Openings, Tellings, Waitings};
+use std::alloc::Global;
 use wave_base::{Address, DeltaId, Domain, WaveletName};
 
 /// For whom a session speaks.
@@ -32,4 +37,55 @@ pub struct Telling {
     pub name: WaveletName,
     pub sent: u64,
     pub told: bool,
+}
+
+/// A session of a client or of another domain.
+#[derive(Drop)]
+pub struct Session {
+    /// The domain that is served here; a session of a pipe has none.
+    pub domain: Option<Domain>,
+    /// The domains that may speak for themselves, and to which submissions are passed on.
+    pub peers: Domains,
+    pub party: Party,
+    pub openings: Openings,
+    pub waiting: Waitings,
+    pub tellings: Tellings,
+}
+
+impl Session {
+    /// A session of a server for this domain, with these peers; one of a pipe has no domain and no peers.
+    pub fn new(alloc: Global, domain: Option<Domain>, peers: Vec<Domain>) -> Session
+        ensures { result ≡ fresh domain peers.items }
+    {
+        Session {
+            domain,
+            peers: Domains::from_vec(peers),
+            party: Party::Nobody,
+            openings: Openings::new(alloc),
+            waiting: Waitings::new(alloc),
+            tellings: Tellings::new(alloc),
+        }
+    }
+
+    /// Whether a `hello` was accepted.
+    pub fn has_user(&self) -> bool
+        ensures { result ≡ has_user self.now }
+    {
+        match &self.party {
+            Party::Nobody => false,
+            Party::User(_) => true,
+            Party::Domain(_) => false,
+        }
+    }
+
+    /// Whether a `peer` was accepted.
+    pub fn has_peer(&self) -> bool
+        ensures { result ≡ has_peer self.now }
+    {
+        match &self.party {
+            Party::Nobody => false,
+            Party::User(_) => false,
+            Party::Domain(_) => true,
+        }
+    }
 }

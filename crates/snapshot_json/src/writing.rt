@@ -1,5 +1,6 @@
 // A state, written.
 ghost use Rattle.std.specs.Prelude.{◌≡◌, ◌≤◌, ◌+◌, ◌++◌, ◌∷◌, [], map, length, IfOk, OnOk};
+ghost use Rattle.std.specs.FinMap.{keys};
 ghost use Rattle.serde_json.specs.View.{view};
 ghost use Rattle.doc_items.specs.Limits.{max_count};
 ghost use Rattle.doc_op.specs.Actions.{Ins};
@@ -23,7 +24,7 @@ use wavelet_state::WaveletState;
 // ---- operations that make documents
 
 // Puts an item behind what was inserted.
-#[tactic(auto, using(crate::proofs::Insertions::one_inserted))]
+#[tactic(auto, using(crate::proofs::Insertions::item_added))]
 fn insert_item(alloc: Global, out: &mut NormalBuilder, item: &Item) -> Result<(), Memory>
     requires { output_len out.old + 1 ≤ max_count }
     ensures { OnOk result (out.new ≡ out.old ++ Ins item.now ∷ []) }
@@ -32,12 +33,17 @@ fn insert_item(alloc: Global, out: &mut NormalBuilder, item: &Item) -> Result<()
     match &item.content {
         Content::Character(c) => {
             let one = [*c];
-            out.insert(alloc, ContentRun::Characters(&one), &notes)
+            out.insert(alloc, ContentRun::Characters(&one), &notes)?;
+            Ok(())
         }
         Content::Start { kind, attributes } => {
-            out.insert(alloc, ContentRun::Start { kind, attributes }, &notes)
+            out.insert(alloc, ContentRun::Start { kind, attributes }, &notes)?;
+            Ok(())
         }
-        Content::End => out.insert(alloc, ContentRun::End, &notes),
+        Content::End => {
+            out.insert(alloc, ContentRun::End, &notes)?;
+            Ok(())
+        }
     }
 }
 
@@ -46,8 +52,9 @@ fn insert_all(alloc: Global, out: &mut NormalBuilder, rope: &Rope) -> Result<(),
     requires { out.old ≡ [] }
     ensures { OnOk result (out.new ≡ map Ins rope.now) }
 {
+    let _whole = rope.len();
     let mut reader = rope.reader();
-    for _ in 0..rope.len() {
+    while reader.len() > 0 {
         let Some(item) = reader.first() else {
             return Ok(());
         };
@@ -77,15 +84,21 @@ fn member_value(alloc: Global, state: &WaveletState, address: &Address) -> Resul
     json!(in alloc; {"address": address, "role": role})
 }
 
-/// The participants in byte order, each with its role. The error is want of memory, here and below.
-pub fn members_value(alloc: Global, state: &WaveletState) -> Result<Value, Memory>
-    ensures { IfOk result (λ v. view v ≡ members_data state.now) }
+fn member_list(alloc: Global, state: &WaveletState) -> Result<Vec<Value>, Memory>
+    ensures { IfOk result (λ list. map view list.items ≡ map (member_data state.now) (keys state.now.roles)) }
 {
     let mut list = Vec::new(alloc);
     while let Some(address) = state.participant(list.len() as u64) {
         list.push(member_value(alloc, state, address)?)?;
     }
-    Ok(Value::Array(list))
+    Ok(list)
+}
+
+/// The participants in byte order, each with its role. The error is want of memory, here and below.
+pub fn members_value(alloc: Global, state: &WaveletState) -> Result<Value, Memory>
+    ensures { IfOk result (λ v. view v ≡ members_data state.now) }
+{
+    Ok(Value::Array(member_list(alloc, state)?))
 }
 
 // ---- documents
@@ -109,13 +122,19 @@ fn document_value(alloc: Global, state: &WaveletState, name: &DocumentName) -> R
     json!(in alloc; {"name": name, "operation": operation})
 }
 
-/// The documents that aren't empty in byte order of their names, each with the operation in normal form that makes it.
-pub fn documents_value(alloc: Global, state: &WaveletState) -> Result<Value, Memory>
-    ensures { IfOk result (λ v. view v ≡ documents_data state.now) }
+fn document_list(alloc: Global, state: &WaveletState) -> Result<Vec<Value>, Memory>
+    ensures { IfOk result (λ list. map view list.items ≡ map (document_data state.now) (keys state.now.documents)) }
 {
     let mut list = Vec::new(alloc);
     while let Some(name) = state.document_name(list.len() as u64) {
         list.push(document_value(alloc, state, name)?)?;
     }
-    Ok(Value::Array(list))
+    Ok(list)
+}
+
+/// The documents that aren't empty in byte order of their names, each with the operation in normal form that makes it.
+pub fn documents_value(alloc: Global, state: &WaveletState) -> Result<Value, Memory>
+    ensures { IfOk result (λ v. view v ≡ documents_data state.now) }
+{
+    Ok(Value::Array(document_list(alloc, state)?))
 }

@@ -12,7 +12,6 @@ use serde_json::Value;
 use std::alloc::Global;
 
 // How many members an object has, and 0 for another value.
-#[tactic(auto, using(op_json::proofs::Counts::members_len-view))]
 fn member_count(value: &Value) -> usize
     ensures { result ≡ member_count (view value.now) }
 {
