@@ -144,9 +144,12 @@ asked_open s name from = as_user s (λ _. if is_reached s name then (s, ask.Atta
 abbrev pub submission_of : Key → ℕ → ℕ → VersionAt → List WaveletOp → Submission
 submission_of user client number from ops = record { id = record { author = user; client = client; number = number }; at = from; ops = ops }
 
+abbrev pub submitted_as : Session → Key → ℕ → ℕ → VersionAt → List WaveletOp → Key → Taken
+submitted_as s name client number from ops user = if is_reached s name then (s, ask.Submit name (submission_of user client number from ops)) else refused s bad.NoHost
+
 abbrev pub submitted : Session → Key → ℕ → ℕ → VersionAt → List WaveletOp → Taken
 submitted s name client number from ops = if is_count client && is_count number
-    then as_user s (λ user. if is_reached s name then (s, ask.Submit name (submission_of user client number from ops)) else refused s bad.NoHost) s.party
+    then as_user s (submitted_as s name client number from ops) s.party
     else refused s bad.NotMessage
 
 abbrev pub closed : Session → Key → Taken

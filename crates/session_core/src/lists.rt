@@ -1,6 +1,8 @@
 // The lists that a session holds, each seen as a list.
-ghost use Rattle.std.specs.Prelude.{◌≡◌, [], ◌<◌, ◌++◌, ◌∷◌, length, IfSome, OnOk, OnErr};
+ghost use Rattle.std.specs.Prelude.{◌≡◌, [], ◌<◌, ◌+◌, ◌++◌, ◌∷◌, length, take, drop, IfOk, IfSome, OnOk, OnErr};
 ghost use Rattle.session_core.specs.Rules.{place_of, without};
+ghost use Rattle.session_core.specs.Answers.{sent_at, place_told, set_sent_in, told_at};
+ghost use Rattle.session_core.specs.Deliveries.{telling_of};
 
 use crate::session::{Opening, Telling, Waiting};
 use doc_items::Memory;
@@ -99,6 +101,32 @@ impl Openings {
         place_in(self.list.as_slice(), name)
     }
 
+    /// The wavelet is open, its deltas sent up to this version: at its place where it was open, else behind the others. After want of
+    /// memory all is as it was.
+    pub fn set(&mut self, name: WaveletName, sent: u64) -> Result<(), Memory>
+        ensures ok { OnOk result (self.new ≡ sent_at name sent self.old) }
+        ensures err { OnErr result (self.new ≡ self.old) }
+    {
+        match self.place_of(&name) {
+            Some(place) => {
+                self.list[place].sent = sent;
+                Ok(())
+            }
+            None => {
+                self.list.push(Opening { name, sent })?;
+                Ok(())
+            }
+        }
+    }
+
+    /// The wavelet at a place was sent up to this version.
+    pub fn set_sent(&mut self, place: usize, sent: u64)
+        requires { place < length self.old }
+        ensures { self.new ≡ set_sent_in place sent self.old }
+    {
+        self.list[place].sent = sent;
+    }
+
     /// The wavelet at a place is open no more.
     pub fn remove(&mut self, place: usize)
         requires { place < length self.old }
@@ -140,6 +168,21 @@ impl Waitings {
         self.list.as_slice()
     }
 
+    /// The number of those that wait.
+    pub fn len(&self) -> usize
+        ensures { result ≡ length self.now }
+    {
+        self.list.len()
+    }
+
+    /// The one at a place waits no more.
+    pub fn remove(&mut self, place: usize)
+        requires { place < length self.old }
+        ensures { self.new ≡ take place self.old ++ drop (place + 1) self.old }
+    {
+        drop(self.list.remove(place));
+    }
+
     /// One more waits, behind the others. After want of memory all is as it was.
     pub fn push(&mut self, waiting: Waiting) -> Result<(), Memory>
         ensures ok { OnOk result (self.new ≡ self.old ++ waiting ∷ []) }
@@ -148,6 +191,19 @@ impl Waitings {
         self.list.push(waiting)?;
         Ok(())
     }
+}
+
+// The place of a wavelet among those of which a peer was told.
+fn place_told(list: &[Telling], name: &WaveletName) -> Option<usize>
+    ensures value { result ≡ place_told name.now list.now }
+    ensures within { IfSome result (λ i. i < length list.now) }
+{
+    for place in 0..list.len() {
+        if list[place].name == *name {
+            return Some(place);
+        }
+    }
+    None
 }
 
 /// What a peer was told of hosted wavelets.
@@ -182,12 +238,49 @@ impl Tellings {
         self.list.as_slice()
     }
 
-    /// It was told of one more, behind the others. After want of memory all is as it was.
-    pub fn push(&mut self, telling: Telling) -> Result<(), Memory>
-        ensures ok { OnOk result (self.new ≡ self.old ++ telling ∷ []) }
+    /// What it was told of a wavelet: up to which version, and whether it counts as told. After want of memory all is as it was.
+    pub fn set(&mut self, name: WaveletName, sent: u64, told: bool) -> Result<(), Memory>
+        ensures ok { OnOk result (self.new ≡ told_at name sent told self.old) }
         ensures err { OnErr result (self.new ≡ self.old) }
     {
-        self.list.push(telling)?;
-        Ok(())
+        match place_told(self.list.as_slice(), &name) {
+            Some(place) => {
+                self.list[place].sent = sent;
+                self.list[place].told = told;
+                Ok(())
+            }
+            None => {
+                self.list.push(Telling { name, sent, told })?;
+                Ok(())
+            }
+        }
+    }
+
+    /// Up to which version it was told of a wavelet, and whether it counts as told.
+    pub fn get(&self, name: &WaveletName) -> (u64, bool)
+        ensures { result ≡ ((telling_of name.now self.now).sent, (telling_of name.now self.now).told) }
+    {
+        for telling in self.list.as_slice() {
+            if telling.name == *name {
+                return (telling.sent, telling.told);
+            }
+        }
+        (0, false)
+    }
+
+    /// An equal list.
+    pub fn copy(&self, alloc: Global) -> Result<Tellings, Memory>
+        ensures { IfOk result (λ t. t ≡ self.now) }
+    {
+        let mut list = Vec::with_capacity(alloc, self.list.len())?;
+        for telling in self.list.as_slice() {
+            let name = telling.name.copy(alloc)?;
+            list.push(Telling {
+                name,
+                sent: telling.sent,
+                told: telling.told,
+            })?;
+        }
+        Ok(Tellings { list })
     }
 }

@@ -1,6 +1,6 @@
 use wave_base::{HashedVersion, WaveletName};
 use wave_messages::Message;
-use wavelet_op::Submission;
+use wavelet_op::{Submission, Verdict};
 
 /// What a message asks for.
 #[derive(Drop)]
@@ -22,4 +22,17 @@ pub enum Request {
         name: WaveletName,
         at: HashedVersion,
     },
+}
+
+/// What became of a submission.
+#[derive(Clone, Copy, Debug, PartialEq, Eq)]
+pub enum SubmitAnswer {
+    /// It was judged.
+    Verdict(Verdict),
+    /// It waits for the wavelet's host.
+    Queued,
+    /// The wavelet's host isn't reached from here.
+    NoHost,
+    /// The store failed.
+    Store,
 }
