@@ -2,3 +2,4 @@ pub mod Normals
 pub mod Back
 pub mod Floats
 pub mod Deltas
+pub mod Counts

@@ -3,6 +3,7 @@ ghost use Rattle.std.specs.Prelude.{◌≡◌, codes, OnOk};
 ghost use Rattle.serde_json.specs.Data.{string, put as put_data};
 ghost use Rattle.serde_json.specs.View.{members_view};
 ghost use Rattle.wave_fields.specs.Write.{count_data, bytes_data};
+ghost use Rattle.message_parts.specs.Good.{IsGoodHash, IsGoodVersion, IsGoodReason, IsGoodVerdict};
 ghost use Rattle.message_parts.specs.Verdicts.{with_version, with_reason, with_verdict, with_unopened};
 
 use crate::UnopenedReason;
@@ -20,14 +21,17 @@ fn put_count(alloc: Global, members: &mut Map<String, Value>, name: &str, count:
 }
 
 fn put_hash(alloc: Global, members: &mut Map<String, Value>, hash: &[u8; 32]) -> Result<(), Memory>
-    ensures { OnOk result (members_view members.new.entries ≡ put_data (codes "hash") (bytes_data hash.now) (members_view members.old.entries)) }
+    ensures good { OnOk result (IsGoodHash hash.now) }
+    ensures value { OnOk result (members_view members.new.entries ≡ put_data (codes "hash") (bytes_data hash.now) (members_view members.old.entries)) }
 {
     let hash = hash_value(alloc, hash)?;
     put(members, alloc, "hash", hash)
 }
 
+#[tactic(auto, using(crate::proofs::Counts::counts))]
 fn put_version(alloc: Global, members: &mut Map<String, Value>, at: &HashedVersion) -> Result<(), Memory>
-    ensures { OnOk result (members_view members.new.entries ≡ with_version at.now (members_view members.old.entries)) }
+    ensures good { OnOk result (IsGoodVersion at.now) }
+    ensures value { OnOk result (members_view members.new.entries ≡ with_version at.now (members_view members.old.entries)) }
 {
     put_count(alloc, members, "version", at.version)?;
     let hash = at.hash;
@@ -44,7 +48,8 @@ fn put_reason(alloc: Global, members: &mut Map<String, Value>, name: &str) -> Re
 /// Puts the verdict among the members: an acknowledgement as `at`, `version` and `hash`, another one as `reason` and the members
 /// that this reason has. After want of memory, here and below, some of them may be there.
 pub fn put_verdict(alloc: Global, members: &mut Map<String, Value>, verdict: &Verdict) -> Result<(), Memory>
-    ensures { OnOk result (members_view members.new.entries ≡ with_verdict verdict.now (members_view members.old.entries)) }
+    ensures good { OnOk result (IsGoodVerdict verdict.now) }
+    ensures value { OnOk result (members_view members.new.entries ≡ with_verdict verdict.now (members_view members.old.entries)) }
 {
     match verdict {
         Verdict::Ack { at, to } => {
@@ -78,7 +83,8 @@ pub fn put_unopened(
     members: &mut Map<String, Value>,
     reason: &UnopenedReason,
 ) -> Result<(), Memory>
-    ensures { OnOk result (members_view members.new.entries ≡ with_unopened reason.now (members_view members.old.entries)) }
+    ensures good { OnOk result (IsGoodReason reason.now) }
+    ensures value { OnOk result (members_view members.new.entries ≡ with_unopened reason.now (members_view members.old.entries)) }
 {
     match reason {
         UnopenedReason::NotParticipant => put_reason(alloc, members, "NotParticipant"),

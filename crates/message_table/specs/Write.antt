@@ -2,14 +2,10 @@
 --     kind_data, wavelet_member          the member `type`, and the wavelet's name as the last member
 --     hello_data .. dropped_data         of one kind
 --     message_data m                     of any
---     is_count n                         at most max_count
---     in_range m                         the numbers that the type doesn't bound are in range, and what was refused is no
---                                        acknowledgement
 --     IsShort m                          the bytes of a delta that is written are fewer than 4,294,967,296
-use Rattle.std.specs.Prelude.{◌<◌, ℕ, Bool, true, false, ◌&&◌, nat_le, List, length, Option, Some, None, codes}
+use Rattle.std.specs.Prelude.{◌<◌, ℕ, List, length, Option, Some, None, codes}
 use Rattle.op_codec.specs.Spelling.{limit}
 use Rattle.serde_json.specs.Data.{Data, Members, string, object, no_members, member}
-use Rattle.doc_items.specs.Limits.{max_count}
 use Rattle.op_json.specs.Write.{text_data}
 use Rattle.wave_base.specs.Versions.{VersionAt, IdOf}
 use Rattle.wave_fields.specs.Write.{count_data, bytes_data}
@@ -153,26 +149,3 @@ message_data (Dropped name) = dropped_data name
 abbrev pub IsShort : Message → Type 0
 IsShort (Applied name d) = length (delta_bytes d) < limit
 IsShort m = Unit {0}
-
--- ---- what the types don't bound
-
-abbrev pub is_count : ℕ → Bool
-is_count n = nat_le n max_count
-
-abbrev pub is_told : Verdict → Bool
-is_told (verdict.Ack place to) = is_count place
-is_told (verdict.Invalid index) = nat_le index 999
-is_told v = true
-
-abbrev pub is_refusal : Verdict → Bool
-is_refusal (verdict.Ack place to) = false
-is_refusal v = true
-
-abbrev pub in_range : Message → Bool
-in_range (Submit name client number from ops) = is_count client && is_count number
-in_range (Opened name version) = is_count version
-in_range (Ack name client number place to) = is_count client && is_count number && is_count place
-in_range (Refused name client number v) = is_count client && is_count number && is_refusal v && is_told v
-in_range (Queued name client number) = is_count client && is_count number
-in_range (Relayed name id v) = is_told v
-in_range m = true

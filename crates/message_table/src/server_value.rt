@@ -1,8 +1,11 @@
 // Messages to a client, written.
 ghost use Rattle.std.specs.Prelude.{◌≡◌, codes, IfOk};
 ghost use Rattle.serde_json.specs.View.{view, members_view};
-ghost use Rattle.message_table.specs.Write.{kind_and_wavelet, serial_members, opened_data, snapshot_data, unopened_data, verdict_kind, verdict_data, queued_data, update_data, closed_data, bad_data};
+ghost use Rattle.message_table.specs.Back.{IsGoodName, IsReadBack, InRange};
+ghost use Rattle.message_table.specs.Write.{kind_and_wavelet, serial_members, ack_data, opened_data, snapshot_data, unopened_data, verdict_kind, verdict_data, queued_data, update_data, closed_data, bad_data};
 
+use crate::Message;
+use crate::serial::{author_value, name_value, version_hash};
 use doc_items::Memory;
 use message_parts::{
     BadReason, ClosedReason, UnopenedReason, ops_value, put_unopened, put_verdict,
@@ -10,26 +13,30 @@ use message_parts::{
 use serde_json::{Map, Value, json, put};
 use snapshot_json::{documents_value, members_value};
 use std::alloc::Global;
-use wave_base::WaveletName;
-use wave_fields::{hash_value, string_value};
+use wave_base::{HashedVersion, WaveletName};
+use wave_fields::string_value;
 use wavelet_op::{AppliedDelta, Verdict};
 use wavelet_state::Snapshot;
 
 /// An `opened`. The error is want of memory, here and in the others.
+#[tactic(auto, using(crate::proofs::Back::opened_back))]
 pub fn opened_value(alloc: Global, name: &WaveletName, version: u64) -> Result<Value, Memory>
-    ensures { IfOk result (λ v. view v ≡ opened_data name.now version) }
+    ensures value { IfOk result (λ v. view v ≡ opened_data name.now version) }
+    ensures back { IfOk result (λ _. InRange (Message.Opened name.now version) → IsReadBack (Message.Opened name.now version)) }
 {
-    let name = string_value(alloc, name.text())?;
+    let name = name_value(alloc, name)?;
     json!(in alloc; {"type": "opened", "version": version, "wavelet": name})
 }
 
 /// A `snapshot`.
+#[tactic(auto, using(crate::proofs::Back::snapshot_back, crate::proofs::Back::few_inserted, crate::proofs::Back::is_one))]
 pub fn snapshot_value(alloc: Global, snapshot: &Snapshot) -> Result<Value, Memory>
-    ensures { IfOk result (λ v. view v ≡ snapshot_data snapshot.now) }
+    ensures value { IfOk result (λ v. view v ≡ snapshot_data snapshot.now) }
+    ensures back { IfOk result (λ _. InRange (Message.Snapshot snapshot.now) → IsReadBack (Message.Snapshot snapshot.now)) }
 {
-    let name = string_value(alloc, snapshot.name().text())?;
+    let name = name_value(alloc, snapshot.name())?;
     let from = snapshot.at();
-    let hash = hash_value(alloc, &from.hash)?;
+    let hash = version_hash(alloc, &from)?;
     let documents = documents_value(alloc, snapshot.state())?;
     let members = members_value(alloc, snapshot.state())?;
     let inserted = snapshot.inserted();
@@ -38,17 +45,20 @@ pub fn snapshot_value(alloc: Global, snapshot: &Snapshot) -> Result<Value, Memor
 
 // The members `type` and `wavelet`.
 fn kind_and_wavelet(alloc: Global, kind: &str, name: &WaveletName) -> Result<Map<String, Value>, Memory>
-    ensures { IfOk result (λ members. members_view members.entries ≡ kind_and_wavelet kind.now name.now) }
+    ensures good { IfOk result (λ _. IsGoodName name.now) }
+    ensures value { IfOk result (λ members. members_view members.entries ≡ kind_and_wavelet kind.now name.now) }
 {
     let mut members = Map::new(alloc);
     put(&mut members, alloc, "type", string_value(alloc, kind)?)?;
-    put(&mut members, alloc, "wavelet", string_value(alloc, name.text())?)?;
+    put(&mut members, alloc, "wavelet", name_value(alloc, name)?)?;
     Ok(members)
 }
 
 /// An `unopened`.
+#[tactic(auto, using(crate::proofs::Back::unopened_back))]
 pub fn unopened_value(alloc: Global, name: &WaveletName, reason: &UnopenedReason) -> Result<Value, Memory>
-    ensures { IfOk result (λ v. view v ≡ unopened_data name.now reason.now) }
+    ensures back { IfOk result (λ _. IsReadBack (Message.Unopened name.now reason.now)) }
+    ensures value { IfOk result (λ v. view v ≡ unopened_data name.now reason.now) }
 {
     let mut members = kind_and_wavelet(alloc, "unopened", name)?;
     put_unopened(alloc, &mut members, reason)?;
@@ -63,7 +73,8 @@ fn serial_members(
     client: u64,
     number: u64,
 ) -> Result<Map<String, Value>, Memory>
-    ensures { IfOk result (λ members. members_view members.entries ≡ serial_members kind.now name.now client number) }
+    ensures good { IfOk result (λ _. IsGoodName name.now) }
+    ensures value { IfOk result (λ members. members_view members.entries ≡ serial_members kind.now name.now client number) }
 {
     let mut members = kind_and_wavelet(alloc, kind, name)?;
     put(&mut members, alloc, "client", Value::from(client))?;
@@ -85,7 +96,26 @@ fn verdict_kind(verdict: &Verdict) -> &'static str
     }
 }
 
-/// An `ack`, or a `refused`.
+/// An `ack`.
+#[tactic(auto, using(crate::proofs::Back::ack_back))]
+pub fn ack_value(
+    alloc: Global,
+    name: &WaveletName,
+    serial: (u64, u64),
+    place: u64,
+    to: HashedVersion,
+) -> Result<Value, Memory>
+    ensures value { IfOk result (λ v. view v ≡ ack_data name.now serial.0 serial.1 place to) }
+    ensures back { IfOk result (λ _. InRange (Message.Ack name.now serial.0 serial.1 place to) → IsReadBack (Message.Ack name.now serial.0 serial.1 place to)) }
+{
+    let mut members = serial_members(alloc, "ack", name, serial.0, serial.1)?;
+    let verdict = Verdict::Ack { at: place, to };
+    put_verdict(alloc, &mut members, &verdict)?;
+    Ok(Value::Object(members))
+}
+
+/// A `refused`; a verdict that is an acknowledgement is written as `ack`.
+#[tactic(auto, using(crate::proofs::Back::refused_back))]
 pub fn verdict_value(
     alloc: Global,
     name: &WaveletName,
@@ -93,7 +123,8 @@ pub fn verdict_value(
     number: u64,
     verdict: &Verdict,
 ) -> Result<Value, Memory>
-    ensures { IfOk result (λ v. view v ≡ verdict_data name.now client number verdict.now) }
+    ensures value { IfOk result (λ v. view v ≡ verdict_data name.now client number verdict.now) }
+    ensures back { IfOk result (λ _. InRange (Message.Refused name.now client number verdict.now) → IsReadBack (Message.Refused name.now client number verdict.now)) }
 {
     let mut members = serial_members(alloc, verdict_kind(verdict), name, client, number)?;
     put_verdict(alloc, &mut members, verdict)?;
@@ -101,36 +132,44 @@ pub fn verdict_value(
 }
 
 /// A `queued`.
+#[tactic(auto, using(crate::proofs::Back::queued_back))]
 pub fn queued_value(alloc: Global, name: &WaveletName, client: u64, number: u64) -> Result<Value, Memory>
-    ensures { IfOk result (λ v. view v ≡ queued_data name.now client number) }
+    ensures value { IfOk result (λ v. view v ≡ queued_data name.now client number) }
+    ensures back { IfOk result (λ _. InRange (Message.Queued name.now client number) → IsReadBack (Message.Queued name.now client number)) }
 {
     let members = serial_members(alloc, "queued", name, client, number)?;
     Ok(Value::Object(members))
 }
 
 /// An `update`.
+#[tactic(auto, using(crate::proofs::Back::update_back))]
 pub fn update_value(alloc: Global, name: &WaveletName, delta: &AppliedDelta) -> Result<Value, Memory>
-    ensures { IfOk result (λ v. view v ≡ update_data name.now delta.now) }
+    ensures value { IfOk result (λ v. view v ≡ update_data name.now delta.now) }
+    ensures back { IfOk result (λ _. IsReadBack (Message.Update name.now delta.now)) }
 {
-    let name = string_value(alloc, name.text())?;
-    let author = string_value(alloc, delta.id.author.text())?;
-    let hash = hash_value(alloc, &delta.from.hash)?;
+    let name = name_value(alloc, name)?;
+    let author = author_value(alloc, &delta.id)?;
+    let hash = version_hash(alloc, &delta.from)?;
     let ops = ops_value(alloc, &delta.ops)?;
     json!(in alloc; {"author": author, "client": delta.id.client, "hash": hash, "number": delta.id.number, "operations": ops, "time": delta.time, "type": "update", "version": delta.from.version, "wavelet": name})
 }
 
 /// A `closed`.
+#[tactic(auto, using(crate::proofs::Back::closed_back))]
 pub fn closed_value(alloc: Global, name: &WaveletName, reason: ClosedReason) -> Result<Value, Memory>
-    ensures { IfOk result (λ v. view v ≡ closed_data name.now reason) }
+    ensures value { IfOk result (λ v. view v ≡ closed_data name.now reason) }
+    ensures back { IfOk result (λ _. IsReadBack (Message.Closed name.now reason)) }
 {
-    let name = string_value(alloc, name.text())?;
+    let name = name_value(alloc, name)?;
     let reason = string_value(alloc, reason.name())?;
     json!(in alloc; {"reason": reason, "type": "closed", "wavelet": name})
 }
 
 /// A `bad`.
+#[tactic(auto, using(crate::proofs::Back::bad_back))]
 pub fn bad_value(alloc: Global, reason: BadReason) -> Result<Value, Memory>
-    ensures { IfOk result (λ v. view v ≡ bad_data reason) }
+    ensures value { IfOk result (λ v. view v ≡ bad_data reason) }
+    ensures back { IfOk result (λ _. IsReadBack (Message.Bad reason)) }
 {
     let reason = string_value(alloc, reason.name())?;
     json!(in alloc; {"reason": reason, "type": "bad"})

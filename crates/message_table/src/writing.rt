@@ -1,24 +1,27 @@
 // A message, written.
 ghost use Rattle.std.specs.Prelude.{◌≡◌, IfOk};
 ghost use Rattle.serde_json.specs.View.{view};
+ghost use Rattle.message_table.specs.Back.{IsReadBack, InRange};
 ghost use Rattle.message_table.specs.Write.{message_data, IsShort};
 
 use crate::Message;
 use crate::between_value::{applied_value, have_value, peer_value, relay_value, relayed_value};
 use crate::client_value::{hello_value, named_value, open_at_value, submit_value, welcome_value};
 use crate::server_value::{
-    bad_value, closed_value, opened_value, queued_value, snapshot_value, unopened_value,
+    ack_value, bad_value, closed_value, opened_value, queued_value, snapshot_value, unopened_value,
     update_value, verdict_value,
 };
 use doc_items::Memory;
 use serde_json::Value;
 use std::alloc::Global;
-use wavelet_op::Verdict;
 
-/// The message as a value. The error is want of memory.
+/// The message as a value. What is written is read as the same message, where the numbers that the types don't bound are in range.
+/// The error is want of memory.
+#[tactic(auto, using(crate::proofs::Back::open_back, crate::proofs::Back::close_back, crate::proofs::Back::dropped_back))]
 pub fn message_value(alloc: Global, message: &Message) -> Result<Value, Memory>
     requires { IsShort message.now }
-    ensures { IfOk result (λ v. view v ≡ message_data message.now) }
+    ensures value { IfOk result (λ v. view v ≡ message_data message.now) }
+    ensures back { IfOk result (λ _. InRange message.now → IsReadBack message.now) }
 {
     match message {
         Message::Hello { user } => hello_value(alloc, user),
@@ -33,8 +36,7 @@ pub fn message_value(alloc: Global, message: &Message) -> Result<Value, Memory>
         Message::Snapshot(snapshot) => snapshot_value(alloc, snapshot),
         Message::Unopened { name, reason } => unopened_value(alloc, name, reason),
         Message::Ack { name, client, number, at, to } => {
-            let verdict = Verdict::Ack { at: *at, to: *to };
-            verdict_value(alloc, name, *client, *number, &verdict)
+            ack_value(alloc, name, (*client, *number), *at, *to)
         }
         Message::Refused { name, client, number, verdict } => {
             verdict_value(alloc, name, *client, *number, verdict)

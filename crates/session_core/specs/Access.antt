@@ -8,8 +8,8 @@
 --                               and the user, or an address of the domain, is a participant at its head
 --     IsDeltaOf o d, IsStateOf o s     a delta, or the state at the head, of a history that may be shown
 --     MaySee c p m              whoever it is may be sent this message: if it holds a delta or a state, then of such a history
-use Rattle.std.specs.Prelude.{◌≡◌, ℕ, Bool, false, not, ◌&&◌, cond, List, Option, Some, None, is_some, option_and_then}
-use Rattle.std.specs.List.{list_any, Contains}
+use Rattle.std.specs.Prelude.{◌≡◌, Bool, not, ◌&&◌, cond, List, ◌∷◌, ◌++◌, Option, Some, None, is_some, option_and_then}
+use Rattle.std.specs.List.{list_any}
 use Rattle.std.specs.FinMap.{keys}
 use Rattle.doc_items.specs.Maps.{Key, same_text}
 use Rattle.wave_base.specs.Grammar.{domain_of}
@@ -54,30 +54,78 @@ seen_from c name domain = option_and_then (λ h. cond (has_domain h domain && no
 
 abbrev pub IsDeltaOf : Option HistoryOf → DeltaOf → Type 0
 IsDeltaOf None d = ⊥
-IsDeltaOf (Some h) d = Contains h.deltas d
+IsDeltaOf (Some h) d = (before : List DeltaOf) × ((behind : List DeltaOf) × (h.deltas ≡ before ++ d ∷ behind))
 
 abbrev pub IsStateOf : Option HistoryOf → SnapshotOf → Type 0
 IsStateOf None s = ⊥
 IsStateOf (Some h) s = (s.at ≡ (head_of h).at) × (s.inserted ≡ (head_of h).count) × (s.state ≡ (head_of h).state)
 
 abbrev pub UserMaySee : Shown → Key → Message → Type 0
-UserMaySee c user (Update name d) = IsDeltaOf (seen_by c name user) d
-UserMaySee c user (Snapshot s) = IsStateOf (seen_by c s.name user) s
-UserMaySee c user (Applied name d) = ⊥
-UserMaySee c user m = Unit {0}
+UserMaySee c reader (Hello user) = Unit {0}
+UserMaySee c reader (OpenWavelet name from) = Unit {0}
+UserMaySee c reader (Submit name client number from ops) = Unit {0}
+UserMaySee c reader (CloseWavelet name) = Unit {0}
+UserMaySee c reader (Welcome user) = Unit {0}
+UserMaySee c reader (Opened name version) = Unit {0}
+UserMaySee c reader (Snapshot s) = IsStateOf (seen_by c s.name reader) s
+UserMaySee c reader (Unopened name reason) = Unit {0}
+UserMaySee c reader (Ack name client number place to) = Unit {0}
+UserMaySee c reader (Refused name client number v) = Unit {0}
+UserMaySee c reader (Queued name client number) = Unit {0}
+UserMaySee c reader (Update name d) = IsDeltaOf (seen_by c name reader) d
+UserMaySee c reader (Closed name reason) = Unit {0}
+UserMaySee c reader (Bad reason) = Unit {0}
+UserMaySee c reader (Peer domain) = Unit {0}
+UserMaySee c reader (Have name from) = Unit {0}
+UserMaySee c reader (Relay name s) = Unit {0}
+UserMaySee c reader (Applied name d) = ⊥
+UserMaySee c reader (Relayed name id v) = Unit {0}
+UserMaySee c reader (Dropped name) = Unit {0}
 
 abbrev pub DomainMaySee : Shown → Key → Message → Type 0
-DomainMaySee c domain (Applied name d) = IsDeltaOf (seen_from c name domain) d
-DomainMaySee c domain (Update name d) = ⊥
-DomainMaySee c domain (Snapshot s) = ⊥
-DomainMaySee c domain m = Unit {0}
+DomainMaySee c own (Hello user) = Unit {0}
+DomainMaySee c own (OpenWavelet name from) = Unit {0}
+DomainMaySee c own (Submit name client number from ops) = Unit {0}
+DomainMaySee c own (CloseWavelet name) = Unit {0}
+DomainMaySee c own (Welcome user) = Unit {0}
+DomainMaySee c own (Opened name version) = Unit {0}
+DomainMaySee c own (Snapshot s) = ⊥
+DomainMaySee c own (Unopened name reason) = Unit {0}
+DomainMaySee c own (Ack name client number place to) = Unit {0}
+DomainMaySee c own (Refused name client number v) = Unit {0}
+DomainMaySee c own (Queued name client number) = Unit {0}
+DomainMaySee c own (Update name d) = ⊥
+DomainMaySee c own (Closed name reason) = Unit {0}
+DomainMaySee c own (Bad reason) = Unit {0}
+DomainMaySee c own (Peer domain) = Unit {0}
+DomainMaySee c own (Have name from) = Unit {0}
+DomainMaySee c own (Relay name s) = Unit {0}
+DomainMaySee c own (Applied name d) = IsDeltaOf (seen_from c name own) d
+DomainMaySee c own (Relayed name id v) = Unit {0}
+DomainMaySee c own (Dropped name) = Unit {0}
 
 -- nobody may see any
 abbrev pub NobodyMaySee : Message → Type 0
-NobodyMaySee (Applied name d) = ⊥
-NobodyMaySee (Update name d) = ⊥
+NobodyMaySee (Hello user) = Unit {0}
+NobodyMaySee (OpenWavelet name from) = Unit {0}
+NobodyMaySee (Submit name client number from ops) = Unit {0}
+NobodyMaySee (CloseWavelet name) = Unit {0}
+NobodyMaySee (Welcome user) = Unit {0}
+NobodyMaySee (Opened name version) = Unit {0}
 NobodyMaySee (Snapshot s) = ⊥
-NobodyMaySee m = Unit {0}
+NobodyMaySee (Unopened name reason) = Unit {0}
+NobodyMaySee (Ack name client number place to) = Unit {0}
+NobodyMaySee (Refused name client number v) = Unit {0}
+NobodyMaySee (Queued name client number) = Unit {0}
+NobodyMaySee (Update name d) = ⊥
+NobodyMaySee (Closed name reason) = Unit {0}
+NobodyMaySee (Bad reason) = Unit {0}
+NobodyMaySee (Peer domain) = Unit {0}
+NobodyMaySee (Have name from) = Unit {0}
+NobodyMaySee (Relay name s) = Unit {0}
+NobodyMaySee (Applied name d) = ⊥
+NobodyMaySee (Relayed name id v) = Unit {0}
+NobodyMaySee (Dropped name) = Unit {0}
 
 abbrev pub MaySee : Shown → Party → Message → Type 0
 MaySee c Nobody m = NobodyMaySee m

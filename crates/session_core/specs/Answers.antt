@@ -9,7 +9,7 @@
 --     attached c s n v          the answer to an `open`
 --     told_at n v ts            a peer counts as told of a wavelet, its deltas sent up to a version
 --     had c s n v               after a `have`
-use Rattle.std.specs.Prelude.{ℕ, zero, suc, ◌+◌, option_map, Bool, true, false, ◌&&◌, ◌||◌, ◌==◌, nat_le, cond, if◌then◌else◌, List, [], ◌∷◌, ◌++◌, length, Option, Some, None}
+use Rattle.std.specs.Prelude.{ℕ, ◌+◌, slice_set, slice_index_or, option_map, Bool, true, false, ◌&&◌, ◌||◌, ◌==◌, nat_le, cond, if◌then◌else◌, List, [], ◌∷◌, ◌++◌, length, Option, Some, None}
 use Rattle.std.specs.Cmp.Lexicographic.{pointwise}
 use Rattle.serde_json.specs.Written.{compact_text}
 use Rattle.doc_items.specs.Maps.{Key, same_text}
@@ -31,7 +31,7 @@ use Rattle.session_core.specs.declared.session.Telling.{Telling}
 use Rattle.session_core.specs.declared.session.Session.{Session}
 use Rattle.session_core.specs.declared.request.SubmitAnswer.{SubmitAnswer}
 use Rattle.session_core.specs.declared.request.SubmitAnswer.TheVariants as answer
-use Rattle.session_core.specs.Rules.{with_openings, max_peer}
+use Rattle.session_core.specs.Rules.{place_of, with_openings, max_peer}
 use Rattle.session_core.specs.Access.{Shown, seen_by}
 
 -- ---- submissions
@@ -65,15 +65,19 @@ answered s name id answer.Store = (s, Bad bad.Store)
 
 -- ---- open wavelets
 
-abbrev pub sent_at : Key → ℕ → List Opening → List Opening
-sent_at name v [] = record { name = name; sent = v } ∷ []
-sent_at name v (o ∷ os) = if same_text o.name name then record { name = o.name; sent = v } ∷ os else o ∷ sent_at name v os
+abbrev pub none_open : Opening
+none_open = record { name = []; sent = 0 }
 
 -- the opening at a place, sent up to a version
 abbrev pub set_sent_in : ℕ → ℕ → List Opening → List Opening
-set_sent_in i v [] = []
-set_sent_in zero v (o ∷ os) = record { name = o.name; sent = v } ∷ os
-set_sent_in (suc i) v (o ∷ os) = o ∷ set_sent_in i v os
+set_sent_in i v os = slice_set os i (record { name = (slice_index_or os i none_open).name; sent = v })
+
+abbrev pub put_sent : Key → ℕ → List Opening → Option ℕ → List Opening
+put_sent name v os None = os ++ record { name = name; sent = v } ∷ []
+put_sent name v os (Some i) = set_sent_in i v os
+
+abbrev pub sent_at : Key → ℕ → List Opening → List Opening
+sent_at name v os = put_sent name v os (place_of name os)
 
 abbrev pub with_sent : Session → Key → ℕ → Session
 with_sent s name v = with_openings s (sent_at name v s.openings)
@@ -106,13 +110,19 @@ attached c s name from = attached_as c s name from s.party
 
 -- ---- peers
 
-abbrev pub told_at : Key → ℕ → Bool → List Telling → List Telling
-told_at name v told [] = record { name = name; sent = v; told = told } ∷ []
-told_at name v told (t ∷ ts) = if same_text t.name name then record { name = t.name; sent = v; told = told } ∷ ts else t ∷ told_at name v told ts
+abbrev pub none_told : Telling
+none_told = record { name = []; sent = 0; told = false }
 
 abbrev pub place_told : Key → List Telling → Option ℕ
 place_told name [] = None
 place_told name (t ∷ ts) = if same_text t.name name then Some 0 else option_map (λ i. i + 1) (place_told name ts)
+
+abbrev pub put_told : Key → ℕ → Bool → List Telling → Option ℕ → List Telling
+put_told name v told ts None = ts ++ record { name = name; sent = v; told = told } ∷ []
+put_told name v told ts (Some i) = slice_set ts i (record { name = (slice_index_or ts i none_told).name; sent = v; told = told })
+
+abbrev pub told_at : Key → ℕ → Bool → List Telling → List Telling
+told_at name v told ts = put_told name v told ts (place_told name ts)
 
 abbrev pub had_hash : Session → Key → VersionAt → Option (List ℕ) → Session
 had_hash s name from None = s

@@ -10,6 +10,7 @@
 --     delivered c s                the messages
 --     after_delivery c s           the session
 use Rattle.std.specs.Prelude.{ℕ, Bool, true, false, if◌then◌else◌, List, [], ◌∷◌, ◌++◌, map, drop, Option, Some, None}
+use Rattle.std.specs.List.{flat_map}
 use Rattle.doc_items.specs.Maps.{Key, same_text}
 use Rattle.wavelet_op.specs.Deltas.{DeltaOf}
 use Rattle.wavelet_op.specs.declared.verdict.Verdict.{Verdict}
@@ -45,16 +46,14 @@ outcome_sent w None = []
 outcome_sent w (Some v) = verdict_message w.name w.id v ∷ []
 
 abbrev pub outcomes_sent : Shown → List Waiting → List Message
-outcomes_sent c [] = []
-outcomes_sent c (w ∷ ws) = outcome_sent w (c.outcome w.name w.id) ++ outcomes_sent c ws
+outcomes_sent c ws = flat_map (λ w. outcome_sent w (c.outcome w.name w.id)) ws
 
 abbrev pub waits_on : Waiting → Option Verdict → List Waiting
 waits_on w None = w ∷ []
 waits_on w (Some v) = []
 
 abbrev pub still_waiting : Shown → List Waiting → List Waiting
-still_waiting c [] = []
-still_waiting c (w ∷ ws) = waits_on w (c.outcome w.name w.id) ++ still_waiting c ws
+still_waiting c ws = flat_map (λ w. waits_on w (c.outcome w.name w.id)) ws
 
 -- ---- open wavelets
 
@@ -67,8 +66,7 @@ opening_sent c user o None = []
 opening_sent c user o (Some h) = opening_news o (seen_by c o.name user)
 
 abbrev pub openings_sent : Shown → Key → List Opening → List Message
-openings_sent c user [] = []
-openings_sent c user (o ∷ os) = opening_sent c user o (c.copy o.name) ++ openings_sent c user os
+openings_sent c user os = flat_map (λ o. opening_sent c user o (c.copy o.name)) os
 
 abbrev pub opening_left : Opening → Option HistoryOf → List Opening
 opening_left o None = []
@@ -85,8 +83,7 @@ fated o (Sent v) = record { name = o.name; sent = v } ∷ []
 fated o Ends = []
 
 abbrev pub openings_kept : Shown → Key → List Opening → List Opening
-openings_kept c user [] = []
-openings_kept c user (o ∷ os) = opening_kept c user o (c.copy o.name) ++ openings_kept c user os
+openings_kept c user os = flat_map (λ o. opening_kept c user o (c.copy o.name)) os
 
 -- ---- hosted wavelets, for a peer
 

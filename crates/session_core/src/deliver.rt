@@ -5,7 +5,7 @@ ghost use Rattle.std.specs.Option.{option_copied};
 ghost use Rattle.std.specs.FinMap.{keys};
 ghost use Rattle.delta_history.specs.Histories.{head_of};
 ghost use Rattle.delta_history.specs.Places.{started_below, IsRisingFrom};
-ghost use Rattle.session_core.specs.Access.{shown, is_of_domain, seen_by, seen_from, MaySee};
+ghost use Rattle.session_core.specs.Access.{shown, has_domain, is_of_domain, seen_by, seen_from, MaySee};
 ghost use Rattle.session_core.specs.Deliveries.{since, updates, applieds, outcomes_sent, still_waiting, opening_news, opening_sent, openings_sent, opening_kept, openings_kept, fated, host_news, host_told, telling_of, hosts_sent, hosts_told, delivered, after_delivery};
 
 use crate::answers::{seen_by, verdict_message};
@@ -194,31 +194,53 @@ impl Openings {
 
 // ---- hosted wavelets, for a peer
 
-// Whether an address of the domain is a participant.
-fn has_domain(state: &WaveletState, domain: &Domain) -> bool
-    ensures { result ≡ list_any (is_of_domain domain.now) (keys state.now.roles) }
+// The participants, in byte order.
+fn participants(alloc: Global, state: &WaveletState) -> Result<Vec<&Address>, Memory>
+    ensures { IfOk result (λ list. map (λ a. a.now) list.items ≡ keys state.entry.now.roles) }
 {
-    for place in 0..u64::MAX {
-        match state.participant(place) {
-            Some(address) => {
-                if address.domain() == domain.text() {
-                    return true;
-                }
-            }
-            None => return false,
+    let mut list = Vec::new(alloc);
+    while let Some(address) = state.participant(list.len() as u64) {
+        list.push(address)?;
+    }
+    Ok(list)
+}
+
+fn is_of_domain(address: &Address, domain: &Domain) -> bool
+    ensures { result ≡ is_of_domain domain.now address.now }
+{
+    address.domain() == domain.text()
+}
+
+// Whether one of the addresses is of the domain.
+fn any_of(list: &[&Address], domain: &Domain) -> bool
+    ensures { result ≡ list_any (is_of_domain domain.now) (map (λ a. a.now) list.now) }
+{
+    for address in list {
+        if is_of_domain(address, domain) {
+            return true;
         }
     }
     false
 }
 
-fn seen_from<'a, C: Copies>(copies: &'a C, name: &WaveletName, domain: &Domain) -> Option<&'a History>
-    ensures { option_copied result ≡ seen_from (shown (C.copies copies.entry.now) (C.hosts copies.entry.now) (C.drops copies.entry.now) (C.outcomes copies.entry.now)) name.now domain.now }
+// Whether an address of the domain is a participant.
+fn has_domain(alloc: Global, history: &History, domain: &Domain) -> Result<bool, Memory>
+    ensures { IfOk result (λ b. b ≡ has_domain history.now domain.now) }
 {
-    let history = copies.copy_of(name)?;
-    if has_domain(history.state(), domain) && !copies.dropped(name) {
-        Some(history)
+    let list = participants(alloc, history.state())?;
+    Ok(any_of(list.as_slice(), domain))
+}
+
+fn seen_from<'a, C: Copies>(alloc: Global, copies: &'a C, name: &WaveletName, domain: &Domain) -> Result<Option<&'a History>, Memory>
+    ensures { IfOk result (λ o. option_copied o ≡ seen_from (shown (C.copies copies.entry.now) (C.hosts copies.entry.now) (C.drops copies.entry.now) (C.outcomes copies.entry.now)) name.now domain.now) }
+{
+    let Some(history) = copies.copy_of(name) else {
+        return Ok(None);
+    };
+    if has_domain(alloc, history, domain)? && !copies.dropped(name) {
+        Ok(Some(history))
     } else {
-        None
+        Ok(None)
     }
 }
 
@@ -260,7 +282,8 @@ fn push_hosts<C: Copies>(alloc: Global, copies: &C, domain: &Domain, tellings: &
     let names = hosted_names(alloc, copies)?;
     let mut out = Vec::new(alloc);
     for name in names.as_slice() {
-        push_host(alloc, name, seen_from(copies, name, domain), tellings, &mut out)?;
+        let seen = seen_from(alloc, copies, name, domain)?;
+        push_host(alloc, name, seen, tellings, &mut out)?;
     }
     Ok(out)
 }
