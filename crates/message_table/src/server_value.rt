@@ -1,7 +1,10 @@
 // Messages to a client, written.
-ghost use Rattle.std.specs.Prelude.{◌≡◌, codes, IfOk};
+ghost use Rattle.std.specs.Prelude.{◌≡◌, ◌≤◌, IfOk};
+ghost use Rattle.doc_items.specs.Limits.{max_count};
+ghost use Rattle.wavelet_op.specs.Acts.{AreNormal};
 ghost use Rattle.serde_json.specs.View.{view, members_view};
 ghost use Rattle.message_table.specs.Back.{IsGoodName, IsReadBack, InRange};
+ghost use Rattle.message_table.specs.Read.{update_from};
 ghost use Rattle.message_table.specs.Write.{kind_and_wavelet, serial_members, ack_data, opened_data, snapshot_data, unopened_data, verdict_kind, verdict_data, queued_data, update_data, closed_data, bad_data};
 
 use crate::Message;
@@ -13,9 +16,9 @@ use message_parts::{
 use serde_json::{Map, Value, json, put};
 use snapshot_json::{documents_value, members_value};
 use std::alloc::Global;
-use wave_base::{HashedVersion, WaveletName};
+use wave_base::{DeltaId, HashedVersion, WaveletName};
 use wave_fields::string_value;
-use wavelet_op::{AppliedDelta, Verdict};
+use wavelet_op::{AppliedDelta, Ops, Verdict};
 use wavelet_state::Snapshot;
 
 /// An `opened`. The error is want of memory, here and in the others.
@@ -141,17 +144,34 @@ pub fn queued_value(alloc: Global, name: &WaveletName, client: u64, number: u64)
     Ok(Value::Object(members))
 }
 
-/// An `update`.
+// An `update` of these parts.
 #[tactic(auto, using(crate::proofs::Back::update_back))]
+fn update_of(
+    alloc: Global,
+    name: &WaveletName,
+    id: &DeltaId,
+    from: &HashedVersion,
+    time: u64,
+    ops: &Ops,
+) -> Result<Value, Memory>
+    requires time { time ≤ max_count }
+    requires normal { AreNormal ops.now }
+    ensures value { IfOk result (λ v. view v ≡ update_data name.now (record { id = id.now; from = from.now; time = time; ops = ops.now })) }
+    ensures back { IfOk result (λ _. IsReadBack (update_from name.now id.now from.now time ops.now)) }
+{
+    let name = name_value(alloc, name)?;
+    let author = author_value(alloc, id)?;
+    let hash = version_hash(alloc, from)?;
+    let ops = ops_value(alloc, ops)?;
+    json!(in alloc; {"author": author, "client": id.client, "hash": hash, "number": id.number, "operations": ops, "time": time, "type": "update", "version": from.version, "wavelet": name})
+}
+
+/// An `update`.
 pub fn update_value(alloc: Global, name: &WaveletName, delta: &AppliedDelta) -> Result<Value, Memory>
     ensures value { IfOk result (λ v. view v ≡ update_data name.now delta.now) }
     ensures back { IfOk result (λ _. IsReadBack (Message.Update name.now delta.now)) }
 {
-    let name = name_value(alloc, name)?;
-    let author = author_value(alloc, &delta.id)?;
-    let hash = version_hash(alloc, &delta.from)?;
-    let ops = ops_value(alloc, &delta.ops)?;
-    json!(in alloc; {"author": author, "client": delta.id.client, "hash": hash, "number": delta.id.number, "operations": ops, "time": delta.time, "type": "update", "version": delta.from.version, "wavelet": name})
+    update_of(alloc, name, &delta.id, &delta.from, delta.time, &delta.ops)
 }
 
 /// A `closed`.
