@@ -161,7 +161,7 @@ pub(crate) enum Fate {
     Ends,
 }
 
-fn fate<C: Copies>(copies: &C, user: &Address, opening: &Opening) -> Fate
+fn fate_of<C: Copies>(copies: &C, user: &Address, opening: &Opening) -> Fate
     ensures { fated opening.now result ≡ opening_kept (shown (C.copies copies.now) (C.hosts copies.now) (C.drops copies.now) (C.outcomes copies.now)) user.now opening.now (C.copies copies.now opening.now.name) }
 {
     if copies.copy_of(&opening.name).is_none() {
@@ -180,7 +180,7 @@ impl Openings {
     {
         let mut place = 0usize;
         while place < self.as_slice().len() {
-            match fate(copies, user, &self.as_slice()[place]) {
+            match fate_of(copies, user, &self.as_slice()[place]) {
                 Fate::Stays => place += 1,
                 Fate::Sent(version) => {
                     self.set_sent(place, version);

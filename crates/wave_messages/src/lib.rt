@@ -4,12 +4,12 @@
 
 mod fault;
 mod line;
-mod read;
-mod write;
+mod reading;
+mod writing;
 
 pub use fault::{Kind, LineFault, MessageFault};
 pub use line::{Line, read_line};
 pub use message_parts::{BadReason, ClosedReason, UnopenedReason};
 pub use message_table::Message;
-pub use read::{MAX_CLIENT, MAX_PEER, read};
-pub use write::{write, write_line};
+pub use reading::{MAX_CLIENT, MAX_PEER, read};
+pub use writing::{write, write_line};

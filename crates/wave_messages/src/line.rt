@@ -4,7 +4,7 @@ ghost use Rattle.serde_json.specs.View.{view};
 ghost use Rattle.wave_messages.specs.declared.fault.Kind.{Kind};
 ghost use Rattle.wave_messages.specs.Read.{named_session, to_session, framed, judged, line_of, line_read};
 
-use crate::read::{MAX_CLIENT, data_of, judged};
+use crate::reading::{MAX_CLIENT, data_of, judged};
 use crate::{Kind, LineFault, MessageFault};
 use doc_items::Memory;
 use message_table::Message;
