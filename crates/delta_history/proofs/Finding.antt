@@ -2,25 +2,28 @@
 --     rising             their versions rise
 --     at_start, behind_start     whether a delta is among those below a version
 --     end_is             the hashed version at a version
+--     state_from, state_is    the state there
 --     kept_at            what is kept for an id
 --     found_front, none_front    a place among the first deltas, and behind them
 --     index_more, index_longer     one more delta in the index, and one that isn't
 --     legal_end          the point at the head
 --     has_place, held_end     whether an id has a place; the bound on items
 --     hash_is, kept_here     the hash at a version, and what is kept, of the whole
-use Rattle.std.proofs.Common.{◌≡◌, ℕ, zero, suc, ◌+◌, ◌<◌, ◌≤◌, Bool, true, false, cond, ◌||◌, ◌==◌, nat_lt, List, [], ◌∷◌, ◌++◌, length, take, drop, slice_get, Option, Some, None, refl, sym, ap, subst, ◌∙◌, arith, true≢false, append_assoc, append-nil, is_some, option_and_then, unwrap_or}
+use Rattle.std.proofs.Common.{◌≡◌, ℕ, zero, suc, ◌+◌, ◌<◌, ◌≤◌, Bool, true, false, cond, ◌||◌, ◌==◌, nat_lt, List, [], ◌∷◌, ◌++◌, length, take, drop, slice_get, Option, Some, None, refl, sym, ap, subst, ◌∙◌, arith, true≢false, append_assoc, append-nil, is_some, IsSome, option_and_then, unwrap_or}
 use Rattle.std.specs.Option.{option_map}
 use Rattle.std.proofs.lemmas.Bool.Decides.{nat_tests, Decides-eqb}
 use Rattle.doc_op.proofs.Applying.{no_value, same_Some}
 use Rattle.wave_base.specs.Versions.{IdOf, VersionAt, same_id}
 use Rattle.wave_base.proofs.Same.{same_id-is, same_id-refl}
 use Rattle.wavelet_op.specs.Deltas.{DeltaOf}
+use Rattle.wavelet_op.specs.States.{State, empty_state, run}
 use Rattle.delta_history.specs.declared.kept.Kept.{Kept}
-use Rattle.delta_history.specs.Points.{Point, start, next_point, replay, cut, point_at, end_of}
-use Rattle.delta_history.specs.Legal.{has_id, max_inserted, IsNext, IsLegalFrom, IsLegal}
+use Rattle.delta_history.specs.Points.{Point, start, acts_of, next_point, replay, run_all, cut, point_at, state_of, end_of}
+use Rattle.delta_history.specs.Legal.{has_id, IsNext, IsLegalFrom, IsLegal}
+use Rattle.wavelet_state.specs.Snapshots.{max_inserted}
 use Rattle.delta_history.specs.Verdicts.{kept}
-use Rattle.delta_history.specs.Places.{started_below, IsRisingFrom, from_or, if_at, end_at, place_from, stands_at, Places, place_in, IsIndex, IsPut}
-use Rattle.delta_history.proofs.Points.{and_then_is, behind_point, replay_more, rises}
+use Rattle.delta_history.specs.Places.{started_below, IsRisingFrom, from_or, if_at, end_at, count_at, place_from, stands_at, Places, place_in, IsIndex, IsPut}
+use Rattle.delta_history.proofs.Points.{and_then_is, behind_point, replay_more, rises, run_some, run_front}
 use Rattle.delta_history.proofs.Chains.{starts_at, goes_from}
 use Rattle.delta_history.proofs.Versions.{cut_is}
 
@@ -157,6 +160,67 @@ end_from name b (d ∷ ds) p q v l e r = go (end_from name (b ++ d ∷ []) ds n.
         let low = lt_false p.at.version v f in
         let up : v < p.at.version = grind (arith, nat_tests, t, low) in
         cut_high p v (d ∷ ds) up ∙ sym (ends false f ∙ ap (if_at v) from ∙ no_end v p.at t)
+
+-- ---- states by version
+
+abbrev found_state : Option (Point × List DeltaOf) → Option State
+found_state o = option_map (λ c. c.0.state) o
+
+-- the state behind the first k deltas, where something was found
+abbrev state_if : State → ℕ → List DeltaOf → Option VersionAt → Option State
+state_if s k ds o = option_and_then (λ at. run_all s (take k ds)) o
+
+state_here : (b : Bool) (p : Point) (ds : List DeltaOf) → found_state (cond b (Some (p, ds)) None) ≡ option_and_then (λ at. Some p.state) (cond b (Some p.at) None)
+state_here true p ds = refl
+state_here false p ds = refl
+
+cut_none : (p : Point) (v : ℕ) (ds : List DeltaOf) → v < p.at.version → found_state (cut p v ds) ≡ None
+cut_none p v ds h = go (cut p v ds) (cut_high p v ds h)
+  where
+    go : (o : Option (Point × List DeltaOf)) → at_of o ≡ None → found_state o ≡ None
+    go None e = refl
+    go (Some c) e = no_value (sym e)
+
+pub state_from : (name : List ℕ) (b ds : List DeltaOf) (p q : Point) (v : ℕ) → IsLegalFrom name b ds → replay (start name) b ≡ Some p → replay p ds ≡ Some q → found_state (cut p v ds) ≡ state_if p.state (started_below v ds) ds (end_at v q.at ds)
+state_from name b [] p q v l e r = state_here (p.at.version == v) p [] ∙ ap (λ (z : Point). option_and_then (λ at. Some p.state) (if_at v z.at)) (same_Some r)
+state_from name b (d ∷ ds) p q v l e r = go (state_from name (b ++ d ∷ []) ds n.after q v l.1 (replay_more (start name) p n.after b d e z) rest) (p.at.version == v) refl (nat_lt p.at.version v) refl
+  where
+    n : IsNext name b d
+    n = l.0
+
+    z : next_point p d ≡ Some n.after
+    z = goes_from name b d p e n
+
+    from : d.from ≡ p.at
+    from = starts_at name b d p e n
+
+    rest : replay n.after ds ≡ Some q
+    rest = sym (and_then_is (next_point p d) (λ y. replay y ds) n.after z) ∙ r
+
+    led : run_all p.state (d ∷ take (started_below v ds) ds) ≡ run_all n.after.state (take (started_below v ds) ds)
+    led =
+        let a = behind_point p n.after d z in
+        and_then_is (run p.state (acts_of d)) (λ s. run_all s (take (started_below v ds) ds)) a.state a.goes ∙ ap (λ s. run_all s (take (started_below v ds) ds)) (sym a.same)
+
+    ends : (t : Bool) → nat_lt p.at.version v ≡ t → state_if p.state (started_below v (d ∷ ds)) (d ∷ ds) (end_at v q.at (d ∷ ds)) ≡ state_if p.state (cond t (suc (started_below v ds)) 0) (d ∷ ds) (if_at v (from_or q.at (slice_get (d ∷ ds) (cond t (suc (started_below v ds)) 0))))
+    ends t u =
+        let same = ap (λ (y : VersionAt). cond (nat_lt y.version v) (suc (started_below v ds)) 0) from ∙ ap (λ t. cond t (suc (started_below v ds)) 0) u in
+        ap (λ k. state_if p.state k (d ∷ ds) (if_at v (from_or q.at (slice_get (d ∷ ds) k)))) same
+
+    go : found_state (cut n.after v ds) ≡ state_if n.after.state (started_below v ds) ds (end_at v q.at ds) → (t : Bool) → (p.at.version == v) ≡ t → (u : Bool) → nat_lt p.at.version v ≡ u → found_state (cut p v (d ∷ ds)) ≡ state_if p.state (started_below v (d ∷ ds)) (d ∷ ds) (end_at v q.at (d ∷ ds))
+    go again true t u f =
+        let is = (Decides-eqb p.at.version v).0 t in
+        ap (λ b. found_state (cond b (Some (p, d ∷ ds)) (option_and_then (λ q. cut q v ds) (next_point p d)))) t
+        ∙ sym (ends false (false_lt p.at.version v (omega (arith, is))) ∙ ap (λ at. option_and_then (λ y. Some p.state) (if_at v at)) from ∙ ap (λ b. option_and_then (λ y. Some p.state) (cond b (Some p.at) None)) t)
+    go again false t true f =
+        ap (λ b. found_state (cond b (Some (p, d ∷ ds)) (option_and_then (λ q. cut q v ds) (next_point p d)))) t
+        ∙ ap found_state (and_then_is (next_point p d) (λ q. cut q v ds) n.after z)
+        ∙ again
+        ∙ sym (ends true f ∙ ap (λ o. option_and_then (λ y. o) (end_at v q.at ds)) led)
+    go again false t false f =
+        let low = lt_false p.at.version v f in
+        let up : v < p.at.version = grind (arith, nat_tests, t, low) in
+        cut_none p v (d ∷ ds) up ∙ sym (ends false f ∙ ap (λ at. option_and_then (λ y. Some p.state) (if_at v at)) from ∙ ap (option_and_then (λ y. Some p.state)) (no_end v p.at t))
 
 -- ---- by id
 
@@ -299,6 +363,24 @@ hash_is name ds v l = ap (option_map (λ a. a.hash)) (sym (end_from name [] ds (
     go : (o : Option (Point × List DeltaOf)) → option_map (λ a. a.hash) (at_of o) ≡ option_map (λ p. p.at.hash) (option_map (λ c. c.0) o)
     go None = refl
     go (Some c) = refl
+
+-- the state at a version, by how many deltas lead up to it
+pub state_is : (name : List ℕ) (ds : List DeltaOf) (v : ℕ) → IsLegal name ds → state_of (point_at name ds v) ≡ option_and_then (λ k. run_all empty_state (take k ds)) (count_at v (end_of name ds).at ds)
+state_is name ds v l = shape (cut (start name) v ds) ∙ state_from name [] ds (start name) (end_of name ds) v l refl (legal_end name ds l) ∙ counted (end_at v (end_of name ds).at ds)
+  where
+    shape : (o : Option (Point × List DeltaOf)) → state_of (option_map (λ c. c.0) o) ≡ found_state o
+    shape None = refl
+    shape (Some c) = refl
+
+    counted : (o : Option VersionAt) → state_if empty_state (started_below v ds) ds o ≡ option_and_then (λ k. run_all empty_state (take k ds)) (option_map (λ at. started_below v ds) o)
+    counted None = refl
+    counted (Some at) = refl
+
+-- a front of a legal history leads somewhere
+pub front_runs : (name : List ℕ) (ds : List DeltaOf) (k : ℕ) → IsLegal name ds → IsSome (run_all empty_state (take k ds))
+front_runs name ds k l =
+    let r = run_front empty_state (end_of name ds).state k ds (run_some (start name) (end_of name ds) ds (legal_end name ds l)) in
+    ap is_some r.1
 
 pub kept_here : (name : List ℕ) (ds : List DeltaOf) (i : IdOf) → IsLegal name ds → kept i (start name) ds ≡ option_and_then (stands_at (end_of name ds).at ds) (place_from i 0 ds)
 kept_here name ds i l = kept_at name [] ds (start name) (end_of name ds) i l refl (legal_end name ds l)

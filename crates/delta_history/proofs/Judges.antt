@@ -22,7 +22,8 @@ use Rattle.wavelet_codec.specs.Spelling.{delta_bytes}
 use Rattle.delta_history.specs.declared.kept.Kept.{Kept}
 use Rattle.delta_history.specs.Points.{Point, start, next_point, replay, cut}
 use Rattle.delta_history.specs.Passing.{all_acts}
-use Rattle.delta_history.specs.Legal.{has_id, standing, may_write, max_inserted, max_delta, IsLegal}
+use Rattle.delta_history.specs.Legal.{has_id, standing, may_write, max_delta, IsLegal}
+use Rattle.wavelet_state.specs.Snapshots.{max_inserted}
 use Rattle.delta_history.specs.Verdicts.{kept, op_of, ops_of, accepted, is_within, same_hash, judge_kept, judge_head, judge_author, judge_base, judge_hash, judge_ops, judge_pass, judge_bounds, judge_next}
 use Rattle.delta_history.specs.Laws.{IsKept, IsAdded, IsJudged, IsSpelled, EndsSpelled, JudgedIs}
 use Rattle.delta_history.proofs.Points.{and_then_is, replay_append, behind_point, pass_through}

@@ -2,8 +2,9 @@
 --     IsBehind p q d, behind_point    what is known of the point behind a delta
 --     replay_append, replay_more      deltas in a row
 --     rises                           versions only rise
+--     run_some, run_front             the states alone, of the whole and of its front
 --     IsThrough acts ds q, pass_through   acts that are valid at a point pass through the deltas behind it, and are valid there
-use Rattle.std.proofs.Common.{◌≡◌, ◌+◌, ◌≤◌, List, [], ◌∷◌, ◌++◌, length, Option, Some, refl, sym, ap, subst, ◌∙◌, arith, le_refl, option_and_then}
+use Rattle.std.proofs.Common.{◌≡◌, ℕ, zero, suc, ◌+◌, ◌≤◌, List, [], ◌∷◌, ◌++◌, length, take, Option, Some, refl, sym, ap, subst, ◌∙◌, arith, le_refl, option_and_then}
 use Rattle.doc_op.proofs.Applying.{same_Some, mapped}
 use Rattle.wavelet_op.specs.Acts.{Act, inserted}
 use Rattle.wavelet_op.specs.Deltas.{DeltaOf}
@@ -11,7 +12,7 @@ use Rattle.wavelet_op.specs.Grids.{grid, pass}
 use Rattle.wavelet_op.specs.States.{State, run}
 use Rattle.wavelet_op.proofs.Grids.{delta_square}
 use Rattle.wavelet_op.proofs.Partial.{and_then_some, and_then_same, and_then_twice}
-use Rattle.delta_history.specs.Points.{Point, acts_of, point_behind, next_point, replay}
+use Rattle.delta_history.specs.Points.{Point, acts_of, point_behind, next_point, replay, run_all}
 use Rattle.delta_history.specs.Passing.{all_acts}
 
 pub and_then_is : {A B : Type 0} (m : Option A) (f : A → Option B) (x : A) → m ≡ Some x → option_and_then f m ≡ f x
@@ -52,6 +53,21 @@ rises p q (x ∷ xs) e =
     let a = behind_point p m.0 x m.1 in
     let h : m.0.at.version ≤ q.at.version = rises m.0 q xs m.2 in
     omega (arith, a.version)
+
+pub run_some : (p q : Point) (xs : List DeltaOf) → replay p xs ≡ Some q → run_all p.state xs ≡ Some q.state
+run_some p q [] e = ap (λ (z : Point). Some z.state) (same_Some e)
+run_some p q (x ∷ xs) e =
+    let m = and_then_some (next_point p x) (λ z. replay z xs) q e in
+    let a = behind_point p m.0 x m.1 in
+    and_then_is (run p.state (acts_of x)) (λ s. run_all s xs) a.state a.goes ∙ ap (λ s. run_all s xs) (sym a.same) ∙ run_some m.0 q xs m.2
+
+pub run_front : (s t : State) (n : ℕ) (xs : List DeltaOf) → run_all s xs ≡ Some t → (u : State) × (run_all s (take n xs) ≡ Some u)
+run_front s t zero xs e = (s, refl)
+run_front s t (suc n) [] e = (s, refl)
+run_front s t (suc n) (x ∷ xs) e =
+    let m = and_then_some (run s (acts_of x)) (λ z. run_all z xs) t e in
+    let r = run_front m.0 t n xs m.2 in
+    (r.0, and_then_is (run s (acts_of x)) (λ z. run_all z (take n xs)) m.0 m.1 ∙ r.1)
 
 -- ---- acts on their way
 

@@ -1,7 +1,9 @@
 -- The next delta of a history, from what is tested of it.
 --     ready             it may come next, and where it leads
 --     unfit, unasked, invalid     why the longer history isn't legal
-use Rattle.std.proofs.Common.{◌≡◌, ◌+◌, ◌≤◌, true, false, [], ◌∷◌, ◌++◌, length, Some, None, Result, Ok, Err, IfOk, IfErr, sym, ap, subst, ◌∙◌, true≢false, unwrap_or}
+--     same_head         more room leaves the head
+--     before_last       the state before a delta that came
+use Rattle.std.proofs.Common.{◌≡◌, ◌+◌, ◌≤◌, true, false, [], ◌∷◌, ◌++◌, length, Some, None, sym, ap, subst, ◌∙◌, true≢false, unwrap_or}
 use Rattle.std.specs.Option.{option_map}
 use Rattle.doc_op.proofs.Applying.{no_value}
 use Rattle.wavelet_op.specs.Acts.{inserted}
@@ -13,6 +15,7 @@ use Rattle.delta_history.specs.Histories.{HistoryOf, head_of, IsSameHistory, IsG
 use Rattle.delta_history.specs.Legal.{standing, may_write, IsNext, IsLegal}
 use Rattle.delta_history.specs.Points.{Point, start, acts_of, point_behind, next_point, end_of}
 use Rattle.delta_history.specs.Pushes.{IsAsked, IsInvalid, IsReady, IsRefused}
+use Rattle.delta_history.specs.Twins.{IsBehind}
 use Rattle.delta_history.specs.Steps.{IsFitting, IsUnfit, step_behind}
 use Rattle.delta_history.specs.declared.step.Step.{Step}
 use Rattle.delta_history.proofs.Chains.{legal_behind}
@@ -93,6 +96,9 @@ not_run h d Memory a u = tt
 pub moved : (g h : HistoryOf) (d : DeltaOf) → IsSameHistory g h → IsNext g.name g.deltas d → IsNext h.name h.deltas d
 moved g h d s n = subst (λ z. IsNext h.name z d) (sym s.deltas) (subst (λ z. IsNext z g.deltas d) (sym s.name) n)
 
+pub same_head : (g h : HistoryOf) → IsSameHistory g h → head_of h ≡ head_of g
+same_head g h s = λ i. end_of (s.name i) (s.deltas i)
+
 pub moved_end : (g h : HistoryOf) (d : DeltaOf) (p : Point) → IsSameHistory g h → end_of g.name (g.deltas ++ d ∷ []) ≡ p → end_of h.name (h.deltas ++ d ∷ []) ≡ p
 moved_end g h d p s e = (λ i. end_of (s.name i) (s.deltas i ++ d ∷ [])) ∙ e
 
@@ -105,10 +111,17 @@ ready_step h d t s s' l a e u r =
     let x = ready h d s' l a (ap (λ z. run z (acts_of d)) u ∙ r) in
     record { next = x.next; leads = x.leads ∙ (λ i. record { at = (sym e i).to; state = s'; count = (sym e i).inserted }) }
 
-pub if_ok : {A E : Type 0} {P Q R S : A → Type 0} (r : Result A E) → IfOk r P → IfOk r Q → IfOk r R → ((x : A) → P x → Q x → R x → S x) → IfOk r S
-if_ok (Ok x) p q r f = f x p q r
-if_ok (Err e) p q r f = tt
-
-pub if_err : {A E : Type 0} {P Q : E → Type 0} (r : Result A E) → IfErr r P → ((e : E) → P e → Q e) → IfErr r Q
-if_err (Ok x) p f = tt
-if_err (Err e) p f = f e p
+-- the state before a delta that came behind the others
+pub before_last : (h k : HistoryOf) (d : DeltaOf) (p : Point) (s : State) → IsReady h d p → IsGrown h d k → (head_of h).state ≡ s → IsBehind k.name k.deltas s
+before_last h k d p s r w e =
+    let n = r.next in
+    let a = behind_point n.here n.after d n.goes in
+    let here : n.here.state ≡ s = ap (λ (x : Point). x.state) (here_is h d n) ∙ e in
+    let end : end_of h.name (h.deltas ++ d ∷ []) ≡ n.after = ap (λ o. unwrap_or o (start h.name)) (replay_more (start h.name) n.here n.after h.deltas d n.is_head n.goes) in
+    let whole : head_of k ≡ n.after = (λ i. end_of (w.name i) (w.deltas i)) ∙ end in
+    record {
+      before = h.deltas;
+      last = d;
+      whole = sym w.deltas;
+      leads = ap (λ z. run z (acts_of d)) (sym here) ∙ a.goes ∙ ap Some (sym a.same ∙ ap (λ (x : Point). x.state) (sym whole));
+    }

@@ -1,5 +1,5 @@
 -- Legal histories.
---     max_inserted, max_delta     how many items the deltas of a history insert at most; how many bytes a delta has at most
+--     max_delta                   how many bytes a delta has at most
 --     has_id i ds                 a delta has this id
 --     adds_first acts a           the first act adds the address
 --     standing ds p a acts        what the author of further acts may do: by the role at p, which is the head of the history; in an
@@ -18,10 +18,8 @@ use Rattle.wavelet_op.specs.States.{role_of}
 use Rattle.wavelet_op.specs.declared.role.Role.{Role}
 use Rattle.wavelet_op.specs.declared.role.Role.TheVariants.{Full, ReadOnly}
 use Rattle.wavelet_codec.specs.Spelling.{delta_bytes}
+use Rattle.wavelet_state.specs.Snapshots.{max_inserted}
 use Rattle.delta_history.specs.Points.{Point, start, acts_of, next_point, replay}
-
-abbrev pub max_inserted : ℕ
-max_inserted = 1099511627776
 
 abbrev pub max_delta : ℕ
 max_delta = 1048576

@@ -1,3 +1,4 @@
+pub mod Copying
 pub mod Histories
 pub mod Laws
 pub mod Legal
@@ -6,4 +7,5 @@ pub mod Places
 pub mod Points
 pub mod Pushes
 pub mod Steps
+pub mod Twins
 pub mod Verdicts

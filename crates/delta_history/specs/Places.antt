@@ -2,6 +2,7 @@
 --     started_below v ds      how many deltas at the front were applied below a version
 --     IsRisingFrom n ds       the versions at which they were applied rise, from n on
 --     end_at v head ds        the hashed version at v, where that is the start of one of the deltas or the head behind them
+--     count_at v head ds      how many deltas lead up to v; None where that is none of these
 --     place_from i n ds       the place of the first delta of the id, where the first of the deltas has the place n
 --     stands_at head ds k     where the delta at a place stands: its version, and the hashed version behind it
 --     Places                  a map from ids, by author and then by client and number, to places
@@ -39,6 +40,9 @@ if_at v at = cond (at.version == v) (Some at) None
 
 abbrev pub end_at : ℕ → VersionAt → List DeltaOf → Option VersionAt
 end_at v head ds = if_at v (from_or head (slice_get ds (started_below v ds)))
+
+abbrev pub count_at : ℕ → VersionAt → List DeltaOf → Option ℕ
+count_at v head ds = option_map (λ at. started_below v ds) (end_at v head ds)
 
 -- ---- by id
 

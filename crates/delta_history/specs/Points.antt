@@ -5,9 +5,11 @@
 --     point_behind p d s     the point behind a delta that was applied at p, where s is the state behind it
 --     next_point p d         so, where the acts of the delta are valid at p
 --     replay p ds            the point behind deltas in turn
+--     run_all s ds           the state behind them alone, from a state on
 --     cut p v ds             the point at version v on the way from p through the deltas, and those behind it; None where no delta
 --                            ends there
 --     point_at name ds v     the point at a version of the history; None where the version is no delta end
+--     state_of o             the state of a point that was found
 --     end_of name ds         the point at its head
 --     IsAt name ds p         the history leads through the point
 use Rattle.std.specs.Prelude.{◌≡◌, ℕ, ◌+◌, ◌==◌, cond, List, [], ◌∷◌, ◌++◌, length, Option, Some, None, option_and_then, unwrap_or}
@@ -43,12 +45,19 @@ abbrev pub replay : Point → List DeltaOf → Option Point
 replay p [] = Some p
 replay p (d ∷ ds) = option_and_then (λ q. replay q ds) (next_point p d)
 
+abbrev pub run_all : State → List DeltaOf → Option State
+run_all s [] = Some s
+run_all s (d ∷ ds) = option_and_then (λ t. run_all t ds) (run s (acts_of d))
+
 abbrev pub cut : Point → ℕ → List DeltaOf → Option (Point × List DeltaOf)
 cut p v [] = cond (p.at.version == v) (Some (p, [])) None
 cut p v (d ∷ ds) = cond (p.at.version == v) (Some (p, d ∷ ds)) (option_and_then (λ q. cut q v ds) (next_point p d))
 
 abbrev pub point_at : List ℕ → List DeltaOf → ℕ → Option Point
 point_at name ds v = option_map (λ c. c.0) (cut (start name) v ds)
+
+abbrev pub state_of : Option Point → Option State
+state_of o = option_map (λ p. p.state) o
 
 abbrev pub end_of : List ℕ → List DeltaOf → Point
 end_of name ds = unwrap_or (replay (start name) ds) (start name)

@@ -1,9 +1,10 @@
 -- What is asked of the next delta of a history, its state apart.
 --     IsWithin at n d         behind a delta at this hashed version, where n items were inserted, the three bounds hold
 --     step_behind at n d      the hashed version and the number of items behind it
+--     IsWritten at n d s t    the bounds hold, s is what the delta leads to, and t are its bytes
 --     IsFitting h d           the delta starts at the head, its id is new, and the bounds hold
 --     IsUnfit h d e           why it doesn't fit
-use Rattle.std.specs.Prelude.{◌≡◌, ◌≢◌, ◌≤◌, ◌+◌, ℕ, false, length}
+use Rattle.std.specs.Prelude.{◌≡◌, ◌≢◌, ◌≤◌, ◌+◌, ℕ, false, List, length}
 use Rattle.doc_items.specs.Limits.{max_count}
 use Rattle.wave_base.specs.Versions.{VersionAt}
 use Rattle.wavelet_op.specs.Acts.{inserted}
@@ -13,7 +14,8 @@ use Rattle.delta_history.specs.declared.fault.HistoryFault.{HistoryFault}
 use Rattle.delta_history.specs.declared.fault.HistoryFault.TheVariants.{NotNext, NotLegal, Memory}
 use Rattle.delta_history.specs.declared.step.Step.{Step}
 use Rattle.delta_history.specs.Histories.{HistoryOf, head_of}
-use Rattle.delta_history.specs.Legal.{has_id, max_inserted, max_delta}
+use Rattle.delta_history.specs.Legal.{has_id, max_delta}
+use Rattle.wavelet_state.specs.Snapshots.{max_inserted}
 use Rattle.delta_history.specs.Points.{acts_of, version_behind}
 
 pub record IsWithin (at : VersionAt) (n : ℕ) (d : DeltaOf) : Type 0 where
@@ -23,6 +25,11 @@ pub record IsWithin (at : VersionAt) (n : ℕ) (d : DeltaOf) : Type 0 where
 
 abbrev pub step_behind : VersionAt → ℕ → DeltaOf → Step
 step_behind at n d = record { to = version_behind at d; inserted = n + inserted (acts_of d) }
+
+pub record IsWritten (at : VersionAt) (n : ℕ) (d : DeltaOf) (s : Step) (text : List ℕ) : Type 0 where
+  pub within : IsWithin at n d
+  pub step : s ≡ step_behind at n d
+  pub bytes : text ≡ delta_bytes d
 
 pub record IsFitting (h : HistoryOf) (d : DeltaOf) : Type 0 where
   pub starts : d.from ≡ (head_of h).at

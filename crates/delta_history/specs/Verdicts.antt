@@ -29,7 +29,8 @@ use Rattle.wavelet_codec.specs.Spelling.{delta_bytes}
 use Rattle.delta_history.specs.declared.kept.Kept.{Kept}
 use Rattle.delta_history.specs.Points.{Point, start, next_point, replay, cut}
 use Rattle.delta_history.specs.Passing.{all_acts}
-use Rattle.delta_history.specs.Legal.{standing, max_inserted, max_delta}
+use Rattle.delta_history.specs.Legal.{standing, max_delta}
+use Rattle.wavelet_state.specs.Snapshots.{max_inserted}
 
 -- ---- what a history keeps
 

@@ -2,18 +2,25 @@ ghost use Rattle.std.specs.Prelude.{◌≡◌, ◌<◌, ◌≤◌, [], Some, IfO
 ghost use Rattle.wavelet_op.specs.Acts.{meanings, AreNormal};
 ghost use Rattle.wavelet_op.specs.Deltas.{is_count};
 ghost use Rattle.wavelet_op.specs.States.{run};
+ghost use Rattle.wavelet_codec.specs.Spelling.{delta_bytes};
 ghost use Rattle.delta_history.specs.Histories.{head_of, hash_found, IsSameHistory, IsGrown};
-ghost use Rattle.delta_history.specs.Legal.{adds_first, standing, may_write, max_inserted, IsLegal};
-ghost use Rattle.delta_history.specs.Points.{start, acts_of};
+ghost use Rattle.delta_history.specs.Legal.{adds_first, standing, may_write, IsLegal};
+ghost use Rattle.wavelet_state.specs.Snapshots.{max_inserted};
+ghost use Rattle.delta_history.specs.Points.{start, acts_of, point_at, state_of};
 ghost use Rattle.delta_history.specs.Pushes.{IsAsked, IsInvalid, IsReady, IsRefused};
-ghost use Rattle.delta_history.specs.Steps.{step_behind, IsFitting};
+ghost use Rattle.delta_history.specs.Steps.{IsFitting, IsWritten};
+ghost use Rattle.delta_history.specs.Twins.{IsBehind};
 ghost use Rattle.delta_history.specs.Verdicts.{kept};
 
 use crate::log::Log;
-use crate::step::{Step, next_step};
+use crate::states::{lead_on, state_behind};
+use crate::step::{Written, next_step};
+use crate::twin::{Twin, forget, keep};
 use crate::{HistoryFault, Kept};
+use doc_items::Memory;
 use std::alloc::Global;
 use std::marker::Model;
+use std::mem::replace;
 use wave_base::{Address, DeltaId, HashedVersion, WaveletName};
 use wavelet_op::{AppliedDelta, Ops, Role, WaveletFault, WaveletOp};
 use wavelet_state::{WaveletState, apply_delta};
@@ -24,11 +31,13 @@ use wavelet_state::{WaveletState, apply_delta};
 pub struct History {
     log: Log,
     state: WaveletState,
+    twin: Option<Twin>,
 }
 
 impl Model for History {
-    ghost use Rattle.std.specs.Prelude.{◌≡◌};
+    ghost use Rattle.std.specs.Prelude.{◌≡◌, IfSome};
     ghost use Rattle.delta_history.specs.Histories.{HistoryOf, head_of};
+    ghost use Rattle.delta_history.specs.Twins.{IsTwin};
     ghost use Rattle.delta_history.specs.contracts.log.Log as log_row;
 
     ghost Value = { HistoryOf };
@@ -37,15 +46,55 @@ impl Model for History {
 
     ghost view = { λ h. h.log };
 
-    ghost invariant = { λ h. (head_of h.log).state ≡ h.state };
+    ghost invariant = { λ h. record { state : (head_of h.log).state ≡ h.state; twin : IfSome h.twin (IsTwin h.log.name h.log.deltas) } };
 }
 
-/// A delta that may come next, with what it leads to.
+/// A delta that may come next, with its bytes and with the point that it leads to.
 #[derive(Drop)]
 pub struct Prepared {
     delta: AppliedDelta,
-    step: Step,
+    written: Written,
     state: WaveletState,
+}
+
+impl Model for Prepared {
+    ghost use Rattle.std.specs.Prelude.{◌≡◌};
+    ghost use Rattle.doc_items.specs.contracts.item.Item as item_row;
+    ghost use Rattle.wavelet_op.specs.contracts.delta.AppliedDelta as delta_row;
+    ghost use Rattle.wavelet_op.specs.contracts.role.Role as role_row;
+    ghost use Rattle.wavelet_codec.specs.Spelling.{delta_bytes};
+    ghost use Rattle.delta_history.specs.Pushes.{PreparedOf, prepared_code};
+
+    ghost Value = { PreparedOf };
+
+    ghost coded = { prepared_code delta_row.the_row.coded role_row.the_row.coded item_row.the_row.coded };
+
+    ghost view = { λ p. record { delta = p.delta; after = record { at = p.written.step.to; state = p.state; count = p.written.step.inserted } } };
+
+    ghost invariant = { λ p. p.written.bytes.items ≡ delta_bytes p.delta };
+}
+
+impl Prepared {
+    /// The delta.
+    pub fn delta(&self) -> &AppliedDelta
+        ensures { result.now ≡ self.now.delta }
+    {
+        &self.delta
+    }
+
+    /// The canonical bytes of the delta.
+    pub fn bytes(&self) -> &[u8]
+        ensures { result.now ≡ delta_bytes self.now.delta }
+    {
+        self.written.bytes.as_slice()
+    }
+
+    /// The hashed version behind the delta.
+    pub fn to(&self) -> HashedVersion
+        ensures { result ≡ self.now.after.at }
+    {
+        self.written.step.to
+    }
 }
 
 impl History {
@@ -57,6 +106,7 @@ impl History {
         History {
             log: Log::new(alloc, name),
             state: WaveletState::new(alloc),
+            twin: None,
         }
     }
 
@@ -118,6 +168,18 @@ impl History {
         &self.state
     }
 
+    /// The state at a version, None exactly where the version is neither 0 nor the end of a delta. The deltas up to there are applied
+    /// for it. The error is want of memory.
+    pub fn state_at(&self, alloc: Global, version: u64) -> Result<Option<WaveletState>, Memory>
+        ensures { IfOk result (λ o. o ≡ state_of (point_at self.now.name self.now.deltas version)) }
+    {
+        let deltas = self.log.deltas();
+        match self.log.count_at(version) {
+            Some(count) => Ok(Some(state_behind(alloc, &deltas[..count])?)),
+            None => Ok(None),
+        }
+    }
+
     // Whether the author of the delta may write: by its role at the head, and in an empty history by adding itself first.
     fn may_write(&self, delta: &AppliedDelta) -> bool
         ensures { result ≡ may_write (standing self.now.deltas (head_of self.now) delta.now.id.author (acts_of delta.now)) }
@@ -128,31 +190,59 @@ impl History {
         self.state.role(&delta.id.author) == Some(Role::Full)
     }
 
-    // The step, if the author of the delta may write; else `NotLegal`.
-    fn if_may_write(&self, delta: &AppliedDelta, step: Step) -> Result<Step, HistoryFault>
+    // What the delta leads to, if its author may write; else `NotLegal`.
+    fn if_may_write(&self, delta: &AppliedDelta, written: Written) -> Result<Written, HistoryFault>
         requires { IsFitting self.now delta.now }
-        ensures ok { IfOk result (λ s. (s ≡ step) × (may_write (standing self.now.deltas (head_of self.now) delta.now.id.author (acts_of delta.now)) ≡ true)) }
+        ensures same { IfOk result (λ w. w ≡ written) }
+        ensures may { OnOk result (may_write (standing self.now.deltas (head_of self.now) delta.now.id.author (acts_of delta.now)) ≡ true) }
         ensures refused { IfErr result (IsRefused self.now delta.now) }
     {
         if self.may_write(delta) {
-            Ok(step)
+            Ok(written)
         } else {
             Err(HistoryFault::NotLegal)
         }
     }
 
     // What the delta leads to, its state apart. Refusals: `NotNext`, then `NotLegal` for another reason than its operations.
-    fn step(&self, alloc: Global, delta: &AppliedDelta) -> Result<Step, HistoryFault>
-        ensures ok { IfOk result (λ s. IsAsked self.now delta.now × (s ≡ step_behind (head_of self.now).at (head_of self.now).count delta.now)) }
+    fn step(&self, alloc: Global, delta: &AppliedDelta) -> Result<Written, HistoryFault>
+        ensures asked { OnOk result (IsAsked self.now delta.now) }
+        ensures written { IfOk result (λ w. IsWritten (head_of self.now).at (head_of self.now).count delta.now w.step w.bytes.items) }
         ensures refused { IfErr result (IsRefused self.now delta.now) }
         ensures legal { IsLegal self.now.name self.now.deltas }
     {
         let _len = len(delta);
         let _deltas = self.log.deltas();
         match next_step(alloc, &self.log, delta) {
-            Ok(step) => self.if_may_write(delta, step),
+            Ok(written) => self.if_may_write(delta, written),
             Err(fault) => Err(fault),
         }
+    }
+
+    // A state of its own at the head, which the history doesn't keep. Only the last delta is applied to the second state, where there
+    // is one.
+    fn second(&mut self, alloc: Global) -> Result<WaveletState, Memory>
+        ensures value { IfOk result (λ s. (head_of self.old).state ≡ s) }
+        ensures same { self.new ≡ self.old }
+    {
+        match self.twin.take() {
+            Some(Twin::Level(state)) => Ok(state),
+            Some(Twin::Behind(state)) => self.caught_up(alloc, state),
+            None => self.state.copy(alloc),
+        }
+    }
+
+    // The state behind the last delta, from the one before it.
+    fn caught_up(&self, alloc: Global, state: WaveletState) -> Result<WaveletState, Memory>
+        requires { IsBehind self.now.name self.now.deltas state }
+        ensures { IfOk result (λ s. (head_of self.now).state ≡ s) }
+    {
+        let mut state = state;
+        let Some(last) = self.log.deltas().last() else {
+            return self.state.copy(alloc);
+        };
+        lead_on(alloc, &mut state, last)?;
+        Ok(state)
     }
 
     /// The delta is behind the others. Refusals: `NotNext` exactly where it doesn't start at the head; then `NotLegal` exactly where
@@ -162,8 +252,9 @@ impl History {
         ensures refused { IfErr result (IsRefused self.old delta) }
         ensures same { OnErr result (IsSameHistory self.old self.new) }
     {
-        let step = self.step(alloc, &delta)?;
+        let step = self.step(alloc, &delta)?.step;
         self.log.reserve(alloc)?;
+        forget(&mut self.twin);
         match applied(alloc, &mut self.state, &delta.ops) {
             Ok(()) => {
                 self.log.push(delta, step.to, step.inserted);
@@ -174,28 +265,45 @@ impl History {
     }
 
     /// The delta with what it leads to, for `commit`; there is room for it then. The refusals are those of `push_applied`. All but
-    /// the room stays as it was.
+    /// the room stays as it was. The documents aren't copied where the delta before was committed.
     pub fn prepare(&mut self, alloc: Global, delta: AppliedDelta) -> Result<Prepared, HistoryFault>
-        ensures ok { IfOk result (λ p. (p.delta ≡ delta) × IsReady self.old delta (record { at = p.step.to; state = p.state; count = p.step.inserted })) }
+        ensures delta { IfOk result (λ p. p.delta ≡ delta) }
+        ensures ready { IfOk result (λ p. IsReady self.old delta p.after) }
         ensures room { OnOk result (0 < self.new.spare) }
         ensures refused { IfErr result (IsRefused self.old delta) }
         ensures same { IsSameHistory self.old self.new }
     {
-        let step = self.step(alloc, &delta)?;
+        let written = self.step(alloc, &delta)?;
         self.log.reserve(alloc)?;
-        let state = self.state.copy(alloc)?;
-        lead(alloc, state, delta, step)
+        let mut state = self.second(alloc)?;
+        match applied(alloc, &mut state, &delta.ops) {
+            Ok(()) => Ok(Prepared {
+                delta,
+                written,
+                state,
+            }),
+            Err(fault) => {
+                keep(&mut self.twin, Twin::Level(state));
+                Err(fault)
+            }
+        }
     }
 
     /// The prepared delta, which may come next, is behind the others.
     pub fn commit(&mut self, prepared: Prepared)
-        requires ready { IsReady self.old prepared.delta (record { at = prepared.step.to; state = prepared.state; count = prepared.step.inserted }) }
+        requires ready { IsReady self.old prepared.delta prepared.after }
         requires room { 0 < self.old.spare }
         ensures { IsGrown self.old prepared.delta self.new }
     {
-        let step = prepared.step;
-        self.log.push(prepared.delta, step.to, step.inserted);
-        self.state = prepared.state;
+        let Prepared {
+            delta,
+            written,
+            state,
+        } = prepared;
+        let step = written.step;
+        self.log.push(delta, step.to, step.inserted);
+        let before = replace(&mut self.state, state);
+        keep(&mut self.twin, Twin::Behind(before));
     }
 }
 
@@ -216,23 +324,6 @@ fn adds_first(ops: &Ops, address: &Address) -> bool
         Some(WaveletOp::Add(added)) => address == added,
         _ => false,
     }
-}
-
-// The delta with the state that it leads to. Refusals: `NotLegal` exactly where its operations aren't valid.
-fn lead(
-    alloc: Global,
-    state: WaveletState,
-    delta: AppliedDelta,
-    step: Step,
-) -> Result<Prepared, HistoryFault>
-    ensures delta { IfOk result (λ p. p.delta ≡ delta) }
-    ensures step { IfOk result (λ p. p.step ≡ step) }
-    ensures state { IfOk result (λ p. run state (acts_of delta) ≡ Some p.state) }
-    ensures refused { IfErr result (IsInvalid state (acts_of delta)) }
-{
-    let mut state = state;
-    applied(alloc, &mut state, &delta.ops)?;
-    Ok(Prepared { delta, step, state })
 }
 
 // The state is behind the operations. Refusals: `NotLegal` exactly where they aren't valid. After one, the state is as it was.

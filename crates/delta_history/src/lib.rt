@@ -1,6 +1,7 @@
 //! The history of a wavelet: which deltas it may have, the points that it leads through, and what becomes of a submission.
 #![tactic(auto)]
 
+mod copies;
 mod fault;
 mod history;
 mod ids;
@@ -8,8 +9,11 @@ mod kept;
 mod laws;
 mod log;
 mod places;
+mod states;
 mod step;
+mod twin;
 
+pub use copies::Copies;
 pub use fault::HistoryFault;
 pub use history::{History, Prepared};
 pub use kept::Kept;

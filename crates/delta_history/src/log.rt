@@ -1,9 +1,10 @@
 // The deltas of a legal history, without its state.
-ghost use Rattle.std.specs.Prelude.{◌≡◌, ◌≤◌, ◌<◌, ◌++◌, ◌∷◌, [], slice_get, OnOk};
+ghost use Rattle.std.specs.Prelude.{◌≡◌, ◌≤◌, ◌<◌, ◌++◌, ◌∷◌, [], length, slice_get, IfSome, OnOk};
 ghost use Rattle.std.specs.Option.{option_map};
 ghost use Rattle.delta_history.specs.Histories.{head_of, hash_found, IsSameHistory, IsGrown};
-ghost use Rattle.delta_history.specs.Legal.{has_id, max_inserted, IsLegal, IsNext};
-ghost use Rattle.delta_history.specs.Places.{place_from, stands_at, from_or, if_at};
+ghost use Rattle.delta_history.specs.Legal.{has_id, IsLegal, IsNext};
+ghost use Rattle.wavelet_state.specs.Snapshots.{max_inserted};
+ghost use Rattle.delta_history.specs.Places.{count_at, place_from, stands_at, from_or, if_at};
 ghost use Rattle.delta_history.specs.Points.{start, end_of};
 ghost use Rattle.delta_history.specs.Verdicts.{kept};
 
@@ -119,6 +120,19 @@ impl Log {
     {
         let place = started_below(self.deltas(), version);
         hash_if(self.at(place), version)
+    }
+
+    /// How many deltas lead up to a version; None exactly where no delta ends there, and it isn't 0.
+    pub fn count_at(&self, version: u64) -> Option<usize>
+        ensures value { result ≡ count_at version (head_of self.now).at self.now.deltas }
+        ensures bound { IfSome result (λ k. k ≤ length self.now.deltas) }
+    {
+        let place = started_below(self.deltas(), version);
+        if self.at(place).version == version {
+            Some(place)
+        } else {
+            None
+        }
     }
 
     // The place of the delta of an id.

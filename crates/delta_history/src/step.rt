@@ -1,10 +1,11 @@
 // What is tested of the next delta, its state apart.
-ghost use Rattle.std.specs.Prelude.{◌≡◌, ◌≤◌, ◌<◌, ◌*◌, ℕ, length, take, true, IfOk, MatchOption, MatchResult};
+ghost use Rattle.std.specs.Prelude.{◌≡◌, ◌≤◌, ◌<◌, ◌*◌, ℕ, length, take, true, IfOk, IfErr, OnOk, MatchOption};
 ghost use Rattle.wavelet_codec.specs.Spelling.{delta_bytes};
 ghost use Rattle.wavelet_op.specs.Acts.{inserted_act, inserted, meaning, meanings};
 ghost use Rattle.delta_history.specs.Histories.{head_of};
-ghost use Rattle.delta_history.specs.Legal.{max_inserted, max_delta};
-ghost use Rattle.delta_history.specs.Steps.{step_behind, IsWithin, IsFitting, IsUnfit};
+ghost use Rattle.delta_history.specs.Legal.{max_delta};
+ghost use Rattle.wavelet_state.specs.Snapshots.{max_inserted};
+ghost use Rattle.delta_history.specs.Steps.{IsWithin, IsWritten, IsFitting, IsUnfit};
 ghost use Rattle.doc_items.specs.Limits.{max_count};
 
 use crate::HistoryFault;
@@ -15,9 +16,7 @@ use wave_base::HashedVersion;
 use wave_hash::next_hash;
 use wavelet_codec::{applied_len, write_applied};
 use wavelet_op::{AppliedDelta, Ops, WaveletOp};
-
-// The most items that the deltas of one history insert together.
-const MAX_INSERTED: u64 = 1 << 40;
+use wavelet_state::MAX_INSERTED;
 
 // The most bytes of a delta.
 const MAX_DELTA: u64 = 1 << 20;
@@ -27,6 +26,13 @@ const MAX_DELTA: u64 = 1 << 20;
 pub(crate) struct Step {
     pub to: HashedVersion,
     pub inserted: u64,
+}
+
+/// What a delta leads to, with its bytes.
+#[derive(Drop)]
+pub(crate) struct Written {
+    pub step: Step,
+    pub bytes: Vec<u8>,
 }
 
 // The number of items that an operation inserts.
@@ -70,14 +76,14 @@ fn bytes(alloc: Global, delta: &AppliedDelta) -> Result<Option<Vec<u8>>, Memory>
 }
 
 // What a delta leads to from a hashed version, where so many items were inserted; None where a bound is broken.
-fn step_behind(
+fn write(
     alloc: Global,
     at: HashedVersion,
     count: u64,
     delta: &AppliedDelta,
-) -> Result<Option<Step>, Memory>
+) -> Result<Option<Written>, Memory>
     requires { count ≤ max_inserted }
-    ensures { IfOk result (λ o. MatchOption o (¬ (IsWithin at count delta.now)) (λ s. IsWithin at count delta.now × (s ≡ step_behind at count delta.now))) }
+    ensures { IfOk result (λ o. MatchOption o (¬ (IsWithin at count delta.now)) (λ w. IsWritten at count delta.now w.step w.bytes.items)) }
 {
     let version = at.version + delta.ops.len();
     let inserted = count + inserted(&delta.ops);
@@ -88,10 +94,9 @@ fn step_behind(
         return Ok(None);
     };
     let hash = next_hash(&at.hash, bytes.as_slice());
-    Ok(Some(Step {
-        to: HashedVersion { version, hash },
-        inserted,
-    }))
+    let to = HashedVersion { version, hash };
+    let step = Step { to, inserted };
+    Ok(Some(Written { step, bytes }))
 }
 
 /// What a delta leads to from the head. Refusals: `NotNext`, then `NotLegal` where its id isn't new or a bound is broken.
@@ -99,8 +104,10 @@ pub(crate) fn next_step(
     alloc: Global,
     log: &Log,
     delta: &AppliedDelta,
-) -> Result<Step, HistoryFault>
-    ensures { MatchResult result (λ s. IsFitting log.now delta.now × (s ≡ step_behind (head_of log.now).at (head_of log.now).count delta.now)) (IsUnfit log.now delta.now) }
+) -> Result<Written, HistoryFault>
+    ensures ok { IfOk result (λ w. IsWritten (head_of log.now).at (head_of log.now).count delta.now w.step w.bytes.items) }
+    ensures fits { OnOk result (IsFitting log.now delta.now) }
+    ensures refused { IfErr result (IsUnfit log.now delta.now) }
 {
     let have = log.head();
     let got = delta.from;
@@ -110,8 +117,8 @@ pub(crate) fn next_step(
     if log.has(&delta.id) {
         return Err(HistoryFault::NotLegal);
     }
-    match step_behind(alloc, have, log.inserted(), delta)? {
-        Some(step) => Ok(step),
+    match write(alloc, have, log.inserted(), delta)? {
+        Some(written) => Ok(written),
         None => Err(HistoryFault::NotLegal),
     }
 }

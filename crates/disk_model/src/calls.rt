@@ -1,11 +1,11 @@
 // A file in memory as a disk that may fail.
-ghost use Rattle.std.specs.Prelude.{◌≡◌, true, min, is_err, ◌+◌, ◌-◌, ◌^◌, ◌≤◌, OnErr};
-ghost use Rattle.disk_model.specs.Disk.{LeavesJust};
+ghost use Rattle.std.specs.Prelude.{◌≡◌, true, min, is_err, ◌+◌, ◌-◌, ◌^◌, ◌≤◌, IfOk, OnErr};
+ghost use Rattle.disk_model.specs.Disk.{LeavesJust, IsUntouched, Elapses};
 ghost use Rattle.disk_model.specs.Steps.{is_to_fail};
 
 use crate::steps::{copy, sync, write};
 use crate::{Disk, DiskError, DiskFault, MemoryDisk};
-use std::alloc::Global;
+use std::alloc::{AllocError, Global};
 
 const MAX_LENGTH: u64 = (1 << 63) - 1;
 
@@ -63,6 +63,30 @@ impl MemoryDisk {
             calls: 0,
             faults: 0,
         }
+    }
+
+    /// A disk of its own that reads the same, all of it synced, with the same calls to fail. None was made yet.
+    pub fn fork(&self, alloc: Global) -> Result<MemoryDisk, AllocError>
+        ensures seen { IfOk result (λ d. (disk_view d).seen ≡ (disk_view self.now).seen) }
+        ensures synced { IfOk result (λ d. LeavesJust (disk_view self.now).seen (disk_view d)) }
+        ensures faults { IfOk result (λ d. (disk_view d).faults ≡ 0) }
+    {
+        let bytes = copy(alloc, &self.bytes)?;
+        let mut failing = Vec::new(alloc);
+        failing.extend_from_slice(self.failing.as_slice())?;
+        Ok(MemoryDisk::new(alloc, bytes, failing, self.stop))
+    }
+
+    /// The count of faults, which begins anew at 0. Nothing else changes.
+    pub fn take_faults(&mut self) -> u64
+        ensures value { result ≡ (disk_view self.old).faults }
+        ensures anew { (disk_view self.new).faults ≡ 0 }
+        ensures same { IsUntouched (disk_view self.old) (disk_view self.new) }
+        ensures time { Elapses (disk_view self.old) (disk_view self.new) }
+    {
+        let faults = self.faults;
+        self.faults = 0;
+        faults
     }
 }
 

@@ -1,3 +1,6 @@
+pub mod Clocks
 pub mod Counts
+pub mod Folders
 pub mod Memory
+pub mod MemoryFolders
 pub mod Streams

@@ -1,4 +1,4 @@
-ghost use Rattle.std.specs.Prelude.{◌≡◌, ◌≤◌};
+ghost use Rattle.std.specs.Prelude.{◌≡◌, ◌≤◌, ◌+◌, ◌-◌, ◌^◌, min};
 ghost use Rattle.wave_outside.specs.Counts.{raised};
 
 /// A call on the outside failed. The count of faults of the object called shows it.
@@ -25,5 +25,12 @@ impl Faults {
     {
         self.count = self.count.saturating_add(1);
         Failed
+    }
+
+    /// Counts so many more.
+    pub fn add(&mut self, more: u64)
+        ensures { self.new.count ≡ min (self.old.count + more) (2 ^ 64 - 1) }
+    {
+        self.count = self.count.saturating_add(more);
     }
 }

@@ -1,5 +1,5 @@
 use Rattle.std.proofs.Common.{◌≤◌, subst}
-use Rattle.delta_history.specs.Legal.{max_inserted}
+use Rattle.wavelet_state.specs.Snapshots.{max_inserted}
 use Rattle.delta_history.proofs.Finding.{held_end}
 use Rattle.delta_history.proofs.log.Log.inserted.Goals as goal
 

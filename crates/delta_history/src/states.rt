@@ -1,0 +1,37 @@
+// States behind deltas that are known to be valid.
+ghost use Rattle.std.specs.Prelude.{◌≡◌, Some, IsSome, IfOk, OnOk};
+ghost use Rattle.wavelet_op.specs.States.{empty_state, run};
+ghost use Rattle.delta_history.specs.Points.{acts_of, run_all};
+
+use doc_items::Memory;
+use std::alloc::{AllocError, Global};
+use wavelet_op::{AppliedDelta, WaveletFault};
+use wavelet_state::{WaveletState, apply_delta};
+
+/// The delta, which is valid at the state, is applied to it.
+pub(crate) fn lead_on(
+    alloc: Global,
+    state: &mut WaveletState,
+    delta: &AppliedDelta,
+) -> Result<(), Memory>
+    requires { IsSome (run state.old (acts_of delta.now)) }
+    ensures { OnOk result (run state.old (acts_of delta.now) ≡ Some state.new) }
+{
+    match apply_delta(alloc, state, &delta.ops) {
+        Ok(()) => Ok(()),
+        Err(WaveletFault::Memory) => Err(AllocError),
+        Err(_) => unreachable!(),
+    }
+}
+
+/// The state behind the deltas, which are valid in turn from the empty state on.
+pub(crate) fn state_behind(alloc: Global, deltas: &[AppliedDelta]) -> Result<WaveletState, Memory>
+    requires { IsSome (run_all empty_state deltas.now) }
+    ensures { IfOk result (λ s. run_all empty_state deltas.now ≡ Some s) }
+{
+    let mut state = WaveletState::new(alloc);
+    for delta in deltas {
+        lead_on(alloc, &mut state, delta)?;
+    }
+    Ok(state)
+}

@@ -1,0 +1,200 @@
+// A folder in memory.
+ghost use Rattle.std.specs.Prelude.{◌≡◌, ◌≢◌, ◌++◌, ◌≤◌, ◌+◌, ◌-◌, ◌^◌, min, [], true, false, Some, None, IsSome, IfOk, IfErr, OnOk, OnErr, IfSome, option_copied, is_some, string_bytes, map};
+ghost use Rattle.disk_model.specs.Memory.{disk_view};
+ghost use Rattle.wave_outside.specs.Counts.{Rose};
+ghost use Rattle.wave_outside.specs.Folders.{IsEmptyFile, IsSameFile, IsHanded, IsPutBack, IsElsewhere, IsSame, AreNames};
+ghost use Rattle.wave_outside.specs.MemoryFolders.{file_in, file_names, has_file, IsExchanged, IsMade};
+ghost use Rattle.wave_outside.specs.declared.folder.FolderFault.TheVariants.{Failed as HasFailed};
+
+use crate::calls::Calls;
+use crate::{Folder, FolderFault};
+use disk_model::MemoryDisk;
+use std::alloc::{AllocError, Global};
+use std::mem::replace;
+
+/// A file of a folder in memory.
+#[derive(Drop)]
+pub struct StoredFile {
+    pub name: String,
+    pub disk: MemoryDisk,
+}
+
+/// A folder in memory.
+#[derive(Drop)]
+pub struct MemoryFolder {
+    alloc: Global,
+    list: Vec<StoredFile>,
+    calls: Calls,
+}
+
+// A disk without bytes.
+fn empty(alloc: Global) -> MemoryDisk
+    ensures empty { IsEmptyFile (disk_view result) }
+    ensures faults { (disk_view result).faults ≡ 0 }
+{
+    MemoryDisk::new(alloc, Vec::new(alloc), Vec::new(alloc), None)
+}
+
+// Whether the file is there.
+fn has(list: &[StoredFile], name: &str) -> bool
+    ensures { result ≡ has_file list.now name.now }
+{
+    let Some((first, rest)) = list.split_first() else {
+        return false;
+    };
+    first.name.as_str() == name || has(rest, name)
+}
+
+// Puts another disk in the place of the file's, and gives that.
+fn exchange(list: &mut [StoredFile], name: &str, disk: MemoryDisk) -> Option<MemoryDisk>
+    ensures value { result ≡ file_in list.old name.now }
+    ensures exchanged { IsExchanged name.now disk list.old list.new }
+{
+    let Some((first, rest)) = list.split_first_mut() else {
+        return None;
+    };
+    if first.name.as_str() == name {
+        Some(replace(&mut first.disk, disk))
+    } else {
+        exchange(rest, name, disk)
+    }
+}
+
+// One more file, which is empty.
+fn push_empty(alloc: Global, list: &mut Vec<StoredFile>, name: &str) -> Result<(), AllocError>
+    requires { has_file list.old.items name.now ≡ false }
+    ensures made { OnOk result (IsMade name.now list.old.items list.new.items) }
+    ensures kept { OnErr result (list.new.items ≡ list.old.items) }
+{
+    let name = String::from_str(alloc, name)?;
+    let disk = empty(alloc);
+    list.push(StoredFile { name, disk })?;
+    Ok(())
+}
+
+// The names of the files.
+fn names_of(alloc: Global, list: &[StoredFile]) -> Result<Vec<String>, AllocError>
+    ensures { IfOk result (λ v. map string_bytes v.items ≡ file_names list.now) }
+{
+    let mut names = Vec::new(alloc);
+    for file in list {
+        let name = String::from_str(alloc, file.name.as_str())?;
+        names.push(name)?;
+    }
+    Ok(names)
+}
+
+// Files of their own that read the same.
+fn forked(alloc: Global, list: &[StoredFile]) -> Result<Vec<StoredFile>, AllocError>
+    ensures { IfOk result (λ v. file_names v.items ≡ file_names list.now) }
+{
+    let mut files = Vec::new(alloc);
+    for file in list {
+        let name = String::from_str(alloc, file.name.as_str())?;
+        let disk = file.disk.fork(alloc)?;
+        files.push(StoredFile { name, disk })?;
+    }
+    Ok(files)
+}
+
+impl MemoryFolder {
+    ghost use Rattle.wave_outside.specs.MemoryFolders.{folder_files, folder_calls};
+    ghost use Rattle.wave_outside.specs.Memory.{IsUncalled};
+
+    /// The folder of these files; of two of one name the first counts. The calls whose numbers are in `failing` fail, counted from 0.
+    pub fn new(alloc: Global, files: Vec<StoredFile>, failing: Vec<u64>) -> MemoryFolder
+        ensures files { folder_files result ≡ files.items }
+        ensures calls { IsUncalled (folder_calls result) failing.items }
+    {
+        MemoryFolder {
+            alloc,
+            list: files,
+            calls: Calls::new(failing),
+        }
+    }
+
+    /// The files, with those whose disks are handed out.
+    pub fn files(&self) -> &[StoredFile]
+        ensures { result.now ≡ folder_files self.now }
+    {
+        self.list.as_slice()
+    }
+
+    // There is a file of the name, which is empty where there was none.
+    fn make(&mut self, alloc: Global, name: &str) -> Result<(), FolderFault>
+        ensures made { OnOk result (IsMade name.now (folder_files self.old) (folder_files self.new)) }
+        ensures kept { OnErr result (folder_files self.new ≡ folder_files self.old) }
+        ensures calls { folder_calls self.new ≡ folder_calls self.old }
+        ensures fault { IfErr result (λ e. e ≢ HasFailed) }
+    {
+        if has(self.list.as_slice(), name) {
+            return Ok(());
+        }
+        Ok(push_empty(alloc, &mut self.list, name)?)
+    }
+}
+
+impl Folder for MemoryFolder {
+    ghost use Rattle.std.specs.Prelude.{◌≡◌, true};
+    ghost use Rattle.wave_outside.specs.MemoryFolders.{file_in, has_file, folder_files, folder_calls};
+
+    type Disk = MemoryDisk;
+
+    ghost tells = { true };
+
+    ghost files = { λ f n. file_in (folder_files f) n };
+
+    ghost room = { λ f n. has_file (folder_files f) n };
+
+    ghost faults = { λ f. (folder_calls f).faults.count };
+
+    fn enter(&mut self, _alloc: Global, _path: &str) -> Result<(), FolderFault> {
+        self.calls.make()?;
+        Ok(())
+    }
+
+    fn names(&mut self, alloc: Global) -> Result<Vec<String>, FolderFault> {
+        self.calls.make()?;
+        Ok(names_of(alloc, self.list.as_slice())?)
+    }
+
+    fn file(&mut self, alloc: Global, name: &str) -> Result<MemoryDisk, FolderFault> {
+        self.calls.make()?;
+        self.make(alloc, name)?;
+        let empty = empty(self.alloc);
+        match exchange(self.list.as_mut_slice(), name, empty) {
+            Some(disk) => Ok(uncounted(disk)),
+            None => unreachable!(),
+        }
+    }
+
+    fn fresh(&mut self, alloc: Global, name: &str) -> Result<MemoryDisk, FolderFault> {
+        self.calls.make()?;
+        self.make(alloc, name)?;
+        Ok(empty(self.alloc))
+    }
+
+    fn put(&mut self, name: &str, disk: MemoryDisk) {
+        let mut disk = disk;
+        let faults = disk.take_faults();
+        let _before = exchange(self.list.as_mut_slice(), name, disk);
+        self.calls.faults.add(faults);
+    }
+
+    fn another(&self, alloc: Global) -> Result<MemoryFolder, FolderFault> {
+        let list = forked(alloc, self.list.as_slice())?;
+        let mut failing = Vec::new(alloc);
+        failing.extend_from_slice(self.calls.failing.as_slice())?;
+        Ok(MemoryFolder::new(alloc, list, failing))
+    }
+}
+
+// The disk, with no fault counted.
+fn uncounted(disk: MemoryDisk) -> MemoryDisk
+    ensures same { IsSameFile (disk_view disk) (disk_view result) }
+    ensures uncounted { (disk_view result).faults ≡ 0 }
+{
+    let mut disk = disk;
+    let _faults = disk.take_faults();
+    disk
+}
