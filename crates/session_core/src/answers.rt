@@ -9,9 +9,8 @@ ghost use Rattle.session_core.specs.Answers.{verdict_message, told_verdict, is_w
 ghost use Rattle.session_core.specs.declared.request.SubmitAnswer.TheVariants as answer;
 
 use crate::SubmitAnswer;
-use crate::copies::Copies;
 use crate::session::{Opening, Party, Session, Telling, Waiting};
-use delta_history::History;
+use delta_history::{Copies, History};
 use doc_items::Memory;
 use std::alloc::Global;
 use wave_base::{Address, DeltaId, HashedVersion, WaveletName};

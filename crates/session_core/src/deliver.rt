@@ -9,10 +9,9 @@ ghost use Rattle.session_core.specs.Access.{shown, has_domain, is_of_domain, see
 ghost use Rattle.session_core.specs.Deliveries.{since, updates, applieds, outcomes_sent, still_waiting, opening_news, opening_sent, openings_sent, opening_kept, openings_kept, fated, host_news, host_told, telling_of, hosts_sent, hosts_told, delivered, after_delivery};
 
 use crate::answers::{seen_by, verdict_message};
-use crate::copies::Copies;
 use crate::lists::{Openings, Tellings, Waitings};
 use crate::session::{Opening, Party, Session, Waiting};
-use delta_history::History;
+use delta_history::{Copies, History};
 use doc_items::Memory;
 use std::alloc::Global;
 use wave_base::{Address, Domain, WaveletName};

@@ -2,14 +2,13 @@
 #![tactic(auto)]
 
 mod answers;
-mod copies;
 mod deliver;
 mod lists;
 mod request;
 mod rules;
 mod session;
 
-pub use copies::Copies;
+pub use delta_history::Copies;
 pub use lists::{Domains, Openings, Tellings, Waitings};
 pub use request::{Request, SubmitAnswer};
 pub use session::{Opening, Party, Session, Telling, Waiting};
