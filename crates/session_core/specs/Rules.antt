@@ -27,7 +27,7 @@ use Rattle.wavelet_op.specs.declared.delta.Submission.{Submission}
 use Rattle.message_parts.specs.declared.reason.ClosedReason.TheVariants.{Asked}
 use Rattle.message_parts.specs.declared.reason.BadReason.{BadReason}
 use Rattle.message_parts.specs.declared.reason.BadReason.TheVariants as bad
-use Rattle.message_table.specs.Write.{is_count}
+use Rattle.message_parts.specs.Good.{is_count}
 use Rattle.message_table.specs.declared.message.Message.{Message}
 use Rattle.message_table.specs.declared.message.Message.TheVariants.{Hello, OpenWavelet, Submit, CloseWavelet, Welcome, Opened, Snapshot, Unopened, Ack, Refused, Queued, Update, Closed, Bad, Peer, Have, Relay, Applied, Relayed, Dropped}
 use Rattle.wave_messages.specs.Read.{read_of, max_client}

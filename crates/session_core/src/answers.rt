@@ -4,7 +4,7 @@ ghost use Rattle.std.specs.Option.{option_copied};
 ghost use Rattle.delta_history.specs.Histories.{head_of, hash_found};
 ghost use Rattle.wavelet_state.specs.Snapshots.{is_snapshot};
 ghost use Rattle.session_core.specs.Rules.{has_user, has_peer};
-ghost use Rattle.session_core.specs.Access.{Shown, shown, is_member, seen_by, MaySee};
+ghost use Rattle.session_core.specs.Access.{shown, seen_by, MaySee};
 ghost use Rattle.session_core.specs.Answers.{verdict_message, told_verdict, is_waiting, answered, sent_at, with_sent, snapshot_of, is_sendable, attached_head, attached_hash, attached_seen, attached, told_at, had_hash, had_copy, had};
 ghost use Rattle.session_core.specs.declared.request.SubmitAnswer.TheVariants as answer;
 
@@ -188,7 +188,7 @@ impl Session {
     }
 
     fn attach_seen(&mut self, alloc: Global, name: &WaveletName, from: Option<&HashedVersion>, history: &History) -> Result<Message, Memory>
-        ensures ok { IfOk result (λ m. (self.new, m) ≡ attached_seen self.old name.now (option_copied from) (Some history.now)) }
+        ensures ok { IfOk result (λ m. (self.new, m) ≡ attached_seen self.old name.now (option_copied from.entry) (Some history.now)) }
         ensures same { OnErr result (self.new ≡ self.old) }
     {
         match from {
@@ -201,9 +201,11 @@ impl Session {
     /// user isn't a participant at its head. With a version there comes next `UnknownVersion`, then `WrongHash`, else the wavelet is open
     /// from there; without one `TooLarge`, else it is open from the head, whose state is sent. A wavelet that was open keeps its place.
     /// After want of memory the session is as it was.
+    #[tactic(auto, using(crate::proofs::Access::attached_may_see))]
     pub fn answer_attach<C: Copies>(&mut self, alloc: Global, copies: &C, name: &WaveletName, from: Option<&HashedVersion>) -> Result<Message, Memory>
         requires { has_user self.old ≡ true }
-        ensures ok { IfOk result (λ m. (self.new, m) ≡ attached (shown (C.copies copies.now) (C.hosts copies.now) (C.drops copies.now) (C.outcomes copies.now)) self.old name.now (option_copied from)) }
+        ensures ok { IfOk result (λ m. (self.new, m) ≡ attached (shown (C.copies copies.now) (C.hosts copies.now) (C.drops copies.now) (C.outcomes copies.now)) self.old name.now (option_copied from.entry)) }
+        ensures access { IfOk result (λ m. MaySee (shown (C.copies copies.now) (C.hosts copies.now) (C.drops copies.now) (C.outcomes copies.now)) self.old.party m) }
         ensures same { OnErr result (self.new ≡ self.old) }
     {
         let seen = match &self.party {

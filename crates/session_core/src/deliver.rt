@@ -117,7 +117,7 @@ impl Waitings {
 
 // What there is to say of an open wavelet of which there is a copy.
 fn push_news(alloc: Global, opening: &Opening, seen: Option<&History>, out: &mut Vec<Message>) -> Result<(), Memory>
-    ensures { OnOk result (out.new.items ≡ out.old.items ++ opening_news opening.now (option_copied seen)) }
+    ensures { OnOk result (out.new.items ≡ out.old.items ++ opening_news opening.now (option_copied seen.entry)) }
 {
     match seen {
         Some(history) => push_updates(alloc, &opening.name, since(history, opening.sent), out),
@@ -245,8 +245,8 @@ fn seen_from<'a, C: Copies>(alloc: Global, copies: &'a C, name: &WaveletName, do
 
 // What there is to say of a hosted wavelet, and what the peer was told then.
 fn push_host(alloc: Global, name: &WaveletName, seen: Option<&History>, tellings: &mut Tellings, out: &mut Vec<Message>) -> Result<(), Memory>
-    ensures sent { OnOk result (out.new.items ≡ out.old.items ++ host_news name.now (telling_of name.now tellings.old) (option_copied seen)) }
-    ensures told { OnOk result (tellings.new ≡ host_told name.now tellings.old (telling_of name.now tellings.old) (option_copied seen)) }
+    ensures sent { OnOk result (out.new.items ≡ out.old.items ++ host_news name.now (telling_of name.now tellings.old) (option_copied seen.entry)) }
+    ensures told { OnOk result (tellings.new ≡ host_told name.now tellings.old (telling_of name.now tellings.old) (option_copied seen.entry)) }
 {
     let (sent, told) = tellings.get(name);
     match seen {
@@ -304,6 +304,7 @@ impl Session {
     /// that weren't sent, or, where the user is no participant at its head or the copy is dropped, that it is closed. A peer is sent, for
     /// each wavelet hosted here that has a delta, in byte order of names, its deltas that weren't sent where an address of its domain is
     /// a participant at the head, else once that it is dropped. After want of memory the session is as it was.
+    #[tactic(auto, using(crate::proofs::Access::all_may_see))]
     pub fn deliver<C: Copies>(&mut self, alloc: Global, copies: &C) -> Result<Vec<Message>, Memory>
         ensures sent { IfOk result (λ out. out.items ≡ delivered (shown (C.copies copies.now) (C.hosts copies.now) (C.drops copies.now) (C.outcomes copies.now)) self.old) }
         ensures after { OnOk result (self.new ≡ after_delivery (shown (C.copies copies.now) (C.hosts copies.now) (C.drops copies.now) (C.outcomes copies.now)) self.old) }
