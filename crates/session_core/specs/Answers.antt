@@ -110,16 +110,13 @@ attached c s name from = attached_as c s name from s.party
 
 -- ---- peers
 
-abbrev pub none_told : Telling
-none_told = record { name = []; sent = 0; told = false }
-
 abbrev pub place_told : Key → List Telling → Option ℕ
 place_told name [] = None
 place_told name (t ∷ ts) = if same_text t.name name then Some 0 else option_map (λ i. i + 1) (place_told name ts)
 
 abbrev pub put_told : Key → ℕ → Bool → List Telling → Option ℕ → List Telling
 put_told name v told ts None = ts ++ record { name = name; sent = v; told = told } ∷ []
-put_told name v told ts (Some i) = slice_set ts i (record { name = (slice_index_or ts i none_told).name; sent = v; told = told })
+put_told name v told ts (Some i) = slice_set ts i (record { name = name; sent = v; told = told })
 
 abbrev pub told_at : Key → ℕ → Bool → List Telling → List Telling
 told_at name v told ts = put_told name v told ts (place_told name ts)

@@ -5,11 +5,12 @@ ghost use Rattle.delta_history.specs.Histories.{head_of, hash_found};
 ghost use Rattle.wavelet_state.specs.Snapshots.{is_snapshot};
 ghost use Rattle.session_core.specs.Rules.{has_user, has_peer};
 ghost use Rattle.session_core.specs.Access.{shown, seen_by, MaySee};
-ghost use Rattle.session_core.specs.Answers.{verdict_message, told_verdict, is_waiting, answered, sent_at, with_sent, snapshot_of, is_sendable, attached_head, attached_hash, attached_seen, attached, told_at, had_hash, had_copy, had};
+ghost use Rattle.session_core.specs.Answers.{verdict_message, told_verdict, is_waiting, with_waiting, answered, sent_at, with_sent, snapshot_of, is_sendable, attached_head, attached_hash, attached_seen, attached, told_at, had_hash, had_copy, had};
 ghost use Rattle.session_core.specs.declared.request.SubmitAnswer.TheVariants as answer;
 
 use crate::SubmitAnswer;
-use crate::session::{Opening, Party, Session, Telling, Waiting};
+use crate::lists::Waitings;
+use crate::session::{Party, Session, Waiting};
 use delta_history::{Copies, History};
 use doc_items::Memory;
 use std::alloc::Global;
@@ -66,23 +67,46 @@ fn is_waiting(list: &[Waiting], name: &WaveletName, id: &DeltaId) -> bool
     false
 }
 
+fn waiting(alloc: Global, name: &WaveletName, id: &DeltaId) -> Result<Waiting, Memory>
+    ensures { IfOk result (λ w. w ≡ record { name = name.now; id = id.now }) }
+{
+    let name = name.copy(alloc)?;
+    let id = id.copy(alloc)?;
+    Ok(Waiting { name, id })
+}
+
+fn queued(alloc: Global, name: &WaveletName, id: &DeltaId) -> Result<Message, Memory>
+    ensures { IfOk result (λ m. m ≡ Message.Queued name.now id.now.client id.now.number) }
+{
+    let name = name.copy(alloc)?;
+    Ok(Message::Queued {
+        name,
+        client: id.client,
+        number: id.number,
+    })
+}
+
+impl Waitings {
+    // The submission waits from now on, if it doesn't yet. After want of memory all is as it was.
+    fn add(&mut self, alloc: Global, name: &WaveletName, id: &DeltaId) -> Result<(), Memory>
+        ensures ok { OnOk result (self.new ≡ with_waiting self.old name.now id.now) }
+        ensures same { OnErr result (self.new ≡ self.old) }
+    {
+        if is_waiting(self.as_slice(), name, id) {
+            return Ok(());
+        }
+        self.push(waiting(alloc, name, id)?)
+    }
+}
+
 impl Session {
     // The submission waits from now on, if it doesn't yet.
     fn wait(&mut self, alloc: Global, name: &WaveletName, id: &DeltaId) -> Result<Message, Memory>
         ensures ok { IfOk result (λ m. (self.new, m) ≡ answered self.old name.now id.now answer.Queued) }
         ensures same { OnErr result (self.new ≡ self.old) }
     {
-        let message = Message::Queued {
-            name: name.copy(alloc)?,
-            client: id.client,
-            number: id.number,
-        };
-        if is_waiting(self.waiting.as_slice(), name, id) {
-            return Ok(message);
-        }
-        let name = name.copy(alloc)?;
-        let id = id.copy(alloc)?;
-        self.waiting.push(Waiting { name, id })?;
+        let message = queued(alloc, name, id)?;
+        self.waiting.add(alloc, name, id)?;
         Ok(message)
     }
 

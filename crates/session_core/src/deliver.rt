@@ -274,16 +274,25 @@ fn hosted_names<'a, C: Copies>(alloc: Global, copies: &'a C) -> Result<Vec<&'a W
     Ok(names)
 }
 
+// What there is to say of some of the hosted wavelets, and what the peer was told then.
+fn push_each<C: Copies>(alloc: Global, copies: &C, domain: &Domain, names: &[&WaveletName], tellings: &mut Tellings, out: &mut Vec<Message>) -> Result<(), Memory>
+    ensures sent { OnOk result (out.new.items ≡ out.old.items ++ hosts_sent (shown (C.copies copies.now) (C.hosts copies.now) (C.drops copies.now) (C.outcomes copies.now)) domain.now tellings.old (map (λ n. n.now) names.now)) }
+    ensures told { OnOk result (tellings.new ≡ hosts_told (shown (C.copies copies.now) (C.hosts copies.now) (C.drops copies.now) (C.outcomes copies.now)) domain.now tellings.old (map (λ n. n.now) names.now)) }
+{
+    for name in names {
+        let seen = seen_from(alloc, copies, name, domain)?;
+        push_host(alloc, name, seen, tellings, out)?;
+    }
+    Ok(())
+}
+
 fn push_hosts<C: Copies>(alloc: Global, copies: &C, domain: &Domain, tellings: &mut Tellings) -> Result<Vec<Message>, Memory>
     ensures sent { IfOk result (λ out. out.items ≡ hosts_sent (shown (C.copies copies.now) (C.hosts copies.now) (C.drops copies.now) (C.outcomes copies.now)) domain.now tellings.old (C.hosts copies.now)) }
     ensures told { OnOk result (tellings.new ≡ hosts_told (shown (C.copies copies.now) (C.hosts copies.now) (C.drops copies.now) (C.outcomes copies.now)) domain.now tellings.old (C.hosts copies.now)) }
 {
     let names = hosted_names(alloc, copies)?;
     let mut out = Vec::new(alloc);
-    for name in names.as_slice() {
-        let seen = seen_from(alloc, copies, name, domain)?;
-        push_host(alloc, name, seen, tellings, &mut out)?;
-    }
+    push_each(alloc, copies, domain, names.as_slice(), tellings, &mut out)?;
     Ok(out)
 }
 

@@ -245,8 +245,7 @@ impl Tellings {
     {
         match place_told(self.list.as_slice(), &name) {
             Some(place) => {
-                self.list[place].sent = sent;
-                self.list[place].told = told;
+                self.list[place] = Telling { name, sent, told };
                 Ok(())
             }
             None => {
