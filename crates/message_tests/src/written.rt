@@ -181,8 +181,7 @@ const MESSAGES: [(&str, &str); 42] = [
 const SPELLINGS: [(&str, &str, &str); 6] = [
     (
         "members in another order, and white space",
-        r#" { "user" : "a@b" ,
-	"type" : "hello" } "#,
+        r#" { "user" : "a@b" ,   "type" : "hello" } "#,
         r#"{"type":"hello","user":"a@b"}"#,
     ),
     (
