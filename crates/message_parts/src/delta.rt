@@ -19,7 +19,11 @@ use wavelet_op::AppliedDelta;
 
 // The delta whose bytes these are, where the hash is this one.
 #[tactic(auto, using(crate::proofs::Deltas::is_read, crate::proofs::Deltas::is_none))]
-fn delta_of_bytes(alloc: Global, bytes: &[u8], hash: &[u8; 32]) -> Result<Option<AppliedDelta>, Memory>
+fn delta_of_bytes(
+    alloc: Global,
+    bytes: &[u8],
+    hash: &[u8; 32],
+) -> Result<Option<AppliedDelta>, Memory>
     ensures { IfOk result (λ delta. delta ≡ delta_read hash.now bytes.now) }
 {
     match read_applied(alloc, bytes, hash) {
@@ -30,7 +34,11 @@ fn delta_of_bytes(alloc: Global, bytes: &[u8], hash: &[u8; 32]) -> Result<Option
 }
 
 // The delta whose bytes these are, where it was applied there.
-fn delta_from(alloc: Global, bytes: &[u8], from: HashedVersion) -> Result<Option<AppliedDelta>, Memory>
+fn delta_from(
+    alloc: Global,
+    bytes: &[u8],
+    from: HashedVersion,
+) -> Result<Option<AppliedDelta>, Memory>
     ensures { IfOk result (λ delta. delta ≡ at_version from.version (delta_read from.hash bytes.now)) }
 {
     let Some(delta) = delta_of_bytes(alloc, bytes, &from.hash)? else {

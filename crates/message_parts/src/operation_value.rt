@@ -53,7 +53,12 @@ fn mutate_value(alloc: Global, document: &DocumentName, op: &DocOp) -> Result<Va
 }
 
 #[tactic(auto, using(crate::proofs::Back::role_change_back))]
-fn role_change_value(alloc: Global, address: &Address, old: Role, new: Role) -> Result<Value, Memory>
+fn role_change_value(
+    alloc: Global,
+    address: &Address,
+    old: Role,
+    new: Role,
+) -> Result<Value, Memory>
     ensures value { IfOk result (λ v. view v ≡ op_data (WaveletOp.SetRole address.now old new)) }
     ensures back { IfOk result (λ v. IsReadBack op_of op_data (WaveletOp.SetRole address.now old new)) }
 {

@@ -14,7 +14,11 @@ use wave_fields::{count_at, has_members, hash_at, number_at, str_at, version_at}
 use wavelet_op::Verdict;
 
 // The version that stands in an object of so many members.
-fn version_of_members(alloc: Global, value: &Value, count: usize) -> Result<Option<HashedVersion>, Memory>
+fn version_of_members(
+    alloc: Global,
+    value: &Value,
+    count: usize,
+) -> Result<Option<HashedVersion>, Memory>
     ensures { IfOk result (λ head. head ≡ of_members count (view value.now) (version_of (view value.now))) }
 {
     if has_members(value, count) {
@@ -53,7 +57,9 @@ fn invalid(value: &Value, count: usize) -> Option<Verdict>
         return None;
     }
     let index = number_at(value, "index", 999)?;
-    Some(Verdict::Invalid { index: index as u32 })
+    Some(Verdict::Invalid {
+        index: index as u32,
+    })
 }
 
 fn wrong_hash(alloc: Global, value: &Value, count: usize) -> Result<Option<Verdict>, Memory>
@@ -161,7 +167,11 @@ fn wrong_hash_there(alloc: Global, value: &Value) -> Result<Option<UnopenedReaso
     }
 }
 
-fn unopened_named(alloc: Global, value: &Value, kind: &str) -> Result<Option<UnopenedReason>, Memory>
+fn unopened_named(
+    alloc: Global,
+    value: &Value,
+    kind: &str,
+) -> Result<Option<UnopenedReason>, Memory>
     ensures { IfOk result (λ reason. reason ≡ unopened_named kind.now (view value.now)) }
 {
     match kind {

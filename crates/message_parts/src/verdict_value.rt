@@ -14,7 +14,12 @@ use wave_base::HashedVersion;
 use wave_fields::{hash_value, string_value};
 use wavelet_op::Verdict;
 
-fn put_count(alloc: Global, members: &mut Map<String, Value>, name: &str, count: u64) -> Result<(), Memory>
+fn put_count(
+    alloc: Global,
+    members: &mut Map<String, Value>,
+    name: &str,
+    count: u64,
+) -> Result<(), Memory>
     ensures { OnOk result (members_view members.new.entries ≡ put_data name.now (count_data count) (members_view members.old.entries)) }
 {
     put(members, alloc, name, Value::from(count))
@@ -29,7 +34,11 @@ fn put_hash(alloc: Global, members: &mut Map<String, Value>, hash: &[u8; 32]) ->
 }
 
 #[tactic(auto, using(crate::proofs::Counts::counts))]
-fn put_version(alloc: Global, members: &mut Map<String, Value>, at: &HashedVersion) -> Result<(), Memory>
+fn put_version(
+    alloc: Global,
+    members: &mut Map<String, Value>,
+    at: &HashedVersion,
+) -> Result<(), Memory>
     ensures good { OnOk result (IsGoodVersion at.now) }
     ensures value { OnOk result (members_view members.new.entries ≡ with_version at.now (members_view members.old.entries)) }
 {
@@ -47,7 +56,11 @@ fn put_reason(alloc: Global, members: &mut Map<String, Value>, name: &str) -> Re
 
 /// Puts the verdict among the members: an acknowledgement as `at`, `version` and `hash`, another one as `reason` and the members
 /// that this reason has. After want of memory, here and below, some of them may be there.
-pub fn put_verdict(alloc: Global, members: &mut Map<String, Value>, verdict: &Verdict) -> Result<(), Memory>
+pub fn put_verdict(
+    alloc: Global,
+    members: &mut Map<String, Value>,
+    verdict: &Verdict,
+) -> Result<(), Memory>
     ensures good { OnOk result (IsGoodVerdict verdict.now) }
     ensures value { OnOk result (members_view members.new.entries ≡ with_verdict verdict.now (members_view members.old.entries)) }
 {

@@ -39,7 +39,11 @@ pub fn have_value(alloc: Global, name: &WaveletName, from: &HashedVersion) -> Re
 
 /// A `relay`.
 #[tactic(auto, using(crate::proofs::Back::relay_back))]
-pub fn relay_value(alloc: Global, name: &WaveletName, submission: &Submission) -> Result<Value, Memory>
+pub fn relay_value(
+    alloc: Global,
+    name: &WaveletName,
+    submission: &Submission,
+) -> Result<Value, Memory>
     ensures back { IfOk result (λ _. IsReadBack (Message.Relay name.now submission.now)) }
     ensures value { IfOk result (λ v. view v ≡ relay_data name.now submission.now.id submission.now.at submission.now.ops) }
 {
@@ -52,7 +56,11 @@ pub fn relay_value(alloc: Global, name: &WaveletName, submission: &Submission) -
 
 /// An `applied`, whose delta has fewer than 4,294,967,296 bytes.
 #[tactic(auto, using(crate::proofs::Back::applied_back))]
-pub fn applied_value(alloc: Global, name: &WaveletName, delta: &AppliedDelta) -> Result<Value, Memory>
+pub fn applied_value(
+    alloc: Global,
+    name: &WaveletName,
+    delta: &AppliedDelta,
+) -> Result<Value, Memory>
     requires { length (delta_bytes delta.now) < limit }
     ensures value { IfOk result (λ v. view v ≡ applied_data name.now delta.now) }
     ensures back { IfOk result (λ _. IsReadBack (Message.Applied name.now delta.now)) }
@@ -65,7 +73,12 @@ pub fn applied_value(alloc: Global, name: &WaveletName, delta: &AppliedDelta) ->
 
 /// A `relayed`.
 #[tactic(auto, using(crate::proofs::Back::relayed_back))]
-pub fn relayed_value(alloc: Global, name: &WaveletName, id: &DeltaId, verdict: &Verdict) -> Result<Value, Memory>
+pub fn relayed_value(
+    alloc: Global,
+    name: &WaveletName,
+    id: &DeltaId,
+    verdict: &Verdict,
+) -> Result<Value, Memory>
     ensures back { IfOk result (λ _. InRange (Message.Relayed name.now id.now verdict.now) → IsReadBack (Message.Relayed name.now id.now verdict.now)) }
     ensures value { IfOk result (λ v. view v ≡ relayed_data name.now id.now verdict.now) }
 {

@@ -47,7 +47,11 @@ pub fn welcome_value(alloc: Global, user: &Text) -> Result<Value, Memory>
 
 /// An `open` with a version.
 #[tactic(auto, using(crate::proofs::Back::open_at_back))]
-pub fn open_at_value(alloc: Global, name: &WaveletName, from: &HashedVersion) -> Result<Value, Memory>
+pub fn open_at_value(
+    alloc: Global,
+    name: &WaveletName,
+    from: &HashedVersion,
+) -> Result<Value, Memory>
     ensures value { IfOk result (λ v. view v ≡ open_data name.now (Some from.now)) }
     ensures back { IfOk result (λ _. IsReadBack (Message.OpenWavelet name.now (Some from.now))) }
 {

@@ -49,7 +49,12 @@ fn copy_relay(alloc: Global, name: &WaveletName, submission: &Submission) -> Res
     Ok(Message::Relay { name, submission })
 }
 
-fn copy_relayed(alloc: Global, name: &WaveletName, id: &DeltaId, verdict: Verdict) -> Result<Message, Memory>
+fn copy_relayed(
+    alloc: Global,
+    name: &WaveletName,
+    id: &DeltaId,
+    verdict: Verdict,
+) -> Result<Message, Memory>
     ensures { IfOk result (λ m. m ≡ Message.Relayed name.now id.now verdict) }
 {
     let name = name.copy(alloc)?;
@@ -63,42 +68,95 @@ impl Message {
         ensures { IfOk result (λ m. m ≡ self.now) }
     {
         match self {
-            Message::Hello { user } => Ok(Message::Hello { user: user.copy(alloc)? }),
+            Message::Hello { user } => Ok(Message::Hello {
+                user: user.copy(alloc)?,
+            }),
             Message::OpenWavelet { name, at } => {
                 let name = name.copy(alloc)?;
                 Ok(Message::OpenWavelet { name, at: *at })
             }
-            Message::Submit { name, client, number, at, ops } => copy_submit(alloc, name, (*client, *number), *at, ops),
-            Message::CloseWavelet { name } => Ok(Message::CloseWavelet { name: name.copy(alloc)? }),
-            Message::Welcome { user } => Ok(Message::Welcome { user: user.copy(alloc)? }),
+            Message::Submit {
+                name,
+                client,
+                number,
+                at,
+                ops,
+            } => copy_submit(alloc, name, (*client, *number), *at, ops),
+            Message::CloseWavelet { name } => Ok(Message::CloseWavelet {
+                name: name.copy(alloc)?,
+            }),
+            Message::Welcome { user } => Ok(Message::Welcome {
+                user: user.copy(alloc)?,
+            }),
             Message::Opened { name, version } => {
                 let name = name.copy(alloc)?;
-                Ok(Message::Opened { name, version: *version })
+                Ok(Message::Opened {
+                    name,
+                    version: *version,
+                })
             }
             Message::Snapshot(snapshot) => Ok(Message::Snapshot(snapshot.copy(alloc)?)),
             Message::Unopened { name, reason } => {
                 let name = name.copy(alloc)?;
-                Ok(Message::Unopened { name, reason: *reason })
+                Ok(Message::Unopened {
+                    name,
+                    reason: *reason,
+                })
             }
-            Message::Ack { name, client, number, at, to } => {
+            Message::Ack {
+                name,
+                client,
+                number,
+                at,
+                to,
+            } => {
                 let name = name.copy(alloc)?;
-                Ok(Message::Ack { name, client: *client, number: *number, at: *at, to: *to })
+                Ok(Message::Ack {
+                    name,
+                    client: *client,
+                    number: *number,
+                    at: *at,
+                    to: *to,
+                })
             }
-            Message::Refused { name, client, number, verdict } => {
+            Message::Refused {
+                name,
+                client,
+                number,
+                verdict,
+            } => {
                 let name = name.copy(alloc)?;
-                Ok(Message::Refused { name, client: *client, number: *number, verdict: *verdict })
+                Ok(Message::Refused {
+                    name,
+                    client: *client,
+                    number: *number,
+                    verdict: *verdict,
+                })
             }
-            Message::Queued { name, client, number } => {
+            Message::Queued {
+                name,
+                client,
+                number,
+            } => {
                 let name = name.copy(alloc)?;
-                Ok(Message::Queued { name, client: *client, number: *number })
+                Ok(Message::Queued {
+                    name,
+                    client: *client,
+                    number: *number,
+                })
             }
             Message::Update { name, delta } => copy_update(alloc, name, delta),
             Message::Closed { name, reason } => {
                 let name = name.copy(alloc)?;
-                Ok(Message::Closed { name, reason: *reason })
+                Ok(Message::Closed {
+                    name,
+                    reason: *reason,
+                })
             }
             Message::Bad(reason) => Ok(Message::Bad(*reason)),
-            Message::Peer { domain } => Ok(Message::Peer { domain: domain.copy(alloc)? }),
+            Message::Peer { domain } => Ok(Message::Peer {
+                domain: domain.copy(alloc)?,
+            }),
             Message::Have { name, at } => {
                 let name = name.copy(alloc)?;
                 Ok(Message::Have { name, at: *at })
@@ -106,7 +164,9 @@ impl Message {
             Message::Relay { name, submission } => copy_relay(alloc, name, submission),
             Message::Applied { name, delta } => copy_applied(alloc, name, delta),
             Message::Relayed { name, id, verdict } => copy_relayed(alloc, name, id, *verdict),
-            Message::Dropped { name } => Ok(Message::Dropped { name: name.copy(alloc)? }),
+            Message::Dropped { name } => Ok(Message::Dropped {
+                name: name.copy(alloc)?,
+            }),
         }
     }
 }

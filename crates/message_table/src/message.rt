@@ -8,7 +8,9 @@ use wavelet_state::Snapshot;
 #[derive(Drop)]
 pub enum Message {
     /// Who the client speaks for: any text, of which an address is accepted.
-    Hello { user: Text },
+    Hello {
+        user: Text,
+    },
     /// The client wants a wavelet's deltas from a version on, or its state first.
     OpenWavelet {
         name: WaveletName,
@@ -23,11 +25,18 @@ pub enum Message {
         ops: Ops,
     },
     /// The client wants no more of a wavelet's deltas.
-    CloseWavelet { name: WaveletName },
+    CloseWavelet {
+        name: WaveletName,
+    },
     /// The user, or the peer's domain, was accepted.
-    Welcome { user: Text },
+    Welcome {
+        user: Text,
+    },
     /// The wavelet is open; deltas from this version on follow.
-    Opened { name: WaveletName, version: u64 },
+    Opened {
+        name: WaveletName,
+        version: u64,
+    },
     /// The wavelet is open; this is its state, and later deltas follow.
     Snapshot(Snapshot),
     /// The wavelet isn't open.
@@ -69,7 +78,9 @@ pub enum Message {
     /// A message was refused.
     Bad(BadReason),
     /// For which domain the server speaks that dialled.
-    Peer { domain: Domain },
+    Peer {
+        domain: Domain,
+    },
     /// How far the copy of a wavelet reaches.
     Have {
         name: WaveletName,
@@ -92,5 +103,7 @@ pub enum Message {
         verdict: Verdict,
     },
     /// No participant of the domain is left.
-    Dropped { name: WaveletName },
+    Dropped {
+        name: WaveletName,
+    },
 }

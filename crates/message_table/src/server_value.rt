@@ -47,7 +47,11 @@ pub fn snapshot_value(alloc: Global, snapshot: &Snapshot) -> Result<Value, Memor
 }
 
 // The members `type` and `wavelet`.
-fn kind_and_wavelet(alloc: Global, kind: &str, name: &WaveletName) -> Result<Map<String, Value>, Memory>
+fn kind_and_wavelet(
+    alloc: Global,
+    kind: &str,
+    name: &WaveletName,
+) -> Result<Map<String, Value>, Memory>
     ensures good { IfOk result (λ _. IsGoodName name.now) }
     ensures value { IfOk result (λ members. members_view members.entries ≡ kind_and_wavelet kind.now name.now) }
 {
@@ -59,7 +63,11 @@ fn kind_and_wavelet(alloc: Global, kind: &str, name: &WaveletName) -> Result<Map
 
 /// An `unopened`.
 #[tactic(auto, using(crate::proofs::Back::unopened_back))]
-pub fn unopened_value(alloc: Global, name: &WaveletName, reason: &UnopenedReason) -> Result<Value, Memory>
+pub fn unopened_value(
+    alloc: Global,
+    name: &WaveletName,
+    reason: &UnopenedReason,
+) -> Result<Value, Memory>
     ensures back { IfOk result (λ _. IsReadBack (Message.Unopened name.now reason.now)) }
     ensures value { IfOk result (λ v. view v ≡ unopened_data name.now reason.now) }
 {
@@ -136,7 +144,12 @@ pub fn verdict_value(
 
 /// A `queued`.
 #[tactic(auto, using(crate::proofs::Back::queued_back))]
-pub fn queued_value(alloc: Global, name: &WaveletName, client: u64, number: u64) -> Result<Value, Memory>
+pub fn queued_value(
+    alloc: Global,
+    name: &WaveletName,
+    client: u64,
+    number: u64,
+) -> Result<Value, Memory>
     ensures value { IfOk result (λ v. view v ≡ queued_data name.now client number) }
     ensures back { IfOk result (λ _. InRange (Message.Queued name.now client number) → IsReadBack (Message.Queued name.now client number)) }
 {
@@ -167,7 +180,11 @@ fn update_of(
 }
 
 /// An `update`.
-pub fn update_value(alloc: Global, name: &WaveletName, delta: &AppliedDelta) -> Result<Value, Memory>
+pub fn update_value(
+    alloc: Global,
+    name: &WaveletName,
+    delta: &AppliedDelta,
+) -> Result<Value, Memory>
     ensures value { IfOk result (λ v. view v ≡ update_data name.now delta.now) }
     ensures back { IfOk result (λ _. IsReadBack (Message.Update name.now delta.now)) }
 {
@@ -176,7 +193,11 @@ pub fn update_value(alloc: Global, name: &WaveletName, delta: &AppliedDelta) -> 
 
 /// A `closed`.
 #[tactic(auto, using(crate::proofs::Back::closed_back))]
-pub fn closed_value(alloc: Global, name: &WaveletName, reason: ClosedReason) -> Result<Value, Memory>
+pub fn closed_value(
+    alloc: Global,
+    name: &WaveletName,
+    reason: ClosedReason,
+) -> Result<Value, Memory>
     ensures value { IfOk result (λ v. view v ≡ closed_data name.now reason) }
     ensures back { IfOk result (λ _. IsReadBack (Message.Closed name.now reason)) }
 {

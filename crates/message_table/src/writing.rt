@@ -26,22 +26,40 @@ pub fn message_value(alloc: Global, message: &Message) -> Result<Value, Memory>
     match message {
         Message::Hello { user } => hello_value(alloc, user),
         Message::OpenWavelet { name, at: None } => named_value(alloc, "open", name),
-        Message::OpenWavelet { name, at: Some(from) } => open_at_value(alloc, name, from),
-        Message::Submit { name, client, number, at, ops } => {
-            submit_value(alloc, name, *client, *number, at, ops)
-        }
+        Message::OpenWavelet {
+            name,
+            at: Some(from),
+        } => open_at_value(alloc, name, from),
+        Message::Submit {
+            name,
+            client,
+            number,
+            at,
+            ops,
+        } => { submit_value(alloc, name, *client, *number, at, ops) }
         Message::CloseWavelet { name } => named_value(alloc, "close", name),
         Message::Welcome { user } => welcome_value(alloc, user),
         Message::Opened { name, version } => opened_value(alloc, name, *version),
         Message::Snapshot(snapshot) => snapshot_value(alloc, snapshot),
         Message::Unopened { name, reason } => unopened_value(alloc, name, reason),
-        Message::Ack { name, client, number, at, to } => {
-            ack_value(alloc, name, (*client, *number), *at, *to)
-        }
-        Message::Refused { name, client, number, verdict } => {
-            verdict_value(alloc, name, *client, *number, verdict)
-        }
-        Message::Queued { name, client, number } => queued_value(alloc, name, *client, *number),
+        Message::Ack {
+            name,
+            client,
+            number,
+            at,
+            to,
+        } => { ack_value(alloc, name, (*client, *number), *at, *to) }
+        Message::Refused {
+            name,
+            client,
+            number,
+            verdict,
+        } => { verdict_value(alloc, name, *client, *number, verdict) }
+        Message::Queued {
+            name,
+            client,
+            number,
+        } => queued_value(alloc, name, *client, *number),
         Message::Update { name, delta } => update_value(alloc, name, delta),
         Message::Closed { name, reason } => closed_value(alloc, name, *reason),
         Message::Bad(reason) => bad_value(alloc, *reason),

@@ -43,18 +43,8 @@ const REFUSED: [(&str, Kind, &str, &str); 8] = [
         "an empty session",
         r#"{"session":"","message":{"type":"hello","user":"a"}}"#,
     ),
-    (
-        "",
-        Kind::NotMessage,
-        "no object",
-        r#"[]"#,
-    ),
-    (
-        "",
-        Kind::NotJson,
-        "no JSON",
-        r#"["#,
-    ),
+    ("", Kind::NotMessage, "no object", r#"[]"#),
+    ("", Kind::NotJson, "no JSON", r#"["#),
 ];
 
 const LINE: &str = r#"{"message":{"type":"hello","user":"alice@a.com"},"session":"s1"}"#;
@@ -64,7 +54,12 @@ fn is_refused(alloc: Global, bytes: &[u8], session: &str, kind: Kind) -> bool {
     match read_line(alloc, bytes) {
         Ok(_) => false,
         Err(LineFault::Memory) => false,
-        Err(LineFault::Bad { session: found, kind: reason }) => {
+        Err(
+            LineFault::Bad {
+                session: found,
+                kind: reason,
+            },
+        ) => {
             let named = match &found {
                 Some(name) => name.text() == session,
                 None => session.is_empty(),

@@ -5,16 +5,8 @@ use std::test::Fail;
 use wave_messages::{Kind, MAX_CLIENT, MessageFault, read};
 
 const REFUSED: [(Kind, &str, &str); 62] = [
-    (
-        Kind::NotJson,
-        "no bytes",
-        r#""#,
-    ),
-    (
-        Kind::NotJson,
-        "an open bracket",
-        r#"["#,
-    ),
+    (Kind::NotJson, "no bytes", r#""#),
+    (Kind::NotJson, "an open bracket", r#"["#),
     (
         Kind::NotJson,
         "a text behind",
@@ -30,16 +22,8 @@ const REFUSED: [(Kind, &str, &str); 62] = [
         "a zero in front",
         r#"{"type":"opened","version":01,"wavelet":"a.com/w1/a.com/conv+root"}"#,
     ),
-    (
-        Kind::NotMessage,
-        "no object",
-        r#"[]"#,
-    ),
-    (
-        Kind::NotMessage,
-        "no type",
-        r#"{"user":"a"}"#,
-    ),
+    (Kind::NotMessage, "no object", r#"[]"#),
+    (Kind::NotMessage, "no type", r#"{"user":"a"}"#),
     (
         Kind::NotMessage,
         "a type that is no text",
@@ -80,11 +64,7 @@ const REFUSED: [(Kind, &str, &str); 62] = [
         "open without a version",
         r#"{"hash":"eYTheTdCZGp0Bp8vDI5vHWkA/zj+heZDeOT2uSFhOqs=","type":"open","wavelet":"a.com/w1/a.com/conv+root"}"#,
     ),
-    (
-        Kind::NotMessage,
-        "open of no wavelet",
-        r#"{"type":"open"}"#,
-    ),
+    (Kind::NotMessage, "open of no wavelet", r#"{"type":"open"}"#),
     (
         Kind::NotMessage,
         "a wavelet of three parts",
@@ -330,7 +310,9 @@ fn submission(alloc: Global, kind: &str, ops: usize, length: usize) -> Result<Ve
     let mut text = Vec::new(alloc);
     text.extend_from_slice(b"{\"type\":\"")?;
     text.extend_from_slice(kind.as_bytes())?;
-    text.extend_from_slice(b"\",\"wavelet\":\"a.com/w/a.com/c\",\"client\":1,\"number\":1,\"version\":0,\"hash\":\"eYTheTdCZGp0Bp8vDI5vHWkA/zj+heZDeOT2uSFhOqs=\",\"operations\":[")?;
+    text.extend_from_slice(
+        b"\",\"wavelet\":\"a.com/w/a.com/c\",\"client\":1,\"number\":1,\"version\":0,\"hash\":\"eYTheTdCZGp0Bp8vDI5vHWkA/zj+heZDeOT2uSFhOqs=\",\"operations\":[",
+    )?;
     for index in 0..ops {
         if index > 0 {
             text.extend_from_slice(b",")?;
@@ -348,7 +330,10 @@ fn submission(alloc: Global, kind: &str, ops: usize, length: usize) -> Result<Ve
 fn bytes_are_refused_for_their_reason(rt: HostRuntime) -> Result<(), Fail> {
     let alloc = rt.alloc();
     for (kind, what, text) in REFUSED {
-        assert!(rt; is_refused(alloc, text.as_bytes(), MAX_CLIENT, kind), "{what}");
+        assert!(rt;
+            is_refused(alloc, text.as_bytes(), MAX_CLIENT, kind),
+            "{what}"
+        );
     }
     assert!(rt; is_refused(alloc, b"\"\xff\"", MAX_CLIENT, Kind::NotJson));
     Ok(())

@@ -7,14 +7,8 @@ use wave_messages::{MAX_PEER, read, write};
 
 // A message of each kind.
 const MESSAGES: [(&str, &str); 42] = [
-    (
-        "hello",
-        r#"{"type":"hello","user":"alice@a.com"}"#,
-    ),
-    (
-        "hello with any text",
-        r#"{"type":"hello","user":"né 😀"}"#,
-    ),
+    ("hello", r#"{"type":"hello","user":"alice@a.com"}"#),
+    ("hello with any text", r#"{"type":"hello","user":"né 😀"}"#),
     (
         "open at the head",
         r#"{"type":"open","wavelet":"a.com/w1/a.com/conv+root"}"#,
@@ -35,10 +29,7 @@ const MESSAGES: [(&str, &str); 42] = [
         "close",
         r#"{"type":"close","wavelet":"a.com/w1/a.com/conv+root"}"#,
     ),
-    (
-        "welcome",
-        r#"{"type":"welcome","user":""}"#,
-    ),
+    ("welcome", r#"{"type":"welcome","user":""}"#),
     (
         "opened",
         r#"{"type":"opened","version":0,"wavelet":"a.com/w1/a.com/conv+root"}"#,
@@ -111,42 +102,15 @@ const MESSAGES: [(&str, &str); 42] = [
         "closed: access",
         r#"{"reason":"access","type":"closed","wavelet":"a.com/w1/a.com/conv+root"}"#,
     ),
-    (
-        "bad: TooLong",
-        r#"{"reason":"TooLong","type":"bad"}"#,
-    ),
-    (
-        "bad: NotJson",
-        r#"{"reason":"NotJson","type":"bad"}"#,
-    ),
-    (
-        "bad: TooMany",
-        r#"{"reason":"TooMany","type":"bad"}"#,
-    ),
-    (
-        "bad: NotMessage",
-        r#"{"reason":"NotMessage","type":"bad"}"#,
-    ),
-    (
-        "bad: BadUser",
-        r#"{"reason":"BadUser","type":"bad"}"#,
-    ),
-    (
-        "bad: NotOpen",
-        r#"{"reason":"NotOpen","type":"bad"}"#,
-    ),
-    (
-        "bad: NoHost",
-        r#"{"reason":"NoHost","type":"bad"}"#,
-    ),
-    (
-        "bad: Store",
-        r#"{"reason":"Store","type":"bad"}"#,
-    ),
-    (
-        "peer",
-        r#"{"domain":"b.com","type":"peer"}"#,
-    ),
+    ("bad: TooLong", r#"{"reason":"TooLong","type":"bad"}"#),
+    ("bad: NotJson", r#"{"reason":"NotJson","type":"bad"}"#),
+    ("bad: TooMany", r#"{"reason":"TooMany","type":"bad"}"#),
+    ("bad: NotMessage", r#"{"reason":"NotMessage","type":"bad"}"#),
+    ("bad: BadUser", r#"{"reason":"BadUser","type":"bad"}"#),
+    ("bad: NotOpen", r#"{"reason":"NotOpen","type":"bad"}"#),
+    ("bad: NoHost", r#"{"reason":"NoHost","type":"bad"}"#),
+    ("bad: Store", r#"{"reason":"Store","type":"bad"}"#),
+    ("peer", r#"{"domain":"b.com","type":"peer"}"#),
     (
         "have",
         r#"{"hash":"i8ATQT3M+Urv/HnqWnjTSivG7CEZhXaWvCB8fefaUBo=","type":"have","version":2,"wavelet":"a.com/w1/a.com/conv+root"}"#,

@@ -20,24 +20,70 @@ use wavelet_op::Verdict;
 use wavelet_state::Snapshot;
 
 /// How a user is told a verdict on a submission. The error is want of memory, here and below.
-pub(crate) fn verdict_message(alloc: Global, name: &WaveletName, id: &DeltaId, verdict: Verdict) -> Result<Message, Memory>
+pub(crate) fn verdict_message(
+    alloc: Global,
+    name: &WaveletName,
+    id: &DeltaId,
+    verdict: Verdict,
+) -> Result<Message, Memory>
     ensures { IfOk result (λ m. m ≡ verdict_message name.now id.now verdict) }
 {
     let name = name.copy(alloc)?;
     let client = id.client;
     let number = id.number;
     match verdict {
-        Verdict::Ack { at, to } => Ok(Message::Ack { name, client, number, at, to }),
-        Verdict::NotParticipant => Ok(Message::Refused { name, client, number, verdict }),
-        Verdict::ReadOnly => Ok(Message::Refused { name, client, number, verdict }),
-        Verdict::UnknownVersion { .. } => Ok(Message::Refused { name, client, number, verdict }),
-        Verdict::WrongHash { .. } => Ok(Message::Refused { name, client, number, verdict }),
-        Verdict::Invalid { .. } => Ok(Message::Refused { name, client, number, verdict }),
-        Verdict::Full { .. } => Ok(Message::Refused { name, client, number, verdict }),
+        Verdict::Ack { at, to } => Ok(Message::Ack {
+            name,
+            client,
+            number,
+            at,
+            to,
+        }),
+        Verdict::NotParticipant => Ok(Message::Refused {
+            name,
+            client,
+            number,
+            verdict,
+        }),
+        Verdict::ReadOnly => Ok(Message::Refused {
+            name,
+            client,
+            number,
+            verdict,
+        }),
+        Verdict::UnknownVersion { .. } => Ok(Message::Refused {
+            name,
+            client,
+            number,
+            verdict,
+        }),
+        Verdict::WrongHash { .. } => Ok(Message::Refused {
+            name,
+            client,
+            number,
+            verdict,
+        }),
+        Verdict::Invalid { .. } => Ok(Message::Refused {
+            name,
+            client,
+            number,
+            verdict,
+        }),
+        Verdict::Full { .. } => Ok(Message::Refused {
+            name,
+            client,
+            number,
+            verdict,
+        }),
     }
 }
 
-fn relayed_message(alloc: Global, name: &WaveletName, id: &DeltaId, verdict: Verdict) -> Result<Message, Memory>
+fn relayed_message(
+    alloc: Global,
+    name: &WaveletName,
+    id: &DeltaId,
+    verdict: Verdict,
+) -> Result<Message, Memory>
     ensures { IfOk result (λ m. m ≡ Message.Relayed name.now id.now verdict) }
 {
     let name = name.copy(alloc)?;
@@ -46,7 +92,13 @@ fn relayed_message(alloc: Global, name: &WaveletName, id: &DeltaId, verdict: Ver
 }
 
 // How whoever it is is told a verdict on a submission.
-fn told_verdict(alloc: Global, party: &Party, name: &WaveletName, id: &DeltaId, verdict: Verdict) -> Result<Message, Memory>
+fn told_verdict(
+    alloc: Global,
+    party: &Party,
+    name: &WaveletName,
+    id: &DeltaId,
+    verdict: Verdict,
+) -> Result<Message, Memory>
     ensures { IfOk result (λ m. m ≡ told_verdict party.now name.now id.now verdict) }
 {
     match party {
@@ -112,7 +164,13 @@ impl Session {
 
     /// The reply to a submission of this id, by what became of it. A user is told a verdict as `ack` or `refused`, a peer as `relayed`.
     /// One that waits is kept, once, until `deliver` gives its outcome. After want of memory the session is as it was.
-    pub fn answer_submit(&mut self, alloc: Global, name: &WaveletName, id: &DeltaId, answer: &SubmitAnswer) -> Result<Message, Memory>
+    pub fn answer_submit(
+        &mut self,
+        alloc: Global,
+        name: &WaveletName,
+        id: &DeltaId,
+        answer: &SubmitAnswer,
+    ) -> Result<Message, Memory>
         ensures ok { IfOk result (λ m. (self.new, m) ≡ answered self.old name.now id.now answer.now) }
         ensures same { OnErr result (self.new ≡ self.old) }
     {
@@ -128,7 +186,11 @@ impl Session {
 // ---- open wavelets
 
 // The history that may be shown to a user.
-pub(crate) fn seen_by<'a, C: Copies>(copies: &'a C, name: &WaveletName, user: &Address) -> Option<&'a History>
+pub(crate) fn seen_by<'a, C: Copies>(
+    copies: &'a C,
+    name: &WaveletName,
+    user: &Address,
+) -> Option<&'a History>
     ensures { option_copied result ≡ seen_by (shown (C.copies copies.entry.now) (C.hosts copies.entry.now) (C.drops copies.entry.now) (C.outcomes copies.entry.now)) name.now user.now }
 {
     let history = copies.copy_of(name)?;
@@ -139,7 +201,11 @@ pub(crate) fn seen_by<'a, C: Copies>(copies: &'a C, name: &WaveletName, user: &A
     }
 }
 
-fn snapshot_of(alloc: Global, name: &WaveletName, history: &History) -> Result<Option<Snapshot>, Memory>
+fn snapshot_of(
+    alloc: Global,
+    name: &WaveletName,
+    history: &History,
+) -> Result<Option<Snapshot>, Memory>
     ensures { IfOk result (λ s. s ≡ cond (is_snapshot (head_of history.now).count (head_of history.now).state) (Some (snapshot_of name.now history.now)) None) }
 {
     let name = name.copy(alloc)?;
@@ -179,7 +245,12 @@ impl Session {
         self.openings.set(name, sent)
     }
 
-    fn attach_head(&mut self, alloc: Global, name: &WaveletName, history: &History) -> Result<Message, Memory>
+    fn attach_head(
+        &mut self,
+        alloc: Global,
+        name: &WaveletName,
+        history: &History,
+    ) -> Result<Message, Memory>
         ensures ok { IfOk result (λ m. (self.new, m) ≡ attached_head self.old name.now (snapshot_of name.now history.now)) }
         ensures same { OnErr result (self.new ≡ self.old) }
     {
@@ -192,7 +263,13 @@ impl Session {
         }
     }
 
-    fn attach_hash(&mut self, alloc: Global, name: &WaveletName, from: &HashedVersion, history: &History) -> Result<Message, Memory>
+    fn attach_hash(
+        &mut self,
+        alloc: Global,
+        name: &WaveletName,
+        from: &HashedVersion,
+        history: &History,
+    ) -> Result<Message, Memory>
         ensures ok { IfOk result (λ m. (self.new, m) ≡ attached_hash self.old name.now from.now (head_of history.now).at (hash_found history.now from.now.version)) }
         ensures same { OnErr result (self.new ≡ self.old) }
     {
@@ -211,7 +288,13 @@ impl Session {
         Ok(reply)
     }
 
-    fn attach_seen(&mut self, alloc: Global, name: &WaveletName, from: Option<&HashedVersion>, history: &History) -> Result<Message, Memory>
+    fn attach_seen(
+        &mut self,
+        alloc: Global,
+        name: &WaveletName,
+        from: Option<&HashedVersion>,
+        history: &History,
+    ) -> Result<Message, Memory>
         ensures ok { IfOk result (λ m. (self.new, m) ≡ attached_seen self.old name.now (option_copied from.entry) (Some history.now)) }
         ensures same { OnErr result (self.new ≡ self.old) }
     {
@@ -226,7 +309,13 @@ impl Session {
     /// from there; without one `TooLarge`, else it is open from the head, whose state is sent. A wavelet that was open keeps its place.
     /// After want of memory the session is as it was.
     #[tactic(auto, using(crate::proofs::Access::attached_may_see))]
-    pub fn answer_attach<C: Copies>(&mut self, alloc: Global, copies: &C, name: &WaveletName, from: Option<&HashedVersion>) -> Result<Message, Memory>
+    pub fn answer_attach<C: Copies>(
+        &mut self,
+        alloc: Global,
+        copies: &C,
+        name: &WaveletName,
+        from: Option<&HashedVersion>,
+    ) -> Result<Message, Memory>
         requires { has_user self.old ≡ true }
         ensures ok { IfOk result (λ m. (self.new, m) ≡ attached (shown (C.copies copies.now) (C.hosts copies.now) (C.drops copies.now) (C.outcomes copies.now)) self.old name.now (option_copied from.entry)) }
         ensures access { IfOk result (λ m. MaySee (shown (C.copies copies.now) (C.hosts copies.now) (C.drops copies.now) (C.outcomes copies.now)) self.old.party m) }
@@ -247,7 +336,13 @@ impl Session {
 impl Session {
     /// Notes that a peer has a wavelet up to this version, where it is one of the copy's delta ends with this hash: then its deltas are
     /// sent from there on, and the peer counts as told of it. There is no reply. After want of memory the session is as it was.
-    pub fn answer_have<C: Copies>(&mut self, alloc: Global, copies: &C, name: &WaveletName, from: &HashedVersion) -> Result<(), Memory>
+    pub fn answer_have<C: Copies>(
+        &mut self,
+        alloc: Global,
+        copies: &C,
+        name: &WaveletName,
+        from: &HashedVersion,
+    ) -> Result<(), Memory>
         requires { has_peer self.old ≡ true }
         ensures ok { OnOk result (self.new ≡ had (shown (C.copies copies.now) (C.hosts copies.now) (C.drops copies.now) (C.outcomes copies.now)) self.old name.now from.now) }
         ensures same { OnErr result (self.new ≡ self.old) }

@@ -56,7 +56,12 @@ fn since(history: &History, version: u64) -> &[AppliedDelta]
     deltas.split_at(first).1
 }
 
-fn push_updates(alloc: Global, name: &WaveletName, deltas: &[AppliedDelta], out: &mut Vec<Message>) -> Result<(), Memory>
+fn push_updates(
+    alloc: Global,
+    name: &WaveletName,
+    deltas: &[AppliedDelta],
+    out: &mut Vec<Message>,
+) -> Result<(), Memory>
     ensures { OnOk result (out.new.items ≡ out.old.items ++ updates name.now deltas.now) }
 {
     for delta in deltas {
@@ -67,7 +72,12 @@ fn push_updates(alloc: Global, name: &WaveletName, deltas: &[AppliedDelta], out:
     Ok(())
 }
 
-fn push_applieds(alloc: Global, name: &WaveletName, deltas: &[AppliedDelta], out: &mut Vec<Message>) -> Result<(), Memory>
+fn push_applieds(
+    alloc: Global,
+    name: &WaveletName,
+    deltas: &[AppliedDelta],
+    out: &mut Vec<Message>,
+) -> Result<(), Memory>
     ensures { OnOk result (out.new.items ≡ out.old.items ++ applieds name.now deltas.now) }
 {
     for delta in deltas {
@@ -80,7 +90,12 @@ fn push_applieds(alloc: Global, name: &WaveletName, deltas: &[AppliedDelta], out
 
 // ---- outcomes
 
-fn push_outcomes<C: Copies>(alloc: Global, copies: &C, list: &[Waiting], out: &mut Vec<Message>) -> Result<(), Memory>
+fn push_outcomes<C: Copies>(
+    alloc: Global,
+    copies: &C,
+    list: &[Waiting],
+    out: &mut Vec<Message>,
+) -> Result<(), Memory>
     ensures { OnOk result (out.new.items ≡ out.old.items ++ outcomes_sent (shown (C.copies copies.now) (C.hosts copies.now) (C.drops copies.now) (C.outcomes copies.now)) list.now) }
 {
     for waiting in list {
@@ -116,7 +131,12 @@ impl Waitings {
 // ---- open wavelets
 
 // What there is to say of an open wavelet of which there is a copy.
-fn push_news(alloc: Global, opening: &Opening, seen: Option<&History>, out: &mut Vec<Message>) -> Result<(), Memory>
+fn push_news(
+    alloc: Global,
+    opening: &Opening,
+    seen: Option<&History>,
+    out: &mut Vec<Message>,
+) -> Result<(), Memory>
     ensures { OnOk result (out.new.items ≡ out.old.items ++ opening_news opening.now (option_copied seen.entry)) }
 {
     match seen {
@@ -130,7 +150,13 @@ fn push_news(alloc: Global, opening: &Opening, seen: Option<&History>, out: &mut
     }
 }
 
-fn push_opening<C: Copies>(alloc: Global, copies: &C, user: &Address, opening: &Opening, out: &mut Vec<Message>) -> Result<(), Memory>
+fn push_opening<C: Copies>(
+    alloc: Global,
+    copies: &C,
+    user: &Address,
+    opening: &Opening,
+    out: &mut Vec<Message>,
+) -> Result<(), Memory>
     ensures { OnOk result (out.new.items ≡ out.old.items ++ opening_sent (shown (C.copies copies.now) (C.hosts copies.now) (C.drops copies.now) (C.outcomes copies.now)) user.now opening.now (C.copies copies.now opening.now.name)) }
 {
     if copies.copy_of(&opening.name).is_none() {
@@ -140,7 +166,13 @@ fn push_opening<C: Copies>(alloc: Global, copies: &C, user: &Address, opening: &
     push_news(alloc, opening, seen, out)
 }
 
-fn push_openings<C: Copies>(alloc: Global, copies: &C, user: &Address, list: &[Opening], out: &mut Vec<Message>) -> Result<(), Memory>
+fn push_openings<C: Copies>(
+    alloc: Global,
+    copies: &C,
+    user: &Address,
+    list: &[Opening],
+    out: &mut Vec<Message>,
+) -> Result<(), Memory>
     ensures { OnOk result (out.new.items ≡ out.old.items ++ openings_sent (shown (C.copies copies.now) (C.hosts copies.now) (C.drops copies.now) (C.outcomes copies.now)) user.now list.now) }
 {
     for opening in list {
@@ -230,7 +262,12 @@ fn has_domain(alloc: Global, history: &History, domain: &Domain) -> Result<bool,
     Ok(any_of(list.as_slice(), domain))
 }
 
-fn seen_from<'a, C: Copies>(alloc: Global, copies: &'a C, name: &WaveletName, domain: &Domain) -> Result<Option<&'a History>, Memory>
+fn seen_from<'a, C: Copies>(
+    alloc: Global,
+    copies: &'a C,
+    name: &WaveletName,
+    domain: &Domain,
+) -> Result<Option<&'a History>, Memory>
     ensures { IfOk result (λ o. option_copied o ≡ seen_from (shown (C.copies copies.entry.now) (C.hosts copies.entry.now) (C.drops copies.entry.now) (C.outcomes copies.entry.now)) name.now domain.now) }
 {
     let Some(history) = copies.copy_of(name) else {
@@ -244,7 +281,13 @@ fn seen_from<'a, C: Copies>(alloc: Global, copies: &'a C, name: &WaveletName, do
 }
 
 // What there is to say of a hosted wavelet, and what the peer was told then.
-fn push_host(alloc: Global, name: &WaveletName, seen: Option<&History>, tellings: &mut Tellings, out: &mut Vec<Message>) -> Result<(), Memory>
+fn push_host(
+    alloc: Global,
+    name: &WaveletName,
+    seen: Option<&History>,
+    tellings: &mut Tellings,
+    out: &mut Vec<Message>,
+) -> Result<(), Memory>
     ensures sent { OnOk result (out.new.items ≡ out.old.items ++ host_news name.now (telling_of name.now tellings.old) (option_copied seen.entry)) }
     ensures told { OnOk result (tellings.new ≡ host_told name.now tellings.old (telling_of name.now tellings.old) (option_copied seen.entry)) }
 {
@@ -258,7 +301,9 @@ fn push_host(alloc: Global, name: &WaveletName, seen: Option<&History>, tellings
             if !told {
                 return Ok(());
             }
-            out.push(Message::Dropped { name: name.copy(alloc)? })?;
+            out.push(Message::Dropped {
+                name: name.copy(alloc)?,
+            })?;
             tellings.set(name.copy(alloc)?, sent, false)
         }
     }
@@ -275,7 +320,14 @@ fn hosted_names<'a, C: Copies>(alloc: Global, copies: &'a C) -> Result<Vec<&'a W
 }
 
 // What there is to say of some of the hosted wavelets, and what the peer was told then.
-fn push_each<C: Copies>(alloc: Global, copies: &C, domain: &Domain, names: &[&WaveletName], tellings: &mut Tellings, out: &mut Vec<Message>) -> Result<(), Memory>
+fn push_each<C: Copies>(
+    alloc: Global,
+    copies: &C,
+    domain: &Domain,
+    names: &[&WaveletName],
+    tellings: &mut Tellings,
+    out: &mut Vec<Message>,
+) -> Result<(), Memory>
     ensures sent { OnOk result (out.new.items ≡ out.old.items ++ hosts_sent (shown (C.copies copies.now) (C.hosts copies.now) (C.drops copies.now) (C.outcomes copies.now)) domain.now tellings.old (map (λ n. n.now) names.now)) }
     ensures told { OnOk result (tellings.new ≡ hosts_told (shown (C.copies copies.now) (C.hosts copies.now) (C.drops copies.now) (C.outcomes copies.now)) domain.now tellings.old (map (λ n. n.now) names.now)) }
 {
@@ -286,7 +338,12 @@ fn push_each<C: Copies>(alloc: Global, copies: &C, domain: &Domain, names: &[&Wa
     Ok(())
 }
 
-fn push_hosts<C: Copies>(alloc: Global, copies: &C, domain: &Domain, tellings: &mut Tellings) -> Result<Vec<Message>, Memory>
+fn push_hosts<C: Copies>(
+    alloc: Global,
+    copies: &C,
+    domain: &Domain,
+    tellings: &mut Tellings,
+) -> Result<Vec<Message>, Memory>
     ensures sent { IfOk result (λ out. out.items ≡ hosts_sent (shown (C.copies copies.now) (C.hosts copies.now) (C.drops copies.now) (C.outcomes copies.now)) domain.now tellings.old (C.hosts copies.now)) }
     ensures told { OnOk result (tellings.new ≡ hosts_told (shown (C.copies copies.now) (C.hosts copies.now) (C.drops copies.now) (C.outcomes copies.now)) domain.now tellings.old (C.hosts copies.now)) }
 {
@@ -298,7 +355,13 @@ fn push_hosts<C: Copies>(alloc: Global, copies: &C, domain: &Domain, tellings: &
 
 // ---- all
 
-fn user_messages<C: Copies>(alloc: Global, copies: &C, user: &Address, waiting: &[Waiting], openings: &[Opening]) -> Result<Vec<Message>, Memory>
+fn user_messages<C: Copies>(
+    alloc: Global,
+    copies: &C,
+    user: &Address,
+    waiting: &[Waiting],
+    openings: &[Opening],
+) -> Result<Vec<Message>, Memory>
     ensures { IfOk result (λ out. out.items ≡ outcomes_sent (shown (C.copies copies.now) (C.hosts copies.now) (C.drops copies.now) (C.outcomes copies.now)) waiting.now ++ openings_sent (shown (C.copies copies.now) (C.hosts copies.now) (C.drops copies.now) (C.outcomes copies.now)) user.now openings.now) }
 {
     let mut out = Vec::new(alloc);
@@ -323,7 +386,13 @@ impl Session {
         match &self.party {
             Party::Nobody => Ok(Vec::new(alloc)),
             Party::User(user) => {
-                let out = user_messages(alloc, copies, user, self.waiting.as_slice(), self.openings.as_slice())?;
+                let out = user_messages(
+                    alloc,
+                    copies,
+                    user,
+                    self.waiting.as_slice(),
+                    self.openings.as_slice(),
+                )?;
                 self.openings.settle(copies, user);
                 self.waiting.settle(copies);
                 Ok(out)

@@ -180,7 +180,15 @@ impl Session {
     }
 
     // The user's submission, where the wavelet's host is reached.
-    fn submit_as(&self, alloc: Global, user: &Address, name: WaveletName, serial: (u64, u64), at: HashedVersion, ops: Ops) -> Result<Request, Memory>
+    fn submit_as(
+        &self,
+        alloc: Global,
+        user: &Address,
+        name: WaveletName,
+        serial: (u64, u64),
+        at: HashedVersion,
+        ops: Ops,
+    ) -> Result<Request, Memory>
         requires client { serial.0 ≤ max_count }
         requires number { serial.1 ≤ max_count }
         ensures { IfOk result (λ r. (self.now, r) ≡ submitted_as self.now name serial.0 serial.1 at ops user.now) }
@@ -198,7 +206,14 @@ impl Session {
         Ok(Request::Submit { name, submission })
     }
 
-    fn submit(&self, alloc: Global, name: WaveletName, serial: (u64, u64), at: HashedVersion, ops: Ops) -> Result<Request, Memory>
+    fn submit(
+        &self,
+        alloc: Global,
+        name: WaveletName,
+        serial: (u64, u64),
+        at: HashedVersion,
+        ops: Ops,
+    ) -> Result<Request, Memory>
         ensures { IfOk result (λ r. (self.now, r) ≡ submitted self.now name serial.0 serial.1 at ops) }
     {
         if serial.0 > MAX_COUNT || serial.1 > MAX_COUNT {
@@ -295,9 +310,13 @@ impl Session {
         match message {
             Message::Hello { user } => self.greet(alloc, user),
             Message::OpenWavelet { name, at } => Ok(self.ask_open(name, at)),
-            Message::Submit { name, client, number, at, ops } => {
-                self.submit(alloc, name, (client, number), at, ops)
-            }
+            Message::Submit {
+                name,
+                client,
+                number,
+                at,
+                ops,
+            } => { self.submit(alloc, name, (client, number), at, ops) }
             Message::CloseWavelet { name } => Ok(self.close(name)),
             Message::Peer { domain } => self.meet_in_domain(alloc, domain),
             Message::Have { name, at } => Ok(self.have(name, at)),

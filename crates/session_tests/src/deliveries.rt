@@ -115,7 +115,10 @@ fn word(alloc: Global, message: &Message) -> Result<String, Fail> {
             let version = delta.from.version;
             format!(in alloc; "applied {version};")?
         }
-        Message::Closed { reason: ClosedReason::Access, .. } => format!(in alloc; "closed;")?,
+        Message::Closed {
+            reason: ClosedReason::Access,
+            ..
+        } => format!(in alloc; "closed;")?,
         Message::Dropped { .. } => format!(in alloc; "dropped;")?,
         Message::Queued { .. } => format!(in alloc; "queued;")?,
         Message::Refused { .. } => format!(in alloc; "refused;")?,
@@ -143,7 +146,12 @@ fn version(alloc: Global, version: u64) -> Result<HashedVersion, Fail> {
     Ok(HashedVersion { version, hash })
 }
 
-fn attach(alloc: Global, session: &mut Session, copies: &MemoryCopies, from: Option<&HashedVersion>) -> Result<String, Fail> {
+fn attach(
+    alloc: Global,
+    session: &mut Session,
+    copies: &MemoryCopies,
+    from: Option<&HashedVersion>,
+) -> Result<String, Fail> {
     let name = WaveletName::parse(alloc, NAME)?;
     if !session.has_user() {
         return Err(Fail::new("no user"));
@@ -152,7 +160,12 @@ fn attach(alloc: Global, session: &mut Session, copies: &MemoryCopies, from: Opt
     word(alloc, &reply)
 }
 
-fn have(alloc: Global, session: &mut Session, copies: &MemoryCopies, from: &HashedVersion) -> Result<String, Fail> {
+fn have(
+    alloc: Global,
+    session: &mut Session,
+    copies: &MemoryCopies,
+    from: &HashedVersion,
+) -> Result<String, Fail> {
     let name = WaveletName::parse(alloc, NAME)?;
     if !session.has_peer() {
         return Err(Fail::new("no peer"));
@@ -175,7 +188,10 @@ fn act(alloc: Global, session: &mut Session, count: usize, act: &str) -> Result<
         "attach 1" => attach(alloc, session, &held, Some(&version(alloc, 1)?)),
         "attach 3" => attach(alloc, session, &held, Some(&version(alloc, 3)?)),
         "wrong 2" => {
-            let wrong = HashedVersion { version: 2, hash: [7; 32] };
+            let wrong = HashedVersion {
+                version: 2,
+                hash: [7; 32],
+            };
             attach(alloc, session, &held, Some(&wrong))
         }
         "have 3" => have(alloc, session, &held, &version(alloc, 3)?),
@@ -229,7 +245,10 @@ fn an_outcome_is_told_once(rt: HostRuntime) -> Result<(), Fail> {
         assert_eq!(rt; word(alloc, &reply)?.as_str(), "queued;");
     }
     let held = copies(alloc, 5, false)?;
-    assert_eq!(rt; deliver(alloc, &mut session, &held)?.as_str(), "ack 3;refused;");
+    assert_eq!(rt;
+        deliver(alloc, &mut session, &held)?.as_str(),
+        "ack 3;refused;"
+    );
     assert_eq!(rt; deliver(alloc, &mut session, &held)?.as_str(), "");
     Ok(())
 }

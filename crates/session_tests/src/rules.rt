@@ -8,14 +8,8 @@ use wave_messages::{Message, write};
 
 // A session of a pipe.
 const PIPE: [(&str, &str); 23] = [
-    (
-        "",
-        r#"{"reason":"NotJson","type":"bad"}"#,
-    ),
-    (
-        "[",
-        r#"{"reason":"NotJson","type":"bad"}"#,
-    ),
+    ("", r#"{"reason":"NotJson","type":"bad"}"#),
+    ("[", r#"{"reason":"NotJson","type":"bad"}"#),
     (
         r#"{"type":"open","wavelet":"a.com/w1/a.com/conv+root"}"#,
         r#"{"reason":"BadUser","type":"bad"}"#,

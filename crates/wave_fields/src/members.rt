@@ -53,11 +53,7 @@ pub fn number_at(value: &Value, name: &str, bound: u64) -> Option<u64>
     ensures bound { IfSome result (λ n. n ≤ bound) }
 {
     let number = value.get(name)?.as_u64()?;
-    if number <= bound {
-        Some(number)
-    } else {
-        None
-    }
+    if number <= bound { Some(number) } else { None }
 }
 
 /// The count in the member of this name, which is at most 2^53 - 1; None exactly where none stands there.
