@@ -1,0 +1,114 @@
+// Verdicts and reasons not to open a wavelet, written among the members of an object.
+ghost use Rattle.std.specs.Prelude.{◌≡◌, codes, OnOk};
+ghost use Rattle.serde_json.specs.Data.{string, put as put_data};
+ghost use Rattle.serde_json.specs.View.{members_view};
+ghost use Rattle.wave_fields.specs.Write.{count_data, bytes_data};
+ghost use Rattle.message_parts.specs.Good.{IsGoodHash, IsGoodVersion, IsGoodReason, IsGoodVerdict};
+ghost use Rattle.message_parts.specs.Verdicts.{with_version, with_reason, with_verdict, with_unopened};
+
+use crate::UnopenedReason;
+use doc_items::Memory;
+use serde_json::{Map, Value, put};
+use std::alloc::Global;
+use wave_base::HashedVersion;
+use wave_fields::{hash_value, string_value};
+use wavelet_op::Verdict;
+
+fn put_count(
+    alloc: Global,
+    members: &mut Map<String, Value>,
+    name: &str,
+    count: u64,
+) -> Result<(), Memory>
+    ensures { OnOk result (members_view members.new.entries ≡ put_data name.now (count_data count) (members_view members.old.entries)) }
+{
+    put(members, alloc, name, Value::from(count))
+}
+
+fn put_hash(alloc: Global, members: &mut Map<String, Value>, hash: &[u8; 32]) -> Result<(), Memory>
+    ensures good { OnOk result (IsGoodHash hash.now) }
+    ensures value { OnOk result (members_view members.new.entries ≡ put_data (codes "hash") (bytes_data hash.now) (members_view members.old.entries)) }
+{
+    let hash = hash_value(alloc, hash)?;
+    put(members, alloc, "hash", hash)
+}
+
+#[tactic(auto, using(crate::proofs::Counts::counts))]
+fn put_version(
+    alloc: Global,
+    members: &mut Map<String, Value>,
+    at: &HashedVersion,
+) -> Result<(), Memory>
+    ensures good { OnOk result (IsGoodVersion at.now) }
+    ensures value { OnOk result (members_view members.new.entries ≡ with_version at.now (members_view members.old.entries)) }
+{
+    put_count(alloc, members, "version", at.version)?;
+    let hash = at.hash;
+    put_hash(alloc, members, &hash)
+}
+
+fn put_reason(alloc: Global, members: &mut Map<String, Value>, name: &str) -> Result<(), Memory>
+    ensures { OnOk result (members_view members.new.entries ≡ with_reason name.now (members_view members.old.entries)) }
+{
+    let name = string_value(alloc, name)?;
+    put(members, alloc, "reason", name)
+}
+
+/// Puts the verdict among the members: an acknowledgement as `at`, `version` and `hash`, another one as `reason` and the members
+/// that this reason has. After want of memory, here and below, some of them may be there.
+pub fn put_verdict(
+    alloc: Global,
+    members: &mut Map<String, Value>,
+    verdict: &Verdict,
+) -> Result<(), Memory>
+    ensures good { OnOk result (IsGoodVerdict verdict.now) }
+    ensures value { OnOk result (members_view members.new.entries ≡ with_verdict verdict.now (members_view members.old.entries)) }
+{
+    match verdict {
+        Verdict::Ack { at, to } => {
+            put_version(alloc, members, to)?;
+            put_count(alloc, members, "at", *at)
+        }
+        Verdict::NotParticipant => put_reason(alloc, members, "NotParticipant"),
+        Verdict::ReadOnly => put_reason(alloc, members, "ReadOnly"),
+        Verdict::UnknownVersion { head } => {
+            put_reason(alloc, members, "UnknownVersion")?;
+            put_version(alloc, members, head)
+        }
+        Verdict::WrongHash { host } => {
+            put_reason(alloc, members, "WrongHash")?;
+            put_hash(alloc, members, host)
+        }
+        Verdict::Invalid { index } => {
+            put_reason(alloc, members, "Invalid")?;
+            put_count(alloc, members, "index", *index as u64)
+        }
+        Verdict::Full { head } => {
+            put_reason(alloc, members, "Full")?;
+            put_version(alloc, members, head)
+        }
+    }
+}
+
+/// Puts the reason not to open a wavelet among the members: as `reason` and the members that this reason has.
+pub fn put_unopened(
+    alloc: Global,
+    members: &mut Map<String, Value>,
+    reason: &UnopenedReason,
+) -> Result<(), Memory>
+    ensures good { OnOk result (IsGoodReason reason.now) }
+    ensures value { OnOk result (members_view members.new.entries ≡ with_unopened reason.now (members_view members.old.entries)) }
+{
+    match reason {
+        UnopenedReason::NotParticipant => put_reason(alloc, members, "NotParticipant"),
+        UnopenedReason::UnknownVersion { head } => {
+            put_reason(alloc, members, "UnknownVersion")?;
+            put_version(alloc, members, head)
+        }
+        UnopenedReason::WrongHash { host } => {
+            put_reason(alloc, members, "WrongHash")?;
+            put_hash(alloc, members, host)
+        }
+        UnopenedReason::TooLarge => put_reason(alloc, members, "TooLarge"),
+    }
+}

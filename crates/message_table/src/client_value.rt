@@ -1,0 +1,80 @@
+// Messages from a client, and those of one wavelet alone, written.
+ghost use Rattle.std.specs.Prelude.{◌≡◌, Some, IfOk};
+ghost use Rattle.serde_json.specs.Data.{object};
+ghost use Rattle.serde_json.specs.View.{view};
+ghost use Rattle.message_table.specs.Back.{IsGoodName, IsReadBack, InRange};
+ghost use Rattle.message_table.specs.Write.{kind_and_wavelet, hello_data, welcome_data, open_data, submit_data};
+
+use crate::Message;
+use crate::serial::{name_value, version_hash};
+use doc_items::{Memory, Text};
+use message_parts::ops_value;
+use serde_json::{Value, json};
+use std::alloc::Global;
+use wave_base::{HashedVersion, WaveletName};
+use wave_fields::string_value;
+use wavelet_op::Ops;
+
+/// A message that holds the wavelet's name alone. The error is want of memory, here and in the others.
+pub fn named_value(alloc: Global, kind: &str, name: &WaveletName) -> Result<Value, Memory>
+    ensures value { IfOk result (λ v. view v ≡ object (kind_and_wavelet kind.now name.now)) }
+    ensures good { IfOk result (λ _. IsGoodName name.now) }
+{
+    let name = name_value(alloc, name)?;
+    let kind = string_value(alloc, kind)?;
+    json!(in alloc; {"type": kind, "wavelet": name})
+}
+
+/// A `hello`.
+#[tactic(auto, using(crate::proofs::Back::hello_back))]
+pub fn hello_value(alloc: Global, user: &Text) -> Result<Value, Memory>
+    ensures value { IfOk result (λ v. view v ≡ hello_data user.now) }
+    ensures back { IfOk result (λ _. IsReadBack (Message.Hello user.now)) }
+{
+    let user = string_value(alloc, user.as_str())?;
+    json!(in alloc; {"type": "hello", "user": user})
+}
+
+/// A `welcome`.
+#[tactic(auto, using(crate::proofs::Back::welcome_back))]
+pub fn welcome_value(alloc: Global, user: &Text) -> Result<Value, Memory>
+    ensures value { IfOk result (λ v. view v ≡ welcome_data user.now) }
+    ensures back { IfOk result (λ _. IsReadBack (Message.Welcome user.now)) }
+{
+    let user = string_value(alloc, user.as_str())?;
+    json!(in alloc; {"type": "welcome", "user": user})
+}
+
+/// An `open` with a version.
+#[tactic(auto, using(crate::proofs::Back::open_at_back))]
+pub fn open_at_value(
+    alloc: Global,
+    name: &WaveletName,
+    from: &HashedVersion,
+) -> Result<Value, Memory>
+    ensures value { IfOk result (λ v. view v ≡ open_data name.now (Some from.now)) }
+    ensures back { IfOk result (λ _. IsReadBack (Message.OpenWavelet name.now (Some from.now))) }
+{
+    let name = name_value(alloc, name)?;
+    let hash = version_hash(alloc, from)?;
+    json!(in alloc; {"hash": hash, "type": "open", "version": from.version, "wavelet": name})
+}
+
+/// A `submit`.
+#[tactic(auto, using(crate::proofs::Back::submit_back))]
+pub fn submit_value(
+    alloc: Global,
+    name: &WaveletName,
+    client: u64,
+    number: u64,
+    from: &HashedVersion,
+    ops: &Ops,
+) -> Result<Value, Memory>
+    ensures value { IfOk result (λ v. view v ≡ submit_data name.now client number from.now ops.now) }
+    ensures back { IfOk result (λ _. InRange (Message.Submit name.now client number from.now ops.now) → IsReadBack (Message.Submit name.now client number from.now ops.now)) }
+{
+    let name = name_value(alloc, name)?;
+    let hash = version_hash(alloc, from)?;
+    let ops = ops_value(alloc, ops)?;
+    json!(in alloc; {"client": client, "hash": hash, "number": number, "operations": ops, "type": "submit", "version": from.version, "wavelet": name})
+}

@@ -1,0 +1,4 @@
+pub mod Rules
+pub mod Access
+pub mod Answers
+pub mod Deliveries

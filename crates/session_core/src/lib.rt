@@ -1,0 +1,14 @@
+//! Sessions: who it is, what a message asks for, what is answered, and what is sent of the copies of wavelets.
+#![tactic(auto)]
+
+mod answers;
+mod deliver;
+mod lists;
+mod request;
+mod rules;
+mod session;
+
+pub use delta_history::Copies;
+pub use lists::{Domains, Openings, Tellings, Waitings};
+pub use request::{Request, SubmitAnswer};
+pub use session::{Opening, Party, Session, Telling, Waiting};

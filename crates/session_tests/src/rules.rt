@@ -1,0 +1,268 @@
+// Messages sent to a session in turn, and what each asks for: a reply as it is written, or what is to be done.
+use doc_items::Memory;
+use session_core::{Request, Session};
+use std::alloc::Global;
+use std::test::Fail;
+use wave_base::Domain;
+use wave_messages::{Message, write};
+
+// A session of a pipe.
+const PIPE: [(&str, &str); 23] = [
+    ("", r#"{"reason":"NotJson","type":"bad"}"#),
+    ("[", r#"{"reason":"NotJson","type":"bad"}"#),
+    (
+        r#"{"type":"open","wavelet":"a.com/w1/a.com/conv+root"}"#,
+        r#"{"reason":"BadUser","type":"bad"}"#,
+    ),
+    (
+        r#"{"client":1,"hash":"eYTheTdCZGp0Bp8vDI5vHWkA/zj+heZDeOT2uSFhOqs=","number":1,"operations":[{"type":"noop"}],"type":"submit","version":0,"wavelet":"a.com/w1/a.com/conv+root"}"#,
+        r#"{"reason":"BadUser","type":"bad"}"#,
+    ),
+    (
+        r#"{"type":"close","wavelet":"a.com/w1/a.com/conv+root"}"#,
+        r#"{"reason":"BadUser","type":"bad"}"#,
+    ),
+    (
+        r#"{"type":"opened","version":0,"wavelet":"a.com/w1/a.com/conv+root"}"#,
+        r#"{"reason":"NotMessage","type":"bad"}"#,
+    ),
+    (
+        r#"{"type":"dropped","wavelet":"a.com/w1/a.com/conv+root"}"#,
+        r#"{"reason":"NotMessage","type":"bad"}"#,
+    ),
+    (
+        r#"{"client":1,"number":1,"type":"queued","wavelet":"a.com/w1/a.com/conv+root"}"#,
+        r#"{"reason":"NotMessage","type":"bad"}"#,
+    ),
+    (
+        r#"{"reason":"Store","type":"bad"}"#,
+        r#"{"reason":"NotMessage","type":"bad"}"#,
+    ),
+    (
+        r#"{"type":"welcome","user":"a"}"#,
+        r#"{"reason":"NotMessage","type":"bad"}"#,
+    ),
+    (
+        r#"{"domain":"b.com","type":"peer"}"#,
+        r#"{"reason":"NotMessage","type":"bad"}"#,
+    ),
+    (
+        r#"{"hash":"eYTheTdCZGp0Bp8vDI5vHWkA/zj+heZDeOT2uSFhOqs=","type":"have","version":0,"wavelet":"a.com/w1/a.com/conv+root"}"#,
+        r#"{"reason":"NotMessage","type":"bad"}"#,
+    ),
+    (
+        r#"{"author":"bob@b.com","client":1,"hash":"eYTheTdCZGp0Bp8vDI5vHWkA/zj+heZDeOT2uSFhOqs=","number":1,"operations":[{"type":"noop"}],"type":"relay","version":0,"wavelet":"a.com/w1/a.com/conv+root"}"#,
+        r#"{"reason":"NotMessage","type":"bad"}"#,
+    ),
+    (
+        r#"{"type":"hello","user":"alice@"}"#,
+        r#"{"reason":"BadUser","type":"bad"}"#,
+    ),
+    (
+        r#"{"type":"hello","user":"alice@a.com"}"#,
+        r#"{"type":"welcome","user":"alice@a.com"}"#,
+    ),
+    (
+        r#"{"type":"hello","user":"bob@a.com"}"#,
+        r#"{"reason":"BadUser","type":"bad"}"#,
+    ),
+    (
+        r#"{"type":"open","wavelet":"a.com/w1/a.com/conv+root"}"#,
+        "attach",
+    ),
+    (
+        r#"{"type":"open","wavelet":"a.com/w1/c.com/conv+root"}"#,
+        "attach",
+    ),
+    (
+        r#"{"client":1,"hash":"eYTheTdCZGp0Bp8vDI5vHWkA/zj+heZDeOT2uSFhOqs=","number":1,"operations":[{"type":"noop"}],"type":"submit","version":0,"wavelet":"a.com/w1/a.com/conv+root"}"#,
+        "submit",
+    ),
+    (
+        r#"{"type":"close","wavelet":"a.com/w1/a.com/conv+root"}"#,
+        r#"{"reason":"NotOpen","type":"bad"}"#,
+    ),
+    (
+        r#"{"hash":"eYTheTdCZGp0Bp8vDI5vHWkA/zj+heZDeOT2uSFhOqs=","type":"have","version":0,"wavelet":"a.com/w1/a.com/conv+root"}"#,
+        r#"{"reason":"NotMessage","type":"bad"}"#,
+    ),
+    (
+        r#"{"client":1,"hash":"eYTheTdCZGp0Bp8vDI5vHWkA/zj+heZDeOT2uSFhOqs=","number":1,"operations":[{"type":"noop"}],"type":"submit","version":9007199254740992,"wavelet":"a.com/w1/a.com/conv+root"}"#,
+        r#"{"reason":"NotMessage","type":"bad"}"#,
+    ),
+    (
+        r#"{"client":1,"hash":"eYTheTdCZGp0Bp8vDI5vHWkA/zj+heZDeOT2uSFhOqs=","number":1,"operations":[],"type":"submit","version":0,"wavelet":"a.com/w1/a.com/conv+root"}"#,
+        r#"{"reason":"NotMessage","type":"bad"}"#,
+    ),
+];
+
+// A client of the server for a.com, whose peer is b.com.
+const SERVER: [(&str, &str); 12] = [
+    (
+        r#"{"hash":"eYTheTdCZGp0Bp8vDI5vHWkA/zj+heZDeOT2uSFhOqs=","type":"have","version":0,"wavelet":"a.com/w1/a.com/conv+root"}"#,
+        r#"{"reason":"BadUser","type":"bad"}"#,
+    ),
+    (
+        r#"{"type":"hello","user":"alice@b.com"}"#,
+        r#"{"reason":"BadUser","type":"bad"}"#,
+    ),
+    (
+        r#"{"type":"hello","user":"alice@a.com"}"#,
+        r#"{"type":"welcome","user":"alice@a.com"}"#,
+    ),
+    (
+        r#"{"domain":"b.com","type":"peer"}"#,
+        r#"{"reason":"BadUser","type":"bad"}"#,
+    ),
+    (
+        r#"{"hash":"eYTheTdCZGp0Bp8vDI5vHWkA/zj+heZDeOT2uSFhOqs=","type":"have","version":0,"wavelet":"a.com/w1/a.com/conv+root"}"#,
+        r#"{"reason":"NotMessage","type":"bad"}"#,
+    ),
+    (
+        r#"{"author":"bob@b.com","client":1,"hash":"eYTheTdCZGp0Bp8vDI5vHWkA/zj+heZDeOT2uSFhOqs=","number":1,"operations":[{"type":"noop"}],"type":"relay","version":0,"wavelet":"a.com/w1/a.com/conv+root"}"#,
+        r#"{"reason":"NotMessage","type":"bad"}"#,
+    ),
+    (
+        r#"{"type":"open","wavelet":"a.com/w1/a.com/conv+root"}"#,
+        "attach",
+    ),
+    (
+        r#"{"type":"open","wavelet":"a.com/w1/b.com/conv+root"}"#,
+        "attach",
+    ),
+    (
+        r#"{"type":"open","wavelet":"a.com/w1/c.com/conv+root"}"#,
+        r#"{"reason":"NoHost","type":"bad"}"#,
+    ),
+    (
+        r#"{"client":1,"hash":"eYTheTdCZGp0Bp8vDI5vHWkA/zj+heZDeOT2uSFhOqs=","number":1,"operations":[{"type":"noop"}],"type":"submit","version":0,"wavelet":"a.com/w1/b.com/conv+root"}"#,
+        "submit",
+    ),
+    (
+        r#"{"client":1,"hash":"eYTheTdCZGp0Bp8vDI5vHWkA/zj+heZDeOT2uSFhOqs=","number":1,"operations":[{"type":"noop"}],"type":"submit","version":0,"wavelet":"a.com/w1/c.com/conv+root"}"#,
+        r#"{"reason":"NoHost","type":"bad"}"#,
+    ),
+    (
+        r#"{"type":"close","wavelet":"a.com/w1/a.com/conv+root"}"#,
+        r#"{"reason":"NotOpen","type":"bad"}"#,
+    ),
+];
+
+// The server for b.com, at that for a.com.
+const PEER: [(&str, &str); 13] = [
+    (
+        r#"{"domain":"c.com","type":"peer"}"#,
+        r#"{"reason":"BadUser","type":"bad"}"#,
+    ),
+    (
+        r#"{"domain":"b.com","type":"peer"}"#,
+        r#"{"type":"welcome","user":"b.com"}"#,
+    ),
+    (
+        r#"{"domain":"b.com","type":"peer"}"#,
+        r#"{"reason":"BadUser","type":"bad"}"#,
+    ),
+    (
+        r#"{"type":"hello","user":"alice@a.com"}"#,
+        r#"{"reason":"BadUser","type":"bad"}"#,
+    ),
+    (
+        r#"{"type":"open","wavelet":"a.com/w1/a.com/conv+root"}"#,
+        r#"{"reason":"NotMessage","type":"bad"}"#,
+    ),
+    (
+        r#"{"client":1,"hash":"eYTheTdCZGp0Bp8vDI5vHWkA/zj+heZDeOT2uSFhOqs=","number":1,"operations":[{"type":"noop"}],"type":"submit","version":0,"wavelet":"a.com/w1/a.com/conv+root"}"#,
+        r#"{"reason":"NotMessage","type":"bad"}"#,
+    ),
+    (
+        r#"{"type":"close","wavelet":"a.com/w1/a.com/conv+root"}"#,
+        r#"{"reason":"NotMessage","type":"bad"}"#,
+    ),
+    (
+        r#"{"hash":"eYTheTdCZGp0Bp8vDI5vHWkA/zj+heZDeOT2uSFhOqs=","type":"have","version":0,"wavelet":"a.com/w1/a.com/conv+root"}"#,
+        "have",
+    ),
+    (
+        r#"{"hash":"eYTheTdCZGp0Bp8vDI5vHWkA/zj+heZDeOT2uSFhOqs=","type":"have","version":0,"wavelet":"a.com/w1/b.com/conv+root"}"#,
+        r#"{"reason":"NoHost","type":"bad"}"#,
+    ),
+    (
+        r#"{"author":"bob@b.com","client":1,"hash":"eYTheTdCZGp0Bp8vDI5vHWkA/zj+heZDeOT2uSFhOqs=","number":1,"operations":[{"type":"noop"}],"type":"relay","version":0,"wavelet":"a.com/w1/a.com/conv+root"}"#,
+        "submit",
+    ),
+    (
+        r#"{"author":"bob@c.com","client":1,"hash":"eYTheTdCZGp0Bp8vDI5vHWkA/zj+heZDeOT2uSFhOqs=","number":1,"operations":[{"type":"noop"}],"type":"relay","version":0,"wavelet":"a.com/w1/a.com/conv+root"}"#,
+        r#"{"reason":"BadUser","type":"bad"}"#,
+    ),
+    (
+        r#"{"author":"bob@b.com","client":1,"hash":"eYTheTdCZGp0Bp8vDI5vHWkA/zj+heZDeOT2uSFhOqs=","number":1,"operations":[{"type":"noop"}],"type":"relay","version":0,"wavelet":"a.com/w1/b.com/conv+root"}"#,
+        r#"{"reason":"NoHost","type":"bad"}"#,
+    ),
+    (
+        r#"{"delta":"","hash":"eYTheTdCZGp0Bp8vDI5vHWkA/zj+heZDeOT2uSFhOqs=","type":"applied","version":0,"wavelet":"a.com/w1/a.com/conv+root"}"#,
+        r#"{"reason":"NotMessage","type":"bad"}"#,
+    ),
+];
+
+// What a request asks for.
+fn shown(alloc: Global, request: &Request) -> Result<Vec<u8>, Memory> {
+    match request {
+        Request::Reply(Message::Welcome { user }) => {
+            let user = user.copy(alloc)?;
+            write(alloc, &Message::Welcome { user })
+        }
+        Request::Reply(Message::Bad(reason)) => write(alloc, &Message::Bad(*reason)),
+        Request::Reply(_) => Vec::from_slice(alloc, b"another reply"),
+        Request::Attach { .. } => Vec::from_slice(alloc, b"attach"),
+        Request::Submit { .. } => Vec::from_slice(alloc, b"submit"),
+        Request::Have { .. } => Vec::from_slice(alloc, b"have"),
+    }
+}
+
+// Whether the message asks a session for this.
+fn asks(alloc: Global, session: &mut Session, bytes: &str, wanted: &str) -> Result<bool, Memory> {
+    let request = session.take_message(alloc, bytes.as_bytes())?;
+    let found = shown(alloc, &request)?;
+    Ok(found.as_slice() == wanted.as_bytes())
+}
+
+fn domain(alloc: Global, text: &str) -> Result<Domain, Fail> {
+    match Domain::parse(alloc, text) {
+        Ok(domain) => Ok(domain),
+        Err(_) => Err(Fail::new("no domain")),
+    }
+}
+
+#[test]
+fn a_pipe_takes_clients_alone(rt: HostRuntime) -> Result<(), Fail> {
+    let alloc = rt.alloc();
+    let mut session = Session::new(alloc, None, Vec::new(alloc));
+    for (bytes, wanted) in PIPE {
+        assert!(rt; asks(alloc, &mut session, bytes, wanted)?, "{bytes}");
+    }
+    Ok(())
+}
+
+#[test]
+fn a_server_takes_users_of_its_domain(rt: HostRuntime) -> Result<(), Fail> {
+    let alloc = rt.alloc();
+    let mut peers = Vec::new(alloc);
+    peers.push(domain(alloc, "b.com")?)?;
+    let mut session = Session::new(alloc, Some(domain(alloc, "a.com")?), peers);
+    for (bytes, wanted) in SERVER {
+        assert!(rt; asks(alloc, &mut session, bytes, wanted)?, "{bytes}");
+    }
+    Ok(())
+}
+
+#[test]
+fn a_server_takes_its_peers(rt: HostRuntime) -> Result<(), Fail> {
+    let alloc = rt.alloc();
+    let mut peers = Vec::new(alloc);
+    peers.push(domain(alloc, "b.com")?)?;
+    let mut session = Session::new(alloc, Some(domain(alloc, "a.com")?), peers);
+    for (bytes, wanted) in PEER {
+        assert!(rt; asks(alloc, &mut session, bytes, wanted)?, "{bytes}");
+    }
+    Ok(())
+}

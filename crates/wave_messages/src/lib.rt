@@ -1,0 +1,15 @@
+//! Messages as bytes: read with a limit and exact refusals, and written compactly; and lines, which say which session a message is
+//! from or goes to.
+#![tactic(auto)]
+
+mod fault;
+mod line;
+mod reading;
+mod writing;
+
+pub use fault::{Kind, LineFault, MessageFault};
+pub use line::{Line, read_line};
+pub use message_parts::{BadReason, ClosedReason, UnopenedReason};
+pub use message_table::Message;
+pub use reading::{MAX_CLIENT, MAX_PEER, read};
+pub use writing::{write, write_line};

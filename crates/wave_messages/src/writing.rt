@@ -1,0 +1,53 @@
+// Messages and lines, written.
+ghost use Rattle.std.specs.Prelude.{◌≡◌, false, IfOk};
+ghost use Rattle.serde_json.specs.View.{view};
+ghost use Rattle.serde_json.specs.Written.{compact_text, has_float};
+ghost use Rattle.message_table.specs.Back.{IsReadBack, InRange};
+ghost use Rattle.message_table.specs.Write.{message_data, IsShort};
+ghost use Rattle.wave_messages.specs.Write.{line_data};
+
+use doc_items::Memory;
+use message_table::{Message, message_value};
+use serde_json::{Value, json};
+use std::alloc::Global;
+use wave_fields::string_value;
+
+// The value without white space, its members in byte order of their names.
+fn compact(alloc: Global, value: &Value) -> Result<Vec<u8>, Memory>
+    requires { has_float (view value.now) ≡ false }
+    ensures { IfOk result (λ bytes. bytes.items ≡ compact_text (view value.now)) }
+{
+    value.to_vec(alloc)
+}
+
+/// The bytes of a message; those of the delta of an `applied` are fewer than 4,294,967,296. What they hold is read as the same
+/// message, where the numbers that the types don't bound are in range. The error is want of memory.
+#[tactic(auto, using(crate::proofs::Floats::message_clear))]
+pub fn write(alloc: Global, message: &Message) -> Result<Vec<u8>, Memory>
+    requires { IsShort message.now }
+    ensures value { IfOk result (λ bytes. bytes.items ≡ compact_text (message_data message.now)) }
+    ensures back { IfOk result (λ _. InRange message.now → IsReadBack message.now) }
+{
+    let value = message_value(alloc, message)?;
+    compact(alloc, &value)
+}
+
+// A message's value with the session.
+fn line_value(alloc: Global, session: &str, message: Value) -> Result<Value, Memory>
+    ensures { IfOk result (λ v. view v ≡ line_data session.now (view message)) }
+{
+    let session = string_value(alloc, session)?;
+    json!(in alloc; {"message": message, "session": session})
+}
+
+/// The bytes of a line for a session, without the line feed; those of the delta of an `applied` are fewer than 4,294,967,296. The
+/// error is want of memory.
+#[tactic(auto, using(crate::proofs::Floats::line_clear))]
+pub fn write_line(alloc: Global, session: &str, message: &Message) -> Result<Vec<u8>, Memory>
+    requires { IsShort message.now }
+    ensures { IfOk result (λ bytes. bytes.items ≡ compact_text (line_data session.now (message_data message.now))) }
+{
+    let message = message_value(alloc, message)?;
+    let line = line_value(alloc, session, message)?;
+    compact(alloc, &line)
+}
