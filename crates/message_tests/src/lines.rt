@@ -3,7 +3,7 @@ use crate::short::is_short;
 use doc_items::Memory;
 use std::alloc::Global;
 use std::test::Fail;
-use wave_messages::{Kind, LineFault, read_line, write_line};
+use wave_messages::{Kind, Line, LineFault, read_line, write_line};
 
 // The session, the reason and the line.
 const REFUSED: [(&str, Kind, &str, &str); 8] = [
@@ -69,25 +69,27 @@ fn is_refused(alloc: Global, bytes: &[u8], session: &str, kind: Kind) -> bool {
     }
 }
 
-// What is written of the line that a text is.
-fn again(alloc: Global, text: &str) -> Result<Option<Vec<u8>>, Memory> {
-    let Ok(line) = read_line(alloc, text.as_bytes()) else {
-        return Ok(None);
-    };
+// Whether what is written of a line is this; not so where its message may not be written.
+fn is_line_written_as(alloc: Global, line: &Line, wanted: &[u8]) -> Result<bool, Memory> {
     if !is_short(alloc, &line.message)? {
-        return Ok(None);
+        return Ok(false);
     }
-    Ok(Some(write_line(alloc, line.session.text(), &line.message)?))
+    let bytes = write_line(alloc, line.session.text(), &line.message)?;
+    Ok(bytes.as_slice() == wanted)
+}
+
+// Whether what is written of the line that a text is is this.
+fn is_written(alloc: Global, text: &str, written: &str) -> Result<bool, Memory> {
+    match read_line(alloc, text.as_bytes()) {
+        Ok(line) => is_line_written_as(alloc, &line, written.as_bytes()),
+        Err(_) => Ok(false),
+    }
 }
 
 #[test]
 fn a_line_is_written_as_it_was_read(rt: HostRuntime) -> Result<(), Fail> {
     let alloc = rt.alloc();
-    let written = again(alloc, LINE)?;
-    let Some(bytes) = written else {
-        return Err(Fail::new("no line"));
-    };
-    assert_eq!(rt; bytes.as_slice(), LINE.as_bytes());
+    assert!(rt; is_written(alloc, LINE, LINE)?);
     Ok(())
 }
 
@@ -98,7 +100,7 @@ fn lines_are_refused_to_their_session(rt: HostRuntime) -> Result<(), Fail> {
         assert!(rt; is_refused(alloc, text.as_bytes(), session, kind), "{what}");
     }
     let mut long = Vec::from_slice(alloc, LINE.as_bytes())?;
-    while long.len() < 1_048_576 {
+    for _ in long.len()..1_048_576 {
         long.push(b' ')?;
     }
     assert!(rt; read_line(alloc, long.as_slice()).is_ok());

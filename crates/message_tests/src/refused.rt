@@ -320,7 +320,7 @@ fn submission(alloc: Global, kind: &str, ops: usize, length: usize) -> Result<Ve
         text.extend_from_slice(b"{\"type\":\"noop\"}")?;
     }
     text.extend_from_slice(b"]}")?;
-    while text.len() < length {
+    for _ in text.len()..length {
         text.push(b' ')?;
     }
     Ok(text)

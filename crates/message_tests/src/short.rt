@@ -4,7 +4,7 @@ ghost use Rattle.message_table.specs.Write.{IsShort};
 
 use doc_items::Memory;
 use std::alloc::Global;
-use wave_messages::Message;
+use wave_messages::{Message, write};
 use wavelet_codec::applied_len;
 
 /// Whether the bytes of a delta that is written are fewer than 4,294,967,296.
@@ -33,4 +33,13 @@ pub fn is_short(alloc: Global, message: &Message) -> Result<bool, Memory>
         Message::Relayed { .. } => Ok(true),
         Message::Dropped { .. } => Ok(true),
     }
+}
+
+/// Whether a message is written as these bytes; `false` for one that may not be written.
+pub fn is_written_as(alloc: Global, message: &Message, wanted: &[u8]) -> Result<bool, Memory> {
+    if !is_short(alloc, message)? {
+        return Ok(false);
+    }
+    let bytes = write(alloc, message)?;
+    Ok(bytes.as_slice() == wanted)
 }

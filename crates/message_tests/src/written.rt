@@ -1,9 +1,9 @@
 // Messages as they are written: read and written again, each gives the same bytes.
-use crate::short::is_short;
+use crate::short::is_written_as;
 use doc_items::Memory;
 use std::alloc::Global;
 use std::test::Fail;
-use wave_messages::{MAX_PEER, read, write};
+use wave_messages::{MAX_PEER, read};
 
 // A message of each kind.
 const MESSAGES: [(&str, &str); 42] = [
@@ -175,22 +175,11 @@ const SPELLINGS: [(&str, &str, &str); 6] = [
     ),
 ];
 
-// What is written of the message that a text is.
-fn again(alloc: Global, text: &str) -> Result<Option<Vec<u8>>, Memory> {
-    let Ok(message) = read(alloc, text.as_bytes(), MAX_PEER) else {
-        return Ok(None);
-    };
-    if !is_short(alloc, &message)? {
-        return Ok(None);
-    }
-    Ok(Some(write(alloc, &message)?))
-}
-
 // Whether what is written of a text's message is this.
 fn is_written(alloc: Global, text: &str, written: &str) -> Result<bool, Memory> {
-    match again(alloc, text)? {
-        Some(bytes) => Ok(bytes.as_slice() == written.as_bytes()),
-        None => Ok(false),
+    match read(alloc, text.as_bytes(), MAX_PEER) {
+        Ok(message) => is_written_as(alloc, &message, written.as_bytes()),
+        Err(_) => Ok(false),
     }
 }
 

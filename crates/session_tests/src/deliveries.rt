@@ -1,5 +1,6 @@
 // What sessions are answered and sent, over the copies of one wavelet at moments in turn.
 use delta_history::History;
+use doc_items::Memory;
 use memory_copies::{Held, MemoryCopies, Noted, Notes};
 use session_core::{Session, SubmitAnswer};
 use std::alloc::Global;
@@ -10,6 +11,12 @@ use wavelet_op::Verdict;
 use wavelet_words::{delta_at, id};
 
 const NAME: &str = "a.com/w1/a.com/conv+root";
+
+// A version with a hash that no history has there.
+const WRONG: HashedVersion = HashedVersion {
+    version: 2,
+    hash: [7; 32],
+};
 
 // The deltas of the history, each with its author.
 const DELTAS: [(&str, &str); 5] = [
@@ -58,30 +65,53 @@ const PEER: [(usize, &str, &str); 10] = [
     (5, "deliver", "applied 3;applied 4;applied 5;"),
 ];
 
+// The delta of these words behind the others.
+fn push(
+    alloc: Global,
+    history: &mut History,
+    number: u64,
+    author: &str,
+    words: &str,
+) -> Result<(), Fail> {
+    if number > 1000 {
+        return Ok(());
+    }
+    let delta = delta_at(alloc, author, number, history.head(), words)?;
+    history.push_applied(alloc, delta)?;
+    Ok(())
+}
+
 // The history of the first deltas.
 fn history(alloc: Global, count: usize) -> Result<History, Fail> {
     let mut history = History::new(alloc, WaveletName::parse(alloc, NAME)?);
-    for (number, (author, words)) in DELTAS.iter().take(count).enumerate() {
-        let number = if number < 1000 { number as u64 } else { 0 };
-        let delta = delta_at(alloc, author, number, history.head(), words)?;
-        history.push_applied(alloc, delta)?;
+    let mut number = 0u64;
+    for (author, words) in DELTAS.iter().take(count) {
+        push(alloc, &mut history, number, author, words)?;
+        number = number.wrapping_add(1);
     }
     Ok(history)
 }
 
-// The copies with the first deltas.
-fn copies(alloc: Global, count: usize, dropped: bool) -> Result<MemoryCopies, Fail> {
+// The one outcome that is noted.
+fn noted(alloc: Global) -> Result<Notes, Fail> {
     let mut noted = Vec::new(alloc);
     noted.push(Noted {
         id: id(alloc, "bob@b.com", 9)?,
         verdict: Verdict::ReadOnly,
     })?;
+    Ok(Notes::from_vec(noted))
+}
+
+// The copies with the first deltas.
+fn copies(alloc: Global, count: usize, dropped: bool) -> Result<MemoryCopies, Fail> {
+    let history = history(alloc, count)?;
+    let noted = noted(alloc)?;
     let mut list = Vec::new(alloc);
     list.push(Held {
-        history: history(alloc, count)?,
+        history,
         hosted: true,
         dropped,
-        noted: Notes::from_vec(noted),
+        noted,
     })?;
     match MemoryCopies::new(list) {
         Some(copies) => Ok(copies),
@@ -89,49 +119,97 @@ fn copies(alloc: Global, count: usize, dropped: bool) -> Result<MemoryCopies, Fa
     }
 }
 
-// A message in a word or two.
-fn word(alloc: Global, message: &Message) -> Result<String, Fail> {
-    let word = match message {
-        Message::Opened { version, .. } => format!(in alloc; "opened {version};")?,
-        Message::Snapshot(snapshot) => {
-            let version = snapshot.at().version;
-            let inserted = snapshot.inserted();
-            format!(in alloc; "snapshot {version} of {inserted};")?
-        }
-        Message::Unopened { reason, .. } => match reason {
-            UnopenedReason::NotParticipant => format!(in alloc; "unopened absent;")?,
-            UnopenedReason::UnknownVersion { head } => {
-                let version = head.version;
-                format!(in alloc; "unopened unknown {version};")?
-            }
-            UnopenedReason::WrongHash { .. } => format!(in alloc; "unopened wrong;")?,
-            UnopenedReason::TooLarge => format!(in alloc; "unopened large;")?,
-        },
-        Message::Update { delta, .. } => {
-            let version = delta.from.version;
-            format!(in alloc; "update {version};")?
-        }
-        Message::Applied { delta, .. } => {
-            let version = delta.from.version;
-            format!(in alloc; "applied {version};")?
-        }
-        Message::Closed {
-            reason: ClosedReason::Access,
-            ..
-        } => format!(in alloc; "closed;")?,
-        Message::Dropped { .. } => format!(in alloc; "dropped;")?,
-        Message::Queued { .. } => format!(in alloc; "queued;")?,
-        Message::Refused { .. } => format!(in alloc; "refused;")?,
-        Message::Ack { at, .. } => format!(in alloc; "ack {at};")?,
-        _ => format!(in alloc; "another;")?,
-    };
-    Ok(word)
+// What a message is called.
+fn label(message: &Message) -> &'static str {
+    match message {
+        Message::Opened { .. } => "opened",
+        Message::Snapshot(_) => "snapshot",
+        Message::Unopened { reason, .. } => unopened_label(reason),
+        Message::Update { .. } => "update",
+        Message::Applied { .. } => "applied",
+        Message::Closed { reason, .. } => closed_label(reason),
+        Message::Dropped { .. } => "dropped",
+        Message::Queued { .. } => "queued",
+        Message::Refused { .. } => "refused",
+        Message::Ack { .. } => "ack",
+        _ => "another",
+    }
 }
 
-fn words(alloc: Global, messages: &[Message]) -> Result<String, Fail> {
+fn unopened_label(reason: &UnopenedReason) -> &'static str {
+    match reason {
+        UnopenedReason::NotParticipant => "unopened absent",
+        UnopenedReason::UnknownVersion { .. } => "unopened unknown",
+        UnopenedReason::WrongHash { .. } => "unopened wrong",
+        UnopenedReason::TooLarge => "unopened large",
+    }
+}
+
+fn closed_label(reason: &ClosedReason) -> &'static str {
+    match reason {
+        ClosedReason::Access => "closed",
+        ClosedReason::Asked => "another",
+    }
+}
+
+// The version in a message that is shown.
+fn shown_version(message: &Message) -> Option<u64> {
+    match message {
+        Message::Opened { version, .. } => Some(*version),
+        Message::Snapshot(snapshot) => Some(snapshot.at().version),
+        Message::Unopened { reason, .. } => head_version(reason),
+        Message::Update { delta, .. } => Some(delta.from.version),
+        Message::Applied { delta, .. } => Some(delta.from.version),
+        Message::Ack { at, .. } => Some(*at),
+        _ => None,
+    }
+}
+
+fn head_version(reason: &UnopenedReason) -> Option<u64> {
+    match reason {
+        UnopenedReason::UnknownVersion { head } => Some(head.version),
+        _ => None,
+    }
+}
+
+fn shown_count(message: &Message) -> Option<u64> {
+    match message {
+        Message::Snapshot(snapshot) => Some(snapshot.inserted()),
+        _ => None,
+    }
+}
+
+// A label with the numbers that there are.
+fn numbered(
+    alloc: Global,
+    label: &str,
+    version: Option<u64>,
+    count: Option<u64>,
+) -> Result<String, Memory> {
+    match version {
+        Some(version) => match count {
+            Some(count) => format!(in alloc; "{label} {version} of {count};"),
+            None => format!(in alloc; "{label} {version};"),
+        },
+        None => format!(in alloc; "{label};"),
+    }
+}
+
+// A message in a word or two.
+fn word(alloc: Global, message: &Message) -> Result<String, Memory> {
+    numbered(
+        alloc,
+        label(message),
+        shown_version(message),
+        shown_count(message),
+    )
+}
+
+fn words(alloc: Global, messages: &[Message]) -> Result<String, Memory> {
     let mut all = String::new(alloc);
     for message in messages {
-        all.push_str(word(alloc, message)?.as_str())?;
+        let word = word(alloc, message)?;
+        all.push_str(word.as_str())?;
     }
     Ok(all)
 }
@@ -140,9 +218,6 @@ fn words(alloc: Global, messages: &[Message]) -> Result<String, Fail> {
 fn version(alloc: Global, version: u64) -> Result<HashedVersion, Fail> {
     let whole = history(alloc, 5)?;
     let hash = whole.hash_at(version).unwrap_or([0; 32]);
-    if version > 1000 {
-        return Err(Fail::new("no such version"));
-    }
     Ok(HashedVersion { version, hash })
 }
 
@@ -157,46 +232,90 @@ fn attach(
         return Err(Fail::new("no user"));
     }
     let reply = session.answer_attach(alloc, copies, &name, from)?;
-    word(alloc, &reply)
+    Ok(word(alloc, &reply)?)
 }
 
-fn have(
+fn attach_at(
     alloc: Global,
     session: &mut Session,
     copies: &MemoryCopies,
-    from: &HashedVersion,
+    from: u64,
+) -> Result<String, Fail> {
+    let from = version(alloc, from)?;
+    attach(alloc, session, copies, Some(&from))
+}
+
+fn have_at(
+    alloc: Global,
+    session: &mut Session,
+    copies: &MemoryCopies,
+    from: u64,
 ) -> Result<String, Fail> {
     let name = WaveletName::parse(alloc, NAME)?;
+    let from = version(alloc, from)?;
     if !session.has_peer() {
         return Err(Fail::new("no peer"));
     }
-    session.answer_have(alloc, copies, &name, from)?;
+    session.answer_have(alloc, copies, &name, &from)?;
     Ok(String::new(alloc))
 }
 
 fn deliver(alloc: Global, session: &mut Session, copies: &MemoryCopies) -> Result<String, Fail> {
     let messages = session.deliver(alloc, copies)?;
-    words(alloc, messages.as_slice())
+    Ok(words(alloc, messages.as_slice())?)
 }
 
-// What a session answers to one act over the copies with the first deltas.
-fn act(alloc: Global, session: &mut Session, count: usize, act: &str) -> Result<String, Fail> {
-    let held = copies(alloc, count, act == "drop")?;
+// What a session answers to one act over these copies.
+fn answered(
+    alloc: Global,
+    session: &mut Session,
+    held: &MemoryCopies,
+    act: &str,
+) -> Result<String, Fail> {
     match act {
-        "attach" => attach(alloc, session, &held, None),
-        "attach 0" => attach(alloc, session, &held, Some(&version(alloc, 0)?)),
-        "attach 1" => attach(alloc, session, &held, Some(&version(alloc, 1)?)),
-        "attach 3" => attach(alloc, session, &held, Some(&version(alloc, 3)?)),
-        "wrong 2" => {
-            let wrong = HashedVersion {
-                version: 2,
-                hash: [7; 32],
-            };
-            attach(alloc, session, &held, Some(&wrong))
-        }
-        "have 3" => have(alloc, session, &held, &version(alloc, 3)?),
-        _ => deliver(alloc, session, &held),
+        "attach" => attach(alloc, session, held, None),
+        "attach 0" => attach_at(alloc, session, held, 0),
+        "attach 1" => attach_at(alloc, session, held, 1),
+        "attach 3" => attach_at(alloc, session, held, 3),
+        "wrong 2" => attach(alloc, session, held, Some(&WRONG)),
+        "have 3" => have_at(alloc, session, held, 3),
+        _ => deliver(alloc, session, held),
     }
+}
+
+// Whether a session answers this to one act over the copies with the first deltas.
+fn is_answered(
+    alloc: Global,
+    session: &mut Session,
+    count: usize,
+    act: &str,
+    wanted: &str,
+) -> Result<bool, Fail> {
+    let held = copies(alloc, count, act == "drop")?;
+    let found = answered(alloc, session, &held, act)?;
+    Ok(found.as_str() == wanted)
+}
+
+// Whether the submission of this number waits from now on.
+fn is_queued(alloc: Global, session: &mut Session, number: u64) -> Result<bool, Fail> {
+    if number > 1000 {
+        return Ok(false);
+    }
+    let name = WaveletName::parse(alloc, NAME)?;
+    let id = id(alloc, "bob@b.com", number)?;
+    let reply = session.answer_submit(alloc, &name, &id, &SubmitAnswer::Queued)?;
+    let found = word(alloc, &reply)?;
+    Ok(found.as_str() == "queued;")
+}
+
+fn is_delivered(
+    alloc: Global,
+    session: &mut Session,
+    copies: &MemoryCopies,
+    wanted: &str,
+) -> Result<bool, Fail> {
+    let found = deliver(alloc, session, copies)?;
+    Ok(found.as_str() == wanted)
 }
 
 fn peers(alloc: Global) -> Result<Vec<Domain>, Fail> {
@@ -211,8 +330,10 @@ fn a_user_is_sent_what_it_may_see(rt: HostRuntime) -> Result<(), Fail> {
     let mut session = Session::new(alloc, None, Vec::new(alloc));
     let _request = session.take_message(alloc, b"{\"type\":\"hello\",\"user\":\"bob@b.com\"}")?;
     for (count, what, wanted) in USER {
-        let found = act(alloc, &mut session, count, what)?;
-        assert_eq!(rt; found.as_str(), wanted, "{count} {what}");
+        assert!(rt;
+            is_answered(alloc, &mut session, count, what, wanted)?,
+            "{count} {what}"
+        );
     }
     Ok(())
 }
@@ -224,8 +345,10 @@ fn a_peer_is_sent_what_its_users_may_see(rt: HostRuntime) -> Result<(), Fail> {
     let mut session = Session::new(alloc, Some(own), peers(alloc)?);
     let _request = session.take_message(alloc, b"{\"type\":\"peer\",\"domain\":\"b.com\"}")?;
     for (count, what, wanted) in PEER {
-        let found = act(alloc, &mut session, count, what)?;
-        assert_eq!(rt; found.as_str(), wanted, "{count} {what}");
+        assert!(rt;
+            is_answered(alloc, &mut session, count, what, wanted)?,
+            "{count} {what}"
+        );
     }
     Ok(())
 }
@@ -235,20 +358,11 @@ fn an_outcome_is_told_once(rt: HostRuntime) -> Result<(), Fail> {
     let alloc = rt.alloc();
     let mut session = Session::new(alloc, None, Vec::new(alloc));
     let _request = session.take_message(alloc, b"{\"type\":\"hello\",\"user\":\"bob@b.com\"}")?;
-    if !session.has_user() {
-        return Err(Fail::new("no user"));
-    }
-    let name = WaveletName::parse(alloc, NAME)?;
     for number in [2u64, 9, 5] {
-        let id = id(alloc, "bob@b.com", if number < 1000 { number } else { 0 })?;
-        let reply = session.answer_submit(alloc, &name, &id, &SubmitAnswer::Queued)?;
-        assert_eq!(rt; word(alloc, &reply)?.as_str(), "queued;");
+        assert!(rt; is_queued(alloc, &mut session, number)?, "{number}");
     }
     let held = copies(alloc, 5, false)?;
-    assert_eq!(rt;
-        deliver(alloc, &mut session, &held)?.as_str(),
-        "ack 3;refused;"
-    );
-    assert_eq!(rt; deliver(alloc, &mut session, &held)?.as_str(), "");
+    assert!(rt; is_delivered(alloc, &mut session, &held, "ack 3;refused;")?);
+    assert!(rt; is_delivered(alloc, &mut session, &held, "")?);
     Ok(())
 }

@@ -1,4 +1,7 @@
 // Messages sent to a session in turn, and what each asks for: a reply as it is written, or what is to be done.
+ghost use Rattle.std.specs.Prelude.{IsTrue};
+ghost use Rattle.message_table.specs.Write.{IsShort};
+
 use doc_items::Memory;
 use session_core::{Request, Session};
 use std::alloc::Global;
@@ -204,26 +207,40 @@ const PEER: [(&str, &str); 13] = [
     ),
 ];
 
-// What a request asks for.
-fn shown(alloc: Global, request: &Request) -> Result<Vec<u8>, Memory> {
+// Whether a reply is one that sessions give by themselves: a welcome, or that something is bad.
+fn is_plain(message: &Message) -> bool
+    ensures { IsTrue result → IsShort message.now }
+{
+    match message {
+        Message::Welcome { .. } => true,
+        Message::Bad(_) => true,
+        _ => false,
+    }
+}
+
+// Whether the reply is such a one, and written like this.
+fn is_reply(alloc: Global, message: &Message, wanted: &str) -> Result<bool, Memory> {
+    if !is_plain(message) {
+        return Ok(false);
+    }
+    let bytes = write(alloc, message)?;
+    Ok(bytes.as_slice() == wanted.as_bytes())
+}
+
+// Whether a request asks for this.
+fn is_request(alloc: Global, request: &Request, wanted: &str) -> Result<bool, Memory> {
     match request {
-        Request::Reply(Message::Welcome { user }) => {
-            let user = user.copy(alloc)?;
-            write(alloc, &Message::Welcome { user })
-        }
-        Request::Reply(Message::Bad(reason)) => write(alloc, &Message::Bad(*reason)),
-        Request::Reply(_) => Vec::from_slice(alloc, b"another reply"),
-        Request::Attach { .. } => Vec::from_slice(alloc, b"attach"),
-        Request::Submit { .. } => Vec::from_slice(alloc, b"submit"),
-        Request::Have { .. } => Vec::from_slice(alloc, b"have"),
+        Request::Reply(message) => is_reply(alloc, message, wanted),
+        Request::Attach { .. } => Ok(wanted == "attach"),
+        Request::Submit { .. } => Ok(wanted == "submit"),
+        Request::Have { .. } => Ok(wanted == "have"),
     }
 }
 
 // Whether the message asks a session for this.
 fn asks(alloc: Global, session: &mut Session, bytes: &str, wanted: &str) -> Result<bool, Memory> {
     let request = session.take_message(alloc, bytes.as_bytes())?;
-    let found = shown(alloc, &request)?;
-    Ok(found.as_slice() == wanted.as_bytes())
+    is_request(alloc, &request, wanted)
 }
 
 fn domain(alloc: Global, text: &str) -> Result<Domain, Fail> {
