@@ -318,6 +318,21 @@ fn is_delivered(
     Ok(found.as_str() == wanted)
 }
 
+// The session of a user.
+fn user(alloc: Global) -> Result<Session, Fail> {
+    let mut session = Session::new(alloc, None, Vec::new(alloc));
+    let _request = session.take_message(alloc, b"{\"type\":\"hello\",\"user\":\"bob@b.com\"}")?;
+    Ok(session)
+}
+
+// Whether the two outcomes are delivered, and whether nothing is delivered the second time.
+fn outcomes(alloc: Global, session: &mut Session) -> Result<(bool, bool), Fail> {
+    let held = copies(alloc, 5, false)?;
+    let told = is_delivered(alloc, session, &held, "ack 3;refused;")?;
+    let again = is_delivered(alloc, session, &held, "")?;
+    Ok((told, again))
+}
+
 fn peers(alloc: Global) -> Result<Vec<Domain>, Fail> {
     let mut peers = Vec::new(alloc);
     peers.push(Domain::parse(alloc, "b.com")?)?;
@@ -327,8 +342,7 @@ fn peers(alloc: Global) -> Result<Vec<Domain>, Fail> {
 #[test]
 fn a_user_is_sent_what_it_may_see(rt: HostRuntime) -> Result<(), Fail> {
     let alloc = rt.alloc();
-    let mut session = Session::new(alloc, None, Vec::new(alloc));
-    let _request = session.take_message(alloc, b"{\"type\":\"hello\",\"user\":\"bob@b.com\"}")?;
+    let mut session = user(alloc)?;
     for (count, what, wanted) in USER {
         assert!(rt;
             is_answered(alloc, &mut session, count, what, wanted)?,
@@ -356,13 +370,12 @@ fn a_peer_is_sent_what_its_users_may_see(rt: HostRuntime) -> Result<(), Fail> {
 #[test]
 fn an_outcome_is_told_once(rt: HostRuntime) -> Result<(), Fail> {
     let alloc = rt.alloc();
-    let mut session = Session::new(alloc, None, Vec::new(alloc));
-    let _request = session.take_message(alloc, b"{\"type\":\"hello\",\"user\":\"bob@b.com\"}")?;
+    let mut session = user(alloc)?;
     for number in [2u64, 9, 5] {
         assert!(rt; is_queued(alloc, &mut session, number)?, "{number}");
     }
-    let held = copies(alloc, 5, false)?;
-    assert!(rt; is_delivered(alloc, &mut session, &held, "ack 3;refused;")?);
-    assert!(rt; is_delivered(alloc, &mut session, &held, "")?);
+    let (told, again) = outcomes(alloc, &mut session)?;
+    assert!(rt; told);
+    assert!(rt; again);
     Ok(())
 }
