@@ -1,7 +1,0 @@
-//! Tests of sessions.
-#![tactic(auto)]
-
-#[cfg(test)]
-mod deliveries;
-#[cfg(test)]
-mod rules;
