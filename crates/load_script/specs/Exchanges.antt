@@ -1,0 +1,56 @@
+-- What passes between a follower and the host.
+--     Meeting            the state of the draws, the host's deltas and a follower
+--     lacking h v        the deltas of h from version v on
+--     received f ds      the follower behind deltas that it receives in turn
+--     caught_up h f      behind all that it lacks
+--     answered ..        behind the verdict on its submission; where that is a refusal, nothing is pending any more
+--     exchanged t c      a submission is taken, if there is one, and submitted at the time t; then the follower catches up
+--     settling t n c     so again, at most n times, until nothing is pending
+use Rattle.std.specs.Prelude.{ℕ, zero, suc, cond, List, [], ◌∷◌, drop, Option, Some, None, Ok, Err}
+use Rattle.wavelet_op.specs.Deltas.{DeltaOf}
+use Rattle.wavelet_op.specs.declared.delta.Submission.{Submission}
+use Rattle.delta_history.specs.Places.{started_below}
+use Rattle.delta_history.specs.Verdicts.{Judged, judge}
+use Rattle.node_rules.specs.Followers.{FollowerOf, pending, dropped}
+use Rattle.node_rules.specs.Receiving.{receive}
+use Rattle.node_rules.specs.Submitting.{Submitted, submit}
+use Rattle.client_control.specs.Parts.{settled}
+use Rattle.wave_world.specs.Worlds.{grown, take_answer}
+use Rattle.load_script.specs.Names.{wavelet}
+
+pub record Meeting : Type 0 where
+  pub draws : ℕ
+  pub host : List DeltaOf
+  pub follower : FollowerOf
+
+-- ---- deltas
+
+abbrev pub lacking : List DeltaOf → ℕ → List DeltaOf
+lacking h v = drop (started_below v h) h
+
+abbrev pub received : FollowerOf → List DeltaOf → FollowerOf
+received f [] = f
+received f (d ∷ ds) = received (receive f d).1 ds
+
+unfoldable pub caught_up : List DeltaOf → FollowerOf → FollowerOf
+caught_up h f = received f (lacking h f.here.at.version)
+
+-- ---- submissions
+
+abbrev pub answered : Meeting → FollowerOf → Submission → Judged → Meeting
+answered c f s j = record { draws = c.draws; host = grown c.host j.1; follower = take_answer f (record { id = s.id; verdict = j.0 }) }
+
+abbrev pub submitted : ℕ → Meeting → Submitted → Meeting
+submitted t c (Ok (None, f)) = record c { follower = f }
+submitted t c (Ok (Some s, f)) = answered c f s (judge wavelet c.host s t)
+submitted t c (Err e) = record c { follower = dropped c.follower }
+
+abbrev pub level : Meeting → Meeting
+level c = record c { follower = caught_up c.host c.follower }
+
+unfoldable pub exchanged : ℕ → Meeting → Meeting
+exchanged t c = level (submitted t c (submit c.follower))
+
+unfoldable pub settling : ℕ → ℕ → Meeting → Meeting
+settling t zero c = c
+settling t (suc n) c = cond (settled (pending c.follower)) c (settling t n (exchanged t c))

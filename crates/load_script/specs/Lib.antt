@@ -1,0 +1,6 @@
+pub mod Draws
+pub mod Edits
+pub mod Exchanges
+pub mod Line
+pub mod Loads
+pub mod Names

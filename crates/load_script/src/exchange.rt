@@ -1,0 +1,126 @@
+// What passes between a follower and the host.
+ghost use Rattle.std.specs.Prelude.{◌≡◌, ◌≤◌, ◌-◌, length, drop, Ok, IfErr, IfOk, OnOk};
+ghost use Rattle.delta_history.specs.Places.{started_below, IsRisingFrom};
+ghost use Rattle.wave_world.specs.Worlds.{take_answer};
+ghost use Rattle.client_control.specs.Parts.{follower_of};
+ghost use Rattle.load_script.specs.Exchanges.{lacking, received, caught_up};
+
+use crate::host::Host;
+use client_control::{Follower, FollowerFault};
+use doc_items::Memory;
+use std::alloc::{AllocError, Global};
+use wave_base::DeltaId;
+use wavelet_op::{AppliedDelta, Submission, Verdict};
+
+// How many of the deltas start below a version. The walk is from the end, since few don't.
+fn started_below(deltas: &[AppliedDelta], version: u64) -> usize
+    requires { IsRisingFrom 0 deltas.now }
+    ensures value { result ≡ started_below version deltas.now }
+    ensures bound { result ≤ length deltas.now }
+{
+    let mut place = deltas.len();
+    while place > 0 {
+        if deltas[place - 1].from.version < version {
+            return place;
+        }
+        place -= 1;
+    }
+    0
+}
+
+// The deltas from a version on.
+fn lacking(host: &Host, version: u64) -> &[AppliedDelta]
+    ensures { result.now ≡ lacking host.now version }
+{
+    let deltas = host.deltas();
+    &deltas[started_below(deltas, version)..]
+}
+
+// The follower receives deltas in turn.
+fn receive(alloc: Global, follower: &mut Follower, deltas: &[AppliedDelta]) -> Result<(), Memory>
+    ensures { OnOk result (follower_of follower.new ≡ received (follower_of follower.old) deltas.now) }
+{
+    for delta in deltas {
+        follower.receive_update(alloc, delta)?;
+    }
+    Ok(())
+}
+
+/// The follower receives every delta from its version on, in order.
+pub(crate) fn catch_up(alloc: Global, host: &Host, follower: &mut Follower) -> Result<(), Memory>
+    ensures { OnOk result (follower_of follower.new ≡ caught_up host.now (follower_of follower.old)) }
+{
+    let deltas = lacking(host, follower.at().version);
+    receive(alloc, follower, deltas)
+}
+
+// The follower takes the verdict on the submission of an id.
+fn take_answer(follower: &mut Follower, id: &DeltaId, verdict: Verdict)
+    ensures { follower_of follower.new ≡ take_answer (follower_of follower.old) (record { id = id.now; verdict = verdict }) }
+{
+    match verdict {
+        Verdict::Ack { .. } => {}
+        _ => {
+            let _was_mine = follower.receive_refusal(id);
+        }
+    }
+}
+
+// The submission is judged at the time, and the follower takes the verdict.
+fn submit(
+    alloc: Global,
+    host: &mut Host,
+    follower: &mut Follower,
+    submission: &Submission,
+    time: u64,
+) -> Result<(), Memory> {
+    let verdict = host.submit(alloc, submission, time)?;
+    take_answer(follower, &submission.id, verdict);
+    Ok(())
+}
+
+// What waits is submitted, if a submission can be taken of it.
+fn submit_pending(
+    alloc: Global,
+    host: &mut Host,
+    follower: &mut Follower,
+    time: u64,
+) -> Result<(), Memory> {
+    match follower.take_submission(alloc) {
+        Ok(Some(submission)) => submit(alloc, host, follower, &submission, time),
+        Ok(None) => Ok(()),
+        Err(FollowerFault::Memory) => Err(AllocError),
+        Err(_) => {
+            follower.drop_pending();
+            Ok(())
+        }
+    }
+}
+
+/// What waits is submitted at the time, and the follower catches up.
+pub(crate) fn exchange(
+    alloc: Global,
+    host: &mut Host,
+    follower: &mut Follower,
+    time: u64,
+) -> Result<(), Memory> {
+    submit_pending(alloc, host, follower, time)?;
+    catch_up(alloc, host, follower)
+}
+
+/// So again, at most so many times, until nothing is pending.
+pub(crate) fn settle(
+    alloc: Global,
+    host: &mut Host,
+    follower: &mut Follower,
+    time: u64,
+    rounds: u64,
+) -> Result<(), Memory> {
+    for _ in 0..rounds {
+        if follower.is_settled() {
+            return Ok(());
+        }
+        exchange(alloc, host, follower, time)?;
+    }
+    Ok(())
+}

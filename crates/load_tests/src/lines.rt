@@ -1,0 +1,25 @@
+// The lines of loads, computed elsewhere.
+use load_script::{run_load, summary_line};
+use std::alloc::Global;
+use std::test::Fail;
+
+const LINES: [(u64, &str); 3] = [
+    (0, "load 0 version 4 items 0 hash 0Eet6cMWJJZxvsVtdBSJZAsPG2XNNTJGkd7elSmspks=\n"),
+    (1, "load 1 version 5 items 1 hash RZ2GM7AaTXZrTiHJfj8lEY8D9mqypic7sZlT8m8gD2w=\n"),
+    (100, "load 100 version 28 items 24 hash MXS27U7X+VYh0/NZ2WXG26OMCQrp9u7uoj+C9rN63JM=\n"),
+];
+
+fn line(alloc: Global, count: u64) -> Result<String, Fail> {
+    let count = count.min(100000);
+    let summary = run_load(alloc, count)?;
+    Ok(summary_line(alloc, count, &summary)?)
+}
+
+#[test]
+fn lines_are_those_computed_elsewhere(rt: HostRuntime) -> Result<(), Fail> {
+    for (count, told) in LINES {
+        let line = line(rt.alloc(), count)?;
+        assert_eq!(rt; line.as_str(), told, "load {count}");
+    }
+    Ok(())
+}
