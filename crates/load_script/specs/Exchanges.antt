@@ -1,9 +1,9 @@
 -- What passes between a follower and the host.
---     Meeting            the state of the draws, the host's deltas and a follower
+--     Meeting            the host's deltas and a follower
 --     lacking h v        the deltas of h from version v on
 --     received f ds      the follower behind deltas that it receives in turn
 --     caught_up h f      behind all that it lacks
---     answered ..        behind the verdict on its submission; where that is a refusal, nothing is pending any more
+--     answered c f s j   behind the verdict on its submission; where that is a refusal, nothing is pending any more
 --     exchanged t c      a submission is taken, if there is one, and submitted at the time t; then the follower catches up
 --     settling t n c     so again, at most n times, until nothing is pending
 use Rattle.std.specs.Prelude.{ℕ, zero, suc, cond, List, [], ◌∷◌, drop, Option, Some, None, Ok, Err}
@@ -16,12 +16,14 @@ use Rattle.node_rules.specs.Receiving.{receive}
 use Rattle.node_rules.specs.Submitting.{Submitted, submit}
 use Rattle.client_control.specs.Parts.{settled}
 use Rattle.wave_world.specs.Worlds.{grown, take_answer}
-use Rattle.load_script.specs.Names.{wavelet}
+use Rattle.load_script.specs.Names.{the_wavelet}
 
 pub record Meeting : Type 0 where
-  pub draws : ℕ
   pub host : List DeltaOf
   pub follower : FollowerOf
+
+abbrev pub meeting : List DeltaOf → FollowerOf → Meeting
+meeting h f = record { host = h; follower = f }
 
 -- ---- deltas
 
@@ -37,16 +39,16 @@ caught_up h f = received f (lacking h f.here.at.version)
 
 -- ---- submissions
 
-abbrev pub answered : Meeting → FollowerOf → Submission → Judged → Meeting
-answered c f s j = record { draws = c.draws; host = grown c.host j.1; follower = take_answer f (record { id = s.id; verdict = j.0 }) }
+abbrev pub answered : List DeltaOf → FollowerOf → Submission → Judged → Meeting
+answered h f s j = meeting (grown h j.1) (take_answer f (record { id = s.id; verdict = j.0 }))
 
 abbrev pub submitted : ℕ → Meeting → Submitted → Meeting
-submitted t c (Ok (None, f)) = record c { follower = f }
-submitted t c (Ok (Some s, f)) = answered c f s (judge wavelet c.host s t)
-submitted t c (Err e) = record c { follower = dropped c.follower }
+submitted t c (Ok (None, f)) = meeting c.host f
+submitted t c (Ok (Some s, f)) = answered c.host f s (judge the_wavelet c.host s t)
+submitted t c (Err e) = meeting c.host (dropped c.follower)
 
 abbrev pub level : Meeting → Meeting
-level c = record c { follower = caught_up c.host c.follower }
+level c = meeting c.host (caught_up c.host c.follower)
 
 unfoldable pub exchanged : ℕ → Meeting → Meeting
 exchanged t c = level (submitted t c (submit c.follower))

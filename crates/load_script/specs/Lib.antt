@@ -4,3 +4,4 @@ pub mod Exchanges
 pub mod Line
 pub mod Loads
 pub mod Names
+pub mod Scripts

@@ -1,14 +1,14 @@
 -- The names of a load, as their bytes.
---     wavelet, document     the wavelet, and the document whose letters are typed and erased
+--     the_wavelet, the_document     the wavelet, and the document whose letters are typed and erased
 --     user0 .. user3, users     its users
 use Rattle.std.specs.Prelude.{List, [], ◌∷◌, codes}
 use Rattle.doc_items.specs.Maps.{Key}
 
-unfoldable pub wavelet : Key
-wavelet = codes "load.com/w/load.com/conv+root"
+unfoldable pub the_wavelet : Key
+the_wavelet = codes "load.com/w/load.com/conv+root"
 
-unfoldable pub document : Key
-document = codes "b+1"
+unfoldable pub the_document : Key
+the_document = codes "b+1"
 
 unfoldable pub user0 : Key
 user0 = codes "u0@load.com"

@@ -1,19 +1,19 @@
-// What a follower's user does to the document.
-ghost use Rattle.std.specs.Prelude.{◌≡◌, ◌+◌, ◌<◌, ◌≤◌, ◌∷◌, [], length, map, slice_get, IfOk, IfErr, IfSome, OnOk};
-ghost use Rattle.std.specs.Str.{chars};
-ghost use Rattle.op_build.specs.Plans.{typing, erasing};
+// What a follower's user does to the document, with numbers that are drawn.
+ghost use Rattle.std.specs.Prelude.{◌≡◌, ◌<◌, ◌≤◌, ◌∷◌, [], length, map, slice_get, option_map, IfOk, OnOk};
 ghost use Rattle.doc_op.specs.Actions.{actions};
+ghost use Rattle.op_build.specs.Plans.{typing};
 ghost use Rattle.wavelet_op.specs.Acts.{Adds, meanings};
 ghost use Rattle.client_control.specs.Parts.{follower_of};
-ghost use Rattle.load_script.specs.Edits.{letters, changed, mutated, typed_at, erased_at, invited};
-ghost use Rattle.load_script.specs.Names.{users};
+ghost use Rattle.load_script.specs.Edits.{letter, letters, changed, mutated, typed, erasure, erased, invited, types, erases};
+ghost use Rattle.load_script.specs.Names.{the_document, users};
 
+use crate::draws::Draws;
+use crate::length::length;
 use crate::names::{document, user0, user1, user2, user3};
+use crate::planning::{erasing_in, typing_in};
 use client_control::{Follower, FollowerFault};
 use doc_items::Memory;
 use doc_op::DocOp;
-use doc_rope::Rope;
-use op_build::{BuildFault, erase, type_at};
 use std::alloc::{AllocError, Global};
 use wave_base::DocumentName;
 use wavelet_op::{Ops, WaveletOp};
@@ -24,21 +24,12 @@ fn change(alloc: Global, follower: &mut Follower, ops: Ops) -> Result<(), Memory
 {
     match follower.edit(alloc, ops) {
         Ok(()) => Ok(()),
+        Err(FollowerFault::OpInvalid(_)) => Ok(()),
+        Err(FollowerFault::EditFull) => Ok(()),
+        Err(FollowerFault::TooBig) => Ok(()),
+        Err(FollowerFault::NumbersSpent) => Ok(()),
         Err(FollowerFault::Memory) => Err(AllocError),
-        Err(_) => Ok(()),
     }
-}
-
-// So is an operation on the document.
-fn mutate(
-    alloc: Global,
-    follower: &mut Follower,
-    document: DocumentName,
-    op: DocOp,
-) -> Result<(), Memory>
-{
-    let ops = only(alloc, WaveletOp::Mutate { document, op })?;
-    change(alloc, follower, ops)
 }
 
 // A list of one operation.
@@ -53,72 +44,155 @@ fn only(alloc: Global, op: WaveletOp) -> Result<Ops, Memory>
     }
 }
 
-// What is made of the document on the screen, which is lent.
-fn count_letters(follower: &Follower, document: &DocumentName) -> u64 {
-    match shown(follower, document) {
-        Some(rope) => rope.len(),
-        None => 0,
-    }
-}
-
-fn shown<'a>(follower: &'a Follower, document: &DocumentName) -> Option<&'a Rope> {
-    let Some(screen) = follower.shown() else {
-        return None;
-    };
-    screen.rope(document)
-}
-
-/// The number of items of the document on the follower's screen, which is kept then.
-pub(crate) fn measure(alloc: Global, follower: &mut Follower) -> Result<u64, Memory> {
-    follower.keep_screen(alloc)?;
-    let document = document(alloc)?;
-    Ok(count_letters(follower, &document))
-}
-
-fn letter(alloc: Global, number: u64) -> Result<String, Memory>
-    requires { number < 26 }
-    ensures { IfOk result (λ t. chars (string_bytes t) ≡ 97 + number ∷ []) }
-{
-    let mut text = String::new(alloc);
-    text.push((b'a' + number as u8) as char)?;
-    Ok(text)
-}
-
-fn typing_op(alloc: Global, follower: &Follower, document: &DocumentName, place: u64, text: &str) -> Result<DocOp, BuildFault> {
-    match shown(follower, document) {
-        Some(rope) => type_at(alloc, rope, place, text),
-        None => type_at(alloc, &Rope::new(alloc), place, text),
-    }
-}
-
-/// The n-th letter is typed.
-pub(crate) fn type_letter(
+// So is an operation on the document.
+fn mutate(
     alloc: Global,
     follower: &mut Follower,
+    document: DocumentName,
+    op: DocOp,
+) -> Result<(), Memory>
+    requires { document ≡ the_document }
+    ensures { OnOk result (follower_of follower.new ≡ mutated (follower_of follower.old) (actions op)) }
+{
+    let ops = only(alloc, WaveletOp::Mutate { document, op })?;
+    change(alloc, follower, ops)
+}
+
+// The number of items of the document on the screen, which is kept then.
+fn count(alloc: Global, follower: &mut Follower, document: &DocumentName) -> Result<u64, Memory>
+    requires { document.now ≡ the_document }
+    ensures value { IfOk result (λ n. n ≡ length (letters (follower_of follower.old))) }
+    ensures same { follower.new ≡ follower.old }
+{
+    follower.keep_screen(alloc)?;
+    match follower.shown() {
+        Some(screen) => Ok(length(screen, document)),
+        None => {
+            let screen = follower.screen(alloc)?;
+            Ok(length(&screen, document))
+        }
+    }
+}
+
+// The operation that types the n-th letter at a place of the screen.
+fn typing_on(
+    alloc: Global,
+    follower: &Follower,
+    document: &DocumentName,
+    place: u64,
+    number: u64,
+) -> Result<DocOp, Memory>
+    requires document { document.now ≡ the_document }
+    requires number { number < 26 }
+    requires place { place ≤ length (letters (follower_of follower.now)) }
+    ensures { IfOk result (λ op. actions op ≡ typing (letters (follower_of follower.now)) place (letter number ∷ [])) }
+{
+    match follower.shown() {
+        Some(screen) => typing_in(alloc, screen, document, place, number),
+        None => {
+            let screen = follower.screen(alloc)?;
+            typing_in(alloc, &screen, document, place, number)
+        }
+    }
+}
+
+// The operation that erases the item at a place of the screen; None where it is no character.
+fn erasing_on(
+    alloc: Global,
+    follower: &Follower,
+    document: &DocumentName,
+    place: u64,
+) -> Result<Option<DocOp>, Memory>
+    requires { document.now ≡ the_document }
+    ensures { IfOk result (λ o. option_map actions o ≡ erasure (letters (follower_of follower.now)) place (slice_get (letters (follower_of follower.now)) place)) }
+{
+    match follower.shown() {
+        Some(screen) => erasing_in(alloc, screen, document, place),
+        None => {
+            let screen = follower.screen(alloc)?;
+            erasing_in(alloc, &screen, document, place)
+        }
+    }
+}
+
+// The n-th letter is typed at a place.
+fn type_letter(
+    alloc: Global,
+    follower: &mut Follower,
+    document: DocumentName,
     place: u64,
     number: u64,
 ) -> Result<(), Memory>
-    requires { number < 26 }
+    requires document { document ≡ the_document }
+    requires number { number < 26 }
+    requires place { place ≤ length (letters (follower_of follower.old)) }
+    ensures { OnOk result (follower_of follower.new ≡ typed (follower_of follower.old) place number) }
 {
-    let text = letter(alloc, number)?;
-    let document = document(alloc)?;
-    match typing_op(alloc, follower, &document, place, text.as_str()) {
-        Ok(op) => mutate(alloc, follower, document, op),
-        Err(BuildFault::Memory) => Err(AllocError),
-        Err(_) => Ok(()),
+    let op = typing_on(alloc, follower, &document, place, number)?;
+    mutate(alloc, follower, document, op)
+}
+
+// The item at a place is erased, if it is a character.
+fn erase_letter(
+    alloc: Global,
+    follower: &mut Follower,
+    document: DocumentName,
+    place: u64,
+) -> Result<(), Memory>
+    requires { document ≡ the_document }
+    ensures { OnOk result (follower_of follower.new ≡ erased (follower_of follower.old) place) }
+{
+    match erasing_on(alloc, follower, &document, place)? {
+        Some(op) => mutate(alloc, follower, document, op),
+        None => Ok(()),
     }
 }
 
-pub(crate) fn erase_letter(alloc: Global, follower: &mut Follower, place: u64) -> Result<(), Memory> {
+// A letter is typed at a place of the document, which has so many items; both are drawn.
+fn type_drawn(
+    alloc: Global,
+    draws: &mut Draws,
+    follower: &mut Follower,
+    document: DocumentName,
+    count: u64,
+) -> Result<(), Memory>
+    requires document { document ≡ the_document }
+    requires count { count ≡ length (letters (follower_of follower.old)) }
+    ensures { OnOk result ((draws.new, follower_of follower.new) ≡ types draws.old (follower_of follower.old)) }
+{
+    let place = draws.below(count + 1);
+    let number = draws.below(26);
+    type_letter(alloc, follower, document, place, number)
+}
+
+/// A letter is typed at a place; both are drawn.
+pub(crate) fn type_one(
+    alloc: Global,
+    draws: &mut Draws,
+    follower: &mut Follower,
+) -> Result<(), Memory>
+    ensures { OnOk result ((draws.new, follower_of follower.new) ≡ types draws.old (follower_of follower.old)) }
+{
     let document = document(alloc)?;
-    let Some(rope) = shown(follower, &document) else {
-        return Ok(());
-    };
-    match erase(alloc, rope, place, 1) {
-        Ok(op) => mutate(alloc, follower, document, op),
-        Err(BuildFault::Memory) => Err(AllocError),
-        Err(_) => Ok(()),
+    let count = count(alloc, follower, &document)?;
+    type_drawn(alloc, draws, follower, document, count)
+}
+
+/// The item at a place that is drawn is erased; where there is none, a letter is typed.
+pub(crate) fn erase_one(
+    alloc: Global,
+    draws: &mut Draws,
+    follower: &mut Follower,
+) -> Result<(), Memory>
+    ensures { OnOk result ((draws.new, follower_of follower.new) ≡ erases draws.old (follower_of follower.old)) }
+{
+    let document = document(alloc)?;
+    let count = count(alloc, follower, &document)?;
+    if count == 0 {
+        return type_drawn(alloc, draws, follower, document, count);
     }
+    let place = draws.below(count);
+    erase_letter(alloc, follower, document, place)
 }
 
 // All users are added.
@@ -136,7 +210,7 @@ fn additions(alloc: Global) -> Result<Ops, Memory>
     }
 }
 
-/// The follower's user adds all users.
+/// All users are added.
 pub(crate) fn invite(alloc: Global, follower: &mut Follower) -> Result<(), Memory>
     ensures { OnOk result (follower_of follower.new ≡ invited (follower_of follower.old)) }
 {

@@ -1,9 +1,13 @@
 // What passes between a follower and the host.
-ghost use Rattle.std.specs.Prelude.{◌≡◌, ◌≤◌, ◌-◌, length, drop, Ok, IfErr, IfOk, OnOk};
+ghost use Rattle.std.specs.Prelude.{◌≡◌, ◌≤◌, ◌-◌, length, drop, Ok, IfOk, OnOk};
 ghost use Rattle.delta_history.specs.Places.{started_below, IsRisingFrom};
+ghost use Rattle.delta_history.specs.Verdicts.{judge};
+ghost use Rattle.node_rules.specs.Followers.{refuse};
+ghost use Rattle.node_rules.specs.Submitting.{submit};
 ghost use Rattle.wave_world.specs.Worlds.{take_answer};
 ghost use Rattle.client_control.specs.Parts.{follower_of};
-ghost use Rattle.load_script.specs.Exchanges.{lacking, received, caught_up};
+ghost use Rattle.load_script.specs.Exchanges.{meeting, lacking, received, caught_up, answered, submitted, exchanged, settling};
+ghost use Rattle.load_script.specs.Names.{the_wavelet};
 
 use crate::host::Host;
 use client_control::{Follower, FollowerFault};
@@ -33,7 +37,8 @@ fn lacking(host: &Host, version: u64) -> &[AppliedDelta]
     ensures { result.now ≡ lacking host.now version }
 {
     let deltas = host.deltas();
-    &deltas[started_below(deltas, version)..]
+    let place = started_below(deltas, version);
+    &deltas[place..]
 }
 
 // The follower receives deltas in turn.
@@ -41,7 +46,7 @@ fn receive(alloc: Global, follower: &mut Follower, deltas: &[AppliedDelta]) -> R
     ensures { OnOk result (follower_of follower.new ≡ received (follower_of follower.old) deltas.now) }
 {
     for delta in deltas {
-        follower.receive_update(alloc, delta)?;
+        let _received = follower.receive_update(alloc, delta)?;
     }
     Ok(())
 }
@@ -59,38 +64,64 @@ fn take_answer(follower: &mut Follower, id: &DeltaId, verdict: Verdict)
     ensures { follower_of follower.new ≡ take_answer (follower_of follower.old) (record { id = id.now; verdict = verdict }) }
 {
     match verdict {
-        Verdict::Ack { .. } => {}
-        _ => {
-            let _was_mine = follower.receive_refusal(id);
-        }
+        Verdict::Ack { .. } => (),
+        Verdict::NotParticipant => refuse(follower, id),
+        Verdict::ReadOnly => refuse(follower, id),
+        Verdict::UnknownVersion { .. } => refuse(follower, id),
+        Verdict::WrongHash { .. } => refuse(follower, id),
+        Verdict::Invalid { .. } => refuse(follower, id),
+        Verdict::Full { .. } => refuse(follower, id),
     }
 }
 
+// The submission of an id was refused.
+fn refuse(follower: &mut Follower, id: &DeltaId)
+    ensures { follower_of follower.new ≡ (refuse (follower_of follower.old) id.now).1 }
+{
+    let _mine = follower.receive_refusal(id);
+}
+
 // The submission is judged at the time, and the follower takes the verdict.
-fn submit(
+fn answer(
     alloc: Global,
     host: &mut Host,
     follower: &mut Follower,
     submission: &Submission,
     time: u64,
-) -> Result<(), Memory> {
+) -> Result<(), Memory>
+    ensures { OnOk result (meeting host.new (follower_of follower.new) ≡ answered host.old (follower_of follower.old) submission.now (judge the_wavelet host.old submission.now time)) }
+{
     let verdict = host.submit(alloc, submission, time)?;
     take_answer(follower, &submission.id, verdict);
     Ok(())
 }
 
-// What waits is submitted, if a submission can be taken of it.
-fn submit_pending(
+// What waits is submitted at the time, if a submission can be taken of it.
+fn submit(
     alloc: Global,
     host: &mut Host,
     follower: &mut Follower,
     time: u64,
-) -> Result<(), Memory> {
+) -> Result<(), Memory>
+    ensures { OnOk result (meeting host.new (follower_of follower.new) ≡ submitted time (meeting host.old (follower_of follower.old)) (submit (follower_of follower.old))) }
+{
     match follower.take_submission(alloc) {
-        Ok(Some(submission)) => submit(alloc, host, follower, &submission, time),
+        Ok(Some(submission)) => answer(alloc, host, follower, &submission, time),
         Ok(None) => Ok(()),
         Err(FollowerFault::Memory) => Err(AllocError),
-        Err(_) => {
+        Err(FollowerFault::TooBig) => {
+            follower.drop_pending();
+            Ok(())
+        }
+        Err(FollowerFault::NumbersSpent) => {
+            follower.drop_pending();
+            Ok(())
+        }
+        Err(FollowerFault::OpInvalid(_)) => {
+            follower.drop_pending();
+            Ok(())
+        }
+        Err(FollowerFault::EditFull) => {
             follower.drop_pending();
             Ok(())
         }
@@ -103,8 +134,10 @@ pub(crate) fn exchange(
     host: &mut Host,
     follower: &mut Follower,
     time: u64,
-) -> Result<(), Memory> {
-    submit_pending(alloc, host, follower, time)?;
+) -> Result<(), Memory>
+    ensures { OnOk result (meeting host.new (follower_of follower.new) ≡ exchanged time (meeting host.old (follower_of follower.old))) }
+{
+    submit(alloc, host, follower, time)?;
     catch_up(alloc, host, follower)
 }
 
@@ -115,7 +148,9 @@ pub(crate) fn settle(
     follower: &mut Follower,
     time: u64,
     rounds: u64,
-) -> Result<(), Memory> {
+) -> Result<(), Memory>
+    ensures { OnOk result (meeting host.new (follower_of follower.new) ≡ settling time rounds (meeting host.old (follower_of follower.old))) }
+{
     for _ in 0..rounds {
         if follower.is_settled() {
             return Ok(());

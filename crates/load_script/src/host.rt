@@ -5,8 +5,9 @@ ghost use Rattle.delta_history.specs.Points.{end_of};
 ghost use Rattle.delta_history.specs.Verdicts.{judge};
 ghost use Rattle.wavelet_op.specs.States.{document_of};
 ghost use Rattle.wave_world.specs.Worlds.{grown};
-ghost use Rattle.load_script.specs.Names.{wavelet};
+ghost use Rattle.load_script.specs.Names.{the_wavelet};
 
+use crate::length::length;
 use crate::names::wavelet;
 use disk_model::MemoryDisk;
 use doc_items::Memory;
@@ -28,7 +29,7 @@ impl Model for Host {
     ghost use Rattle.wavelet_op.specs.Deltas.{DeltaOf};
     ghost use Rattle.wavelet_op.specs.contracts.delta.AppliedDelta as delta_row;
     ghost use Rattle.wavelet_container.specs.Containers.{history_of, journal_of};
-    ghost use Rattle.load_script.specs.Names.{wavelet};
+    ghost use Rattle.load_script.specs.Names.{the_wavelet};
 
     ghost Value = { List DeltaOf };
 
@@ -36,7 +37,7 @@ impl Model for Host {
 
     ghost view = { λ h. (history_of h.container).deltas };
 
-    ghost invariant = { λ h. record { name : (history_of h.container).name ≡ wavelet; plain : journal_of h.container ≡ None } };
+    ghost invariant = { λ h. record { name : (history_of h.container).name ≡ the_wavelet; plain : journal_of h.container ≡ None } };
 }
 
 impl Host {
@@ -53,26 +54,23 @@ impl Host {
     /// The deltas, in order.
     pub fn deltas(&self) -> &[AppliedDelta]
         ensures value { result.now ≡ self.now }
-        ensures legal { IsLegal wavelet self.now }
+        ensures legal { IsLegal the_wavelet self.now }
     {
         self.container.history().deltas()
     }
 
     /// The hashed version at the head.
     pub fn head(&self) -> HashedVersion
-        ensures { result ≡ (end_of wavelet self.now).at }
+        ensures { result ≡ (end_of the_wavelet self.now).at }
     {
         self.container.history().head()
     }
 
     /// The number of items of a document at the head.
     pub fn items(&self, document: &DocumentName) -> u64
-        ensures { result ≡ length (document_of (end_of wavelet self.now).state document.now) }
+        ensures { result ≡ length (document_of (end_of the_wavelet self.now).state document.now) }
     {
-        match self.container.history().state().rope(document) {
-            Some(rope) => rope.len(),
-            None => 0,
-        }
+        length(self.container.history().state(), document)
     }
 
     /// The verdict on a submission at the time; the delta that is accepted is behind the others then.
@@ -82,8 +80,8 @@ impl Host {
         submission: &Submission,
         time: u64,
     ) -> Result<Verdict, Memory>
-        ensures verdict { IfOk result (λ v. v ≡ (judge wavelet self.old submission.now time).0) }
-        ensures grown { OnOk result (self.new ≡ grown self.old (judge wavelet self.old submission.now time).1) }
+        ensures verdict { IfOk result (λ v. v ≡ (judge the_wavelet self.old submission.now time).0) }
+        ensures grown { OnOk result (self.new ≡ grown self.old (judge the_wavelet self.old submission.now time).1) }
     {
         match self.container.submit(alloc, submission, time) {
             Ok(verdict) => Ok(verdict),

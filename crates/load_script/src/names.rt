@@ -1,7 +1,7 @@
 // The names of a load.
 ghost use Rattle.std.specs.Prelude.{◌≡◌, true, IfOk};
 ghost use Rattle.wave_base.specs.Grammar.{is_address, is_id, is_wavelet_name};
-ghost use Rattle.load_script.specs.Names.{wavelet, document, user0, user1, user2, user3};
+ghost use Rattle.load_script.specs.Names.{the_wavelet, the_document, user0, user1, user2, user3};
 
 use doc_items::Memory;
 use std::alloc::{AllocError, Global};
@@ -45,14 +45,14 @@ fn parsed_document(alloc: Global, text: &str) -> Result<DocumentName, Memory>
 
 /// The name of the wavelet.
 pub(crate) fn wavelet(alloc: Global) -> Result<WaveletName, Memory>
-    ensures { IfOk result (λ n. n ≡ wavelet) }
+    ensures { IfOk result (λ n. n ≡ the_wavelet) }
 {
     parsed_wavelet(alloc, "load.com/w/load.com/conv+root")
 }
 
 /// The name of the document.
 pub(crate) fn document(alloc: Global) -> Result<DocumentName, Memory>
-    ensures { IfOk result (λ n. n ≡ document) }
+    ensures { IfOk result (λ n. n ≡ the_document) }
 {
     parsed_document(alloc, "b+1")
 }

@@ -1,13 +1,20 @@
 // The host and the followers, as the load moves them.
-ghost use Rattle.std.specs.Prelude.{◌<◌};
+ghost use Rattle.std.specs.Prelude.{◌≡◌, ◌+◌, ◌<◌, ◌∷◌, [], map, IfOk, OnOk};
+ghost use Rattle.doc_items.specs.Maps.{Key};
+ghost use Rattle.node_rules.specs.Followers.{new_follower};
+ghost use Rattle.client_control.specs.Parts.{follower_of};
+ghost use Rattle.load_script.specs.Exchanges.{meeting, caught_up};
+ghost use Rattle.load_script.specs.Loads.{client, first, edited, founding, on, all_level, founded, turned, step, settles, all_settle, summary};
+ghost use Rattle.load_script.specs.Names.{the_wavelet, users};
+ghost use Rattle.load_script.specs.Scripts.{load_of};
 
+use crate::Summary;
 use crate::choice::Choice;
 use crate::draws::Draws;
-use crate::editing::{erase_letter, invite, measure, type_letter};
+use crate::editing::{erase_one, invite, type_one};
 use crate::exchange::{catch_up, exchange, settle};
 use crate::host::Host;
 use crate::names::{document, user0, user1, user2, user3, wavelet};
-use crate::Summary;
 use client_control::Follower;
 use doc_items::Memory;
 use std::alloc::Global;
@@ -22,11 +29,17 @@ pub(crate) struct Script {
 }
 
 // A user's follower, at the start of the history.
-fn follower(alloc: Global, user: Address) -> Result<Follower, Memory> {
-    Ok(Follower::new(alloc, wavelet(alloc)?, user, 1))
+fn follower(alloc: Global, user: Address) -> Result<Follower, Memory>
+    ensures { IfOk result (λ f. follower_of f ≡ new_follower the_wavelet (client user)) }
+{
+    let name = wavelet(alloc)?;
+    Ok(Follower::new(alloc, name, user, 1))
 }
 
-fn followers(alloc: Global) -> Result<Vec<Follower>, Memory> {
+// The users' followers.
+fn followers(alloc: Global) -> Result<Vec<Follower>, Memory>
+    ensures { IfOk result (λ v. map follower_of v.items ≡ map (λ (u : Key). new_follower the_wavelet (client u)) users) }
+{
     let mut all = Vec::with_capacity(alloc, 4)?;
     all.push(follower(alloc, user0(alloc)?)?)?;
     all.push(follower(alloc, user1(alloc)?)?)?;
@@ -35,45 +48,47 @@ fn followers(alloc: Global) -> Result<Vec<Follower>, Memory> {
     Ok(all)
 }
 
-// A letter is typed at a place; both are drawn.
-fn type_drawn(alloc: Global, draws: &mut Draws, follower: &mut Follower, length: u64) -> Result<(), Memory> {
-    let place = draws.below(length + 1);
-    let letter = draws.below(26);
-    type_letter(alloc, follower, place, letter)
+// User 0 adds all users, and submits it.
+fn found(alloc: Global, host: &mut Host, follower: &mut Follower) -> Result<(), Memory>
+    ensures { OnOk result (meeting host.new (follower_of follower.new) ≡ founding (meeting host.old (follower_of follower.old))) }
+{
+    invite(alloc, follower)?;
+    exchange(alloc, host, follower, 0)
 }
 
-// The item at a place that is drawn is erased; where there is none, a letter is typed.
-fn erase_drawn(alloc: Global, draws: &mut Draws, follower: &mut Follower, length: u64) -> Result<(), Memory> {
-    if length == 0 {
-        return type_drawn(alloc, draws, follower, length);
-    }
-    let place = draws.below(length);
-    erase_letter(alloc, follower, place)
-}
-
+// What a follower does at the time.
 fn turn(
     alloc: Global,
     draws: &mut Draws,
     host: &mut Host,
     follower: &mut Follower,
     time: u64,
-) -> Result<(), Memory> {
-    match Choice::of(draws.below(4)) {
-        Choice::Types => {
-            let length = measure(alloc, follower)?;
-            type_drawn(alloc, draws, follower, length)
-        }
-        Choice::Erases => {
-            let length = measure(alloc, follower)?;
-            erase_drawn(alloc, draws, follower, length)
-        }
+    choice: Choice,
+) -> Result<(), Memory>
+    ensures { OnOk result ((draws.new, meeting host.new (follower_of follower.new)) ≡ turned time choice draws.old (meeting host.old (follower_of follower.old))) }
+{
+    match choice {
+        Choice::Types => type_one(alloc, draws, follower),
+        Choice::Erases => erase_one(alloc, draws, follower),
         Choice::Exchanges => exchange(alloc, host, follower, time),
     }
 }
 
+// Each follower catches up.
+fn level(alloc: Global, host: &Host, followers: &mut [Follower]) -> Result<(), Memory>
+    ensures { OnOk result (map follower_of followers.new ≡ map (caught_up host.now) (map follower_of followers.old)) }
+{
+    for follower in followers {
+        catch_up(alloc, host, follower)?;
+    }
+    Ok(())
+}
+
 impl Script {
     /// As the load of this number begins.
-    pub fn new(alloc: Global, count: u64) -> Result<Script, Memory> {
+    pub fn new(alloc: Global, count: u64) -> Result<Script, Memory>
+        ensures { IfOk result (λ s. load_of s ≡ first count) }
+    {
         let host = Host::new(alloc)?;
         let followers = followers(alloc)?;
         Ok(Script {
@@ -83,28 +98,59 @@ impl Script {
         })
     }
 
-    /// User 0 adds all users, and each follower receives it.
-    pub fn found(&mut self, alloc: Global) -> Result<(), Memory> {
-        if let Some(follower) = self.followers.get_mut(0) {
-            invite(alloc, follower)?;
-            exchange(alloc, &mut self.host, follower, 0)?;
+    // The follower of user 0 founds the wavelet.
+    fn found_first(&mut self, alloc: Global) -> Result<(), Memory>
+        ensures { OnOk result (load_of self.new ≡ on 0 founding (load_of self.old)) }
+    {
+        match self.followers.get_mut(0) {
+            Some(follower) => found(alloc, &mut self.host, follower),
+            None => Ok(()),
         }
-        self.level(alloc)
+    }
+
+    // The follower at a place exchanges until it is settled.
+    fn settle_one(&mut self, alloc: Global, count: u64, who: usize) -> Result<(), Memory>
+        requires { count < 1000000 }
+        ensures { OnOk result (load_of self.new ≡ on who (settles count) (load_of self.old)) }
+    {
+        match self.followers.get_mut(who) {
+            Some(follower) => settle(alloc, &mut self.host, follower, count + 1, count + 1),
+            None => Ok(()),
+        }
     }
 
     /// Each follower receives all that it lacks.
-    pub fn level(&mut self, alloc: Global) -> Result<(), Memory> {
-        for follower in &mut self.followers {
-            catch_up(alloc, &self.host, follower)?;
-        }
-        Ok(())
+    pub fn level(&mut self, alloc: Global) -> Result<(), Memory>
+        ensures { OnOk result (load_of self.new ≡ all_level (load_of self.old)) }
+    {
+        level(alloc, &self.host, self.followers.as_mut_slice())
+    }
+
+    /// The load behind its founding.
+    pub fn founded(alloc: Global, count: u64) -> Result<Script, Memory>
+        ensures { IfOk result (λ s. load_of s ≡ founded count) }
+    {
+        let mut script = Script::new(alloc, count)?;
+        script.found_first(alloc)?;
+        script.level(alloc)?;
+        Ok(script)
     }
 
     /// The turn of a follower that is drawn.
-    pub fn step(&mut self, alloc: Global, time: u64) -> Result<(), Memory> {
+    pub fn step(&mut self, alloc: Global, time: u64) -> Result<(), Memory>
+        ensures { OnOk result (load_of self.new ≡ step time (load_of self.old)) }
+    {
         let who = self.draws.below(4) as usize;
+        let choice = Choice::of(self.draws.below(4));
         match self.followers.get_mut(who) {
-            Some(follower) => turn(alloc, &mut self.draws, &mut self.host, follower, time),
+            Some(follower) => turn(
+                alloc,
+                &mut self.draws,
+                &mut self.host,
+                follower,
+                time,
+                choice,
+            ),
             None => Ok(()),
         }
     }
@@ -112,17 +158,18 @@ impl Script {
     /// The followers exchange, in order, until each is settled.
     pub fn settle(&mut self, alloc: Global, count: u64) -> Result<(), Memory>
         requires { count < 1000000 }
+        ensures { OnOk result (load_of self.new ≡ all_settle count (load_of self.old)) }
     {
-        for who in 0..4usize {
-            if let Some(follower) = self.followers.get_mut(who) {
-                settle(alloc, &mut self.host, follower, count + 1, count + 1)?;
-            }
-        }
-        Ok(())
+        self.settle_one(alloc, count, 0)?;
+        self.settle_one(alloc, count, 1)?;
+        self.settle_one(alloc, count, 2)?;
+        self.settle_one(alloc, count, 3)
     }
 
-    /// What it came to.
-    pub fn summary(&self, alloc: Global) -> Result<Summary, Memory> {
+    /// What the load came to.
+    pub fn summary(&self, alloc: Global) -> Result<Summary, Memory>
+        ensures { IfOk result (λ s. s ≡ summary (load_of self.now)) }
+    {
         let document = document(alloc)?;
         let head = self.host.head();
         Ok(Summary {

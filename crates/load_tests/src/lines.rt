@@ -3,10 +3,11 @@ use load_script::{run_load, summary_line};
 use std::alloc::Global;
 use std::test::Fail;
 
-const LINES: [(u64, &str); 3] = [
+const LINES: [(u64, &str); 4] = [
     (0, "load 0 version 4 items 0 hash 0Eet6cMWJJZxvsVtdBSJZAsPG2XNNTJGkd7elSmspks=\n"),
     (1, "load 1 version 5 items 1 hash RZ2GM7AaTXZrTiHJfj8lEY8D9mqypic7sZlT8m8gD2w=\n"),
     (100, "load 100 version 28 items 24 hash MXS27U7X+VYh0/NZ2WXG26OMCQrp9u7uoj+C9rN63JM=\n"),
+    (2000, "load 2000 version 371 items 607 hash NmakAC+wJBhKhHeK3EqFpOrVFd8D+bQ8bApOUo+upR4=\n"),
 ];
 
 fn line(alloc: Global, count: u64) -> Result<String, Fail> {
