@@ -3,7 +3,7 @@
 --     first n            as it begins
 --     moved who g l      what g makes of the draws and of the meeting of the follower at a place with the host
 --     on who g l         so, where nothing is drawn
---     all_level l        each follower has caught up
+--     each g l           so for each follower, in order
 --     founded n          user 0 has added all users
 --     turned i choice x c    what a follower does at the time i
 --     step i l           a turn of a follower that is drawn
@@ -20,7 +20,7 @@ use Rattle.delta_history.specs.Points.{Point, end_of}
 use Rattle.node_rules.specs.Followers.{ClientOf, FollowerOf, new_follower, screen}
 use Rattle.load_script.specs.Draws.{next, drawn}
 use Rattle.load_script.specs.Edits.{types, erases, invited}
-use Rattle.load_script.specs.Exchanges.{Meeting, meeting, caught_up, exchanged, settling}
+use Rattle.load_script.specs.Exchanges.{Meeting, meeting, level, exchanged, settling}
 use Rattle.load_script.specs.Names.{the_wavelet, the_document, users}
 use Rattle.load_script.specs.declared.choice.Choice.{Choice}
 use Rattle.load_script.specs.declared.choice.Choice.TheVariants.{Types, Erases, Exchanges}
@@ -49,14 +49,14 @@ moved who g l = placed l who (option_map (λ f. g (meeting l.host f)) (slice_get
 abbrev pub on : ℕ → (Meeting → Meeting) → Load → Load
 on who g l = moved who (λ c. (l.draws, g c)) l
 
-unfoldable pub all_level : Load → Load
-all_level l = record { draws = l.draws; host = l.host; followers = map (caught_up l.host) l.followers }
+unfoldable pub each : (Meeting → Meeting) → Load → Load
+each g l = on 3 g (on 2 g (on 1 g (on 0 g l)))
 
 abbrev pub founding : Meeting → Meeting
 founding c = exchanged 0 (meeting c.host (invited c.follower))
 
 unfoldable pub founded : ℕ → Load
-founded n = all_level (on 0 founding (first n))
+founded n = each level (on 0 founding (first n))
 
 -- ---- turns
 
@@ -90,11 +90,8 @@ steps (suc n) l = step (suc n) (steps n l)
 abbrev pub settles : ℕ → Meeting → Meeting
 settles n = settling (suc n) (suc n)
 
-unfoldable pub all_settle : ℕ → Load → Load
-all_settle n l = on 3 (settles n) (on 2 (settles n) (on 1 (settles n) (on 0 (settles n) l)))
-
 unfoldable pub loaded : ℕ → Load
-loaded n = all_level (all_settle n (steps n (founded n)))
+loaded n = each level (each (settles n) (steps n (founded n)))
 
 abbrev pub head : Load → Point
 head l = end_of the_wavelet l.host

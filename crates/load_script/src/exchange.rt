@@ -24,7 +24,8 @@ fn started_below(deltas: &[AppliedDelta], version: u64) -> usize
 {
     let mut place = deltas.len();
     while place > 0 {
-        if deltas[place - 1].from.version < version {
+        let last = &deltas[place - 1];
+        if last.from.version < version {
             return place;
         }
         place -= 1;

@@ -3,8 +3,8 @@ ghost use Rattle.std.specs.Prelude.{◌≡◌, ◌+◌, ◌<◌, ◌∷◌, [], 
 ghost use Rattle.doc_items.specs.Maps.{Key};
 ghost use Rattle.node_rules.specs.Followers.{new_follower};
 ghost use Rattle.client_control.specs.Parts.{follower_of};
-ghost use Rattle.load_script.specs.Exchanges.{meeting, caught_up};
-ghost use Rattle.load_script.specs.Loads.{client, first, edited, founding, on, all_level, founded, turned, step, settles, all_settle, summary};
+ghost use Rattle.load_script.specs.Exchanges.{meeting, level};
+ghost use Rattle.load_script.specs.Loads.{client, first, edited, founding, on, each, founded, turned, step, settles, summary};
 ghost use Rattle.load_script.specs.Names.{the_wavelet, users};
 ghost use Rattle.load_script.specs.Scripts.{load_of};
 
@@ -74,16 +74,6 @@ fn turn(
     }
 }
 
-// Each follower catches up.
-fn level(alloc: Global, host: &Host, followers: &mut [Follower]) -> Result<(), Memory>
-    ensures { OnOk result (map follower_of followers.new ≡ map (caught_up host.now) (map follower_of followers.old)) }
-{
-    for follower in followers {
-        catch_up(alloc, host, follower)?;
-    }
-    Ok(())
-}
-
 impl Script {
     /// As the load of this number begins.
     pub fn new(alloc: Global, count: u64) -> Result<Script, Memory>
@@ -119,11 +109,24 @@ impl Script {
         }
     }
 
+    // The follower at a place catches up.
+    fn level_one(&mut self, alloc: Global, who: usize) -> Result<(), Memory>
+        ensures { OnOk result (load_of self.new ≡ on who level (load_of self.old)) }
+    {
+        match self.followers.get_mut(who) {
+            Some(follower) => catch_up(alloc, &self.host, follower),
+            None => Ok(()),
+        }
+    }
+
     /// Each follower receives all that it lacks.
     pub fn level(&mut self, alloc: Global) -> Result<(), Memory>
-        ensures { OnOk result (load_of self.new ≡ all_level (load_of self.old)) }
+        ensures { OnOk result (load_of self.new ≡ each level (load_of self.old)) }
     {
-        level(alloc, &self.host, self.followers.as_mut_slice())
+        self.level_one(alloc, 0)?;
+        self.level_one(alloc, 1)?;
+        self.level_one(alloc, 2)?;
+        self.level_one(alloc, 3)
     }
 
     /// The load behind its founding.
@@ -158,7 +161,7 @@ impl Script {
     /// The followers exchange, in order, until each is settled.
     pub fn settle(&mut self, alloc: Global, count: u64) -> Result<(), Memory>
         requires { count < 1000000 }
-        ensures { OnOk result (load_of self.new ≡ all_settle count (load_of self.old)) }
+        ensures { OnOk result (load_of self.new ≡ each (settles count) (load_of self.old)) }
     {
         self.settle_one(alloc, count, 0)?;
         self.settle_one(alloc, count, 1)?;
@@ -172,10 +175,11 @@ impl Script {
     {
         let document = document(alloc)?;
         let head = self.host.head();
+        let hash = head.hash;
         Ok(Summary {
             version: head.version,
             items: self.host.items(&document),
-            hash: head.hash,
+            hash,
         })
     }
 }
