@@ -5,3 +5,4 @@ pub mod Catching
 pub mod Exchanging
 pub mod Followers
 pub mod Loading
+pub mod Settling

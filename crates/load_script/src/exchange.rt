@@ -152,11 +152,13 @@ pub(crate) fn settle(
 ) -> Result<(), Memory>
     ensures { OnOk result (meeting host.new (follower_of follower.new) ≡ settling time rounds (meeting host.old (follower_of follower.old))) }
 {
-    for _ in 0..rounds {
+    let mut left = rounds;
+    while left > 0 {
         if follower.is_settled() {
             return Ok(());
         }
         exchange(alloc, host, follower, time)?;
+        left -= 1;
     }
     Ok(())
 }

@@ -24,7 +24,7 @@ pub(crate) struct Host {
 }
 
 impl Model for Host {
-    ghost use Rattle.std.specs.Prelude.{◌≡◌, List, None};
+    ghost use Rattle.std.specs.Prelude.{◌≡◌, List, true, is_none};
     ghost use Rattle.std.specs.Coded.{coded_list};
     ghost use Rattle.wavelet_op.specs.Deltas.{DeltaOf};
     ghost use Rattle.wavelet_op.specs.contracts.delta.AppliedDelta as delta_row;
@@ -37,7 +37,7 @@ impl Model for Host {
 
     ghost view = { λ h. (history_of h.container).deltas };
 
-    ghost invariant = { λ h. record { name : (history_of h.container).name ≡ the_wavelet; plain : journal_of h.container ≡ None } };
+    ghost invariant = { λ h. record { name : (history_of h.container).name ≡ the_wavelet; plain : is_none (journal_of h.container) ≡ true } };
 }
 
 impl Host {

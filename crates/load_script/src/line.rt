@@ -11,6 +11,8 @@ use std::alloc::Global;
 pub fn summary_line(alloc: Global, count: u64, summary: &Summary) -> Result<String, Memory>
     ensures { IfOk result (λ t. string_bytes t ≡ line count summary.now) }
 {
+    let version = summary.version;
+    let items = summary.items;
     let hash = STANDARD.encode(alloc, summary.hash.as_slice())?;
-    format!(in alloc; "load {} version {} items {} hash {}\n", count, summary.version, summary.items, hash)
+    format!(in alloc; "load {count} version {version} items {items} hash {hash}\n")
 }
