@@ -76,8 +76,10 @@ pub receive_leads : (name : Key) (w : World) (k : ClientOf) (f : FollowerOf) (ds
 receive_leads name w k f [] i p e m = stays name w k f i p e
 receive_leads name w k f (d ∷ ds) i p e m =
     let at = get_mem w.deltas d (p d (m d (inl refl))) in
-    let one = event_leads name w k (receive f d).1 (TakesDelta k at.0) (ap (λ o. to_follower w k (option_and_then (λ z. option_map (λ x. (receive z x).1) (slice_get w.deltas at.0)) o)) e ∙ ap (λ o. to_follower w k (option_map (λ x. (receive f x).1) o)) at.1) i p in
-    on_to name w k w.host w.host (receive f d).1 (received f (d ∷ ds)) one (receive_leads name one.after k (receive f d).1 ds one.good one.pooled one.is m)
+    let one : Leads name w k w.host (receive f d).1 = event_leads name w k (receive f d).1 (TakesDelta k at.0) (ap (λ o. to_follower w k (option_and_then (λ z. option_map (λ x. (receive z x).1) (slice_get w.deltas at.0)) o)) e ∙ ap (λ o. to_follower w k (option_map (λ x. (receive f x).1) o)) at.1) i p in
+    let there : (x : DeltaOf) → Mem x ds → Mem x one.after.host = λ x n. subst (λ h. Mem x h) (sym one.host) (m x (inr n)) in
+    let rest = receive_leads name one.after k (receive f d).1 ds one.good one.pooled one.is there in
+    on_to name w k w.host w.host (receive f d).1 (received f (d ∷ ds)) one (subst (λ h. Leads name one.after k h (received f (d ∷ ds))) one.host rest)
 
 -- ---- a submission
 

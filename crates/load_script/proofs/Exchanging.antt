@@ -188,10 +188,14 @@ none_pending f idle = ap (λ m. flying m ++ f.queue) idle.none ∙ go f.queue id
     go [] h = refl
     go (x ∷ q) h = absurd (omega (arith, h))
 
+-- so many exchanges settle each follower that is so idle
+abbrev Settles : ClientOf → ℕ → ℕ → ℕ → Type 0
+Settles k m n t = (w : World) (f : FollowerOf) → IsGood the_wavelet w → IsPooled w → w.followers k ≡ Some f → IsIdle m f → IsSettled w k (settling t n (meeting w.host f))
+
 pub settling_leads : (w : World) (k : ClientOf) (f : FollowerOf) (m n t : ℕ) → IsGood the_wavelet w → IsPooled w → w.followers k ≡ Some f → IsIdle m f → m ≤ n → IsSettled w k (settling t n (meeting w.host f))
 unfolding settling
 settling_leads w k f m zero t i p e idle l = record { leads = stays the_wavelet w k f i p e; none = none_pending f (record { none = idle.none; few = omega (arith, idle.few, l) }) }
-settling_leads w k f m (suc n) t i p e idle l = go (settled (pending f)) refl
+settling_leads w k f m (suc n) t i p e idle l = go (settled (pending f)) refl (λ v g j r q s. settling_leads v k g (m - 1) n t j r q s (omega (arith, l)))
   where
     x : IsExchanged w k (m - 1) (exchanged t (meeting w.host f))
     x = exchange_leads w k f m t i p e idle
@@ -199,13 +203,12 @@ settling_leads w k f m (suc n) t i p e idle l = go (settled (pending f)) refl
     c : Meeting
     c = exchanged t (meeting w.host f)
 
-    again : IsSettled w k (settling t n c)
-    again =
+    again : Settles k (m - 1) n t → IsSettled w k (settling t n c)
+    again rest =
         let a = x.leads in
-        let rest = settling_leads a.after k c.follower (m - 1) n t a.good a.pooled a.is x.idle (omega (arith, l)) in
-        let s : IsSettled a.after k (settling t n c) = subst (λ h. IsSettled a.after k (settling t n (meeting h c.follower))) a.host rest in
+        let s : IsSettled a.after k (settling t n c) = subst (λ h. IsSettled a.after k (settling t n (meeting h c.follower))) a.host (rest a.after c.follower a.good a.pooled a.is x.idle) in
         record { leads = on_to the_wavelet w k c.host (settling t n c).host c.follower (settling t n c).follower a s.leads; none = s.none }
 
-    go : (b : Bool) → settled (pending f) ≡ b → IsSettled w k (cond b (meeting w.host f) (settling t n c))
-    go true q = record { leads = stays the_wavelet w k f i p e; none = settled_is (pending f) q }
-    go false q = again
+    go : (b : Bool) → settled (pending f) ≡ b → Settles k (m - 1) n t → IsSettled w k (cond b (meeting w.host f) (settling t n c))
+    go true q rest = record { leads = stays the_wavelet w k f i p e; none = settled_is (pending f) q }
+    go false q rest = again rest

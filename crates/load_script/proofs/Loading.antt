@@ -136,6 +136,10 @@ first_host : first_world.host ≡ []
 unfolding first_world user0 user1 user2 user3
 first_host = refl
 
+first_good : IsGood the_wavelet first_world
+unfolding first_world
+first_good = good the_wavelet starts
+
 user_of : (i : ℕ) (f : FollowerOf) → slice_get (map (λ (u : Key). new_follower the_wavelet (client u)) users) i ≡ Some f → (u : Key) × (slice_get users i ≡ Some u) × (new_follower the_wavelet (client u) ≡ f)
 user_of zero f e = (user0, refl, same_Some e)
 user_of (suc zero) f e = (user1, refl, same_Some e)
@@ -146,17 +150,13 @@ user_of (suc (suc (suc (suc i)))) f e = no_value e
 first_held : (n : ℕ) → IsHeld Any (λ k. IsIdle 0) (first n)
 first_held n = record {
   world = first_world;
-  good = is_good;
+  good = first_good;
   pooled = λ d m. absurd (subst (λ z. Mem d z) first_host m);
   host = first_host;
   kept = tt;
   followers = λ i f e. (let u = user_of i f e in
       (record { user = u.0; is_user = u.1; has = first_of i u.0 u.1 ∙ ap Some u.2 }, subst (IsIdle 0) u.2 (record { none = refl; few = omega arith })));
 }
-  where
-    is_good : IsGood the_wavelet first_world
-    unfolding first_world
-    is_good = good the_wavelet starts
 
 founding_moves : Moves Any (IsIdle 0) (IsIdle 0) founding
 unfolding invited
