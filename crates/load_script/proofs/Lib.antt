@@ -6,3 +6,5 @@ pub mod Exchanging
 pub mod Followers
 pub mod Loading
 pub mod Settling
+pub mod Erasures
+pub mod Letters

@@ -27,6 +27,7 @@ impl Draws {
     }
 
     /// Draws a number below the bound.
+    #[tactic(auto, unfolding(crate::specs::Draws::drawn))]
     pub fn below(&mut self, bound: u64) -> u64
         requires { 0 < bound }
         ensures value { result ≡ drawn bound self.old }
