@@ -8,3 +8,4 @@ pub mod Loading
 pub mod Settling
 pub mod Erasures
 pub mod Letters
+pub mod Stepping

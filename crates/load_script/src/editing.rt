@@ -19,6 +19,7 @@ use wave_base::DocumentName;
 use wavelet_op::{Ops, WaveletOp};
 
 // The operations are behind what is pending, unless they are refused.
+#[tactic(auto, unfolding(crate::specs::Edits::changed))]
 fn change(alloc: Global, follower: &mut Follower, ops: Ops) -> Result<(), Memory>
     ensures { OnOk result (follower_of follower.new ≡ changed (follower_of follower.old) (meanings ops)) }
 {
@@ -59,6 +60,7 @@ fn mutate(
 }
 
 // The number of items of the document on the screen, which is kept then.
+#[tactic(auto, using(crate::proofs::Screens::letters_are))]
 fn count(alloc: Global, follower: &mut Follower, document: &DocumentName) -> Result<u64, Memory>
     requires { document.now ≡ the_document }
     ensures value { IfOk result (λ n. n ≡ length (letters (follower_of follower.old))) }
@@ -75,6 +77,7 @@ fn count(alloc: Global, follower: &mut Follower, document: &DocumentName) -> Res
 }
 
 // The operation that types the n-th letter at a place of the screen.
+#[tactic(auto, using(crate::proofs::Screens::letters_are, crate::proofs::Screens::letters_fit))]
 fn typing_on(
     alloc: Global,
     follower: &Follower,
@@ -97,6 +100,7 @@ fn typing_on(
 }
 
 // The operation that erases the item at a place of the screen; None where it is no character.
+#[tactic(auto, using(crate::proofs::Screens::letters_are))]
 fn erasing_on(
     alloc: Global,
     follower: &Follower,
@@ -149,6 +153,7 @@ fn erase_letter(
 }
 
 // A letter is typed at a place of the document, which has so many items; both are drawn.
+#[tactic(auto, unfolding(crate::specs::Edits::types))]
 fn type_drawn(
     alloc: Global,
     draws: &mut Draws,
@@ -179,6 +184,7 @@ pub(crate) fn type_one(
 }
 
 /// The item at a place that is drawn is erased; where there is none, a letter is typed.
+#[tactic(auto, unfolding(crate::specs::Edits::erases, crate::specs::Edits::types))]
 pub(crate) fn erase_one(
     alloc: Global,
     draws: &mut Draws,
@@ -211,6 +217,7 @@ fn additions(alloc: Global) -> Result<Ops, Memory>
 }
 
 /// All users are added.
+#[tactic(auto, unfolding(crate::specs::Edits::invited))]
 pub(crate) fn invite(alloc: Global, follower: &mut Follower) -> Result<(), Memory>
     ensures { OnOk result (follower_of follower.new ≡ invited (follower_of follower.old)) }
 {

@@ -1,5 +1,5 @@
 // What passes between a follower and the host.
-ghost use Rattle.std.specs.Prelude.{◌≡◌, ◌≤◌, ◌-◌, length, drop, Ok, IfOk, OnOk};
+ghost use Rattle.std.specs.Prelude.{◌≡◌, ◌≤◌, nat_lt, length, IfOk, OnOk};
 ghost use Rattle.delta_history.specs.Places.{started_below, IsRisingFrom};
 ghost use Rattle.delta_history.specs.Verdicts.{judge};
 ghost use Rattle.node_rules.specs.Followers.{refuse};
@@ -16,6 +16,13 @@ use std::alloc::{AllocError, Global};
 use wave_base::DeltaId;
 use wavelet_op::{AppliedDelta, Submission, Verdict};
 
+// Whether a delta starts below a version.
+fn starts_below(delta: &AppliedDelta, version: u64) -> bool
+    ensures { result ≡ nat_lt delta.now.from.version version }
+{
+    delta.from.version < version
+}
+
 // How many of the deltas start below a version. The walk is from the end, since few don't.
 fn started_below(deltas: &[AppliedDelta], version: u64) -> usize
     requires { IsRisingFrom 0 deltas.now }
@@ -24,8 +31,7 @@ fn started_below(deltas: &[AppliedDelta], version: u64) -> usize
 {
     let mut place = deltas.len();
     while place > 0 {
-        let last = &deltas[place - 1];
-        if last.from.version < version {
+        if starts_below(&deltas[place - 1], version) {
             return place;
         }
         place -= 1;
@@ -34,6 +40,7 @@ fn started_below(deltas: &[AppliedDelta], version: u64) -> usize
 }
 
 // The deltas from a version on.
+#[tactic(auto, using(delta_history::proofs::Finding::rising))]
 fn lacking(host: &Host, version: u64) -> &[AppliedDelta]
     ensures { result.now ≡ lacking host.now version }
 {
@@ -53,6 +60,7 @@ fn receive(alloc: Global, follower: &mut Follower, deltas: &[AppliedDelta]) -> R
 }
 
 /// The follower receives every delta from its version on, in order.
+#[tactic(auto, unfolding(crate::specs::Exchanges::caught_up))]
 pub(crate) fn catch_up(alloc: Global, host: &Host, follower: &mut Follower) -> Result<(), Memory>
     ensures { OnOk result (follower_of follower.new ≡ caught_up host.now (follower_of follower.old)) }
 {
@@ -130,6 +138,7 @@ fn submit(
 }
 
 /// What waits is submitted at the time, and the follower catches up.
+#[tactic(auto, unfolding(crate::specs::Exchanges::exchanged))]
 pub(crate) fn exchange(
     alloc: Global,
     host: &mut Host,

@@ -10,6 +10,7 @@ use doc_items::Memory;
 use std::alloc::Global;
 
 // The steps from 1 to the number.
+#[tactic(auto, using(crate::proofs::Stepping::steps_none, crate::proofs::Stepping::steps_more))]
 fn run(alloc: Global, script: &mut Script, count: u64) -> Result<(), Memory>
     requires { count ≤ 100000 }
     ensures { OnOk result (load_of script.new ≡ steps count (load_of script.old)) }
@@ -24,6 +25,7 @@ fn run(alloc: Global, script: &mut Script, count: u64) -> Result<(), Memory>
 /// steps a follower that is drawn types or erases a letter at a place that is drawn, or submits what it has and receives what it
 /// lacks. At the end the followers submit all that they have and receive all that they lack: then each one's screen is the host's
 /// state. The error is want of memory.
+#[tactic(auto, unfolding(crate::specs::Loads::loaded), using(crate::proofs::Loading::each_shows))]
 pub fn run_load(alloc: Global, count: u64) -> Result<Summary, Memory>
     requires { count ≤ 100000 }
     ensures summary { IfOk result (λ s. s ≡ summary (loaded count)) }

@@ -57,6 +57,7 @@ fn found(alloc: Global, host: &mut Host, follower: &mut Follower) -> Result<(), 
 }
 
 // What a follower does at the time.
+#[tactic(auto, unfolding(crate::specs::Loads::turned))]
 fn turn(
     alloc: Global,
     draws: &mut Draws,
@@ -120,6 +121,7 @@ impl Script {
     }
 
     /// Each follower receives all that it lacks.
+    #[tactic(auto, unfolding(crate::specs::Loads::each))]
     pub fn level(&mut self, alloc: Global) -> Result<(), Memory>
         ensures { OnOk result (load_of self.new ≡ each level (load_of self.old)) }
     {
@@ -130,6 +132,7 @@ impl Script {
     }
 
     /// The load behind its founding.
+    #[tactic(auto, unfolding(crate::specs::Loads::founded))]
     pub fn founded(alloc: Global, count: u64) -> Result<Script, Memory>
         ensures { IfOk result (λ s. load_of s ≡ founded count) }
     {
@@ -159,6 +162,7 @@ impl Script {
     }
 
     /// The followers exchange, in order, until each is settled.
+    #[tactic(auto, unfolding(crate::specs::Loads::each))]
     pub fn settle(&mut self, alloc: Global, count: u64) -> Result<(), Memory>
         requires { count < 1000000 }
         ensures { OnOk result (load_of self.new ≡ each (settles count) (load_of self.old)) }
@@ -170,6 +174,7 @@ impl Script {
     }
 
     /// What the load came to.
+    #[tactic(auto, unfolding(crate::specs::Loads::summary))]
     pub fn summary(&self, alloc: Global) -> Result<Summary, Memory>
         ensures { IfOk result (λ s. s ≡ summary (load_of self.now)) }
     {
