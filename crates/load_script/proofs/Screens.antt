@@ -1,9 +1,10 @@
 -- The document on a follower's screen.
---     letters_are        it is that of the screen
---     letters_fit        it has room for an item more
-use Rattle.std.proofs.Common.{◌≡◌, ℕ, ◌+◌, ◌<◌, ◌≤◌, List, [], ◌∷◌, length, Some, ap, subst, arith}
+--     letters_are                 it is that of the screen
+--     letters_fit, shown_fits     it has room for an item more
+use Rattle.std.proofs.Common.{◌≡◌, ℕ, ◌+◌, ◌<◌, ◌≤◌, List, [], ◌∷◌, length, Some, ap, sym, subst, ◌∙◌, arith}
 use Rattle.std.specs.Option.{option_map_or}
 use Rattle.doc_items.specs.Limits.{max_count}
+use Rattle.doc_items.specs.Maps.{Key}
 use Rattle.doc_op.proofs.Applying.{same_Some}
 use Rattle.wavelet_op.specs.Acts.{Act, inserted}
 use Rattle.wavelet_op.specs.States.{State, document_of, run}
@@ -31,3 +32,9 @@ letters_fit f s =
     let k = small_all f.here.count f.here.state s.shown (pending f) s.place.small s.is_shown the_document in
     let e : length (letters f) ≡ length (document_of s.shown the_document) = ap length (letters_are f s.shown s.is_shown) in
     omega (arith, k, e, s.place.count, s.held)
+
+pub shown_fits : (f : FollowerOf) (s : State) (d : Key) → IsSound f → screen f ≡ Some s → d ≡ the_document → length (document_of s d) < max_count
+shown_fits f s d sound e q =
+    let k = letters_fit f sound in
+    let same : length (letters f) ≡ length (document_of s d) = ap length (letters_are f s e ∙ ap (document_of s) (sym q)) in
+    omega (arith, k, same)

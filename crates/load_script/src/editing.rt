@@ -1,5 +1,6 @@
 // What a follower's user does to the document, with numbers that are drawn.
 ghost use Rattle.std.specs.Prelude.{◌≡◌, ◌<◌, ◌≤◌, ◌∷◌, [], length, map, slice_get, option_map, IfOk, OnOk};
+ghost use Rattle.doc_items.specs.Limits.{max_count};
 ghost use Rattle.doc_op.specs.Actions.{actions};
 ghost use Rattle.op_build.specs.Plans.{typing};
 ghost use Rattle.wavelet_op.specs.Acts.{Adds, meanings};
@@ -60,13 +61,16 @@ fn mutate(
 }
 
 // The number of items of the document on the screen, which is kept then.
-#[tactic(auto, using(crate::proofs::Screens::letters_are))]
+#[tactic(auto, using(crate::proofs::Screens::letters_are, crate::proofs::Screens::letters_fit))]
 fn count(alloc: Global, follower: &mut Follower, document: &DocumentName) -> Result<u64, Memory>
     requires { document.now ≡ the_document }
     ensures value { IfOk result (λ n. n ≡ length (letters (follower_of follower.old))) }
+    ensures bound { IfOk result (λ n. n < max_count) }
     ensures same { follower.new ≡ follower.old }
 {
     follower.keep_screen(alloc)?;
+    // What a follower shows has room for more items.
+    let _state = follower.state();
     match follower.shown() {
         Some(screen) => Ok(length(screen, document)),
         None => {
@@ -77,7 +81,7 @@ fn count(alloc: Global, follower: &mut Follower, document: &DocumentName) -> Res
 }
 
 // The operation that types the n-th letter at a place of the screen.
-#[tactic(auto, using(crate::proofs::Screens::letters_are, crate::proofs::Screens::letters_fit))]
+#[tactic(auto, using(crate::proofs::Screens::letters_are))]
 fn typing_on(
     alloc: Global,
     follower: &Follower,
@@ -88,6 +92,7 @@ fn typing_on(
     requires document { document.now ≡ the_document }
     requires number { number < 26 }
     requires place { place ≤ length (letters (follower_of follower.now)) }
+    requires room { length (letters (follower_of follower.now)) < max_count }
     ensures { IfOk result (λ op. actions op ≡ typing (letters (follower_of follower.now)) place (letter number ∷ [])) }
 {
     match follower.shown() {
@@ -130,6 +135,7 @@ fn type_letter(
     requires document { document ≡ the_document }
     requires number { number < 26 }
     requires place { place ≤ length (letters (follower_of follower.old)) }
+    requires room { length (letters (follower_of follower.old)) < max_count }
     ensures { OnOk result (follower_of follower.new ≡ typed (follower_of follower.old) place number) }
 {
     let op = typing_on(alloc, follower, &document, place, number)?;
@@ -163,6 +169,7 @@ fn type_drawn(
 ) -> Result<(), Memory>
     requires document { document ≡ the_document }
     requires count { count ≡ length (letters (follower_of follower.old)) }
+    requires room { count < max_count }
     ensures { OnOk result ((draws.new, follower_of follower.new) ≡ types draws.old (follower_of follower.old)) }
 {
     let place = draws.below(count + 1);
