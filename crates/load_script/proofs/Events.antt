@@ -96,15 +96,17 @@ answer_to s j = record { id = s.id; verdict = j.0 }
 
 pub submit_leads : (name : Key) (w : World) (k : ClientOf) (f g : FollowerOf) (s : Submission) (t : ℕ) → IsGood name w → IsPooled w → w.followers k ≡ Some f → submit f ≡ Ok (Some s, g)
     → Leads name w k (grown w.host (judge name w.host s t).1) (take_answer g (answer_to s (judge name w.host s t))) × IsJudged name w.host s (judge name w.host s t)
-submit_leads name w k f g s t i p e q =
-    (record {
-      after = last;
-      good = good3;
-      pooled = grown_pooled w.host w.deltas j.1 p;
-      host = refl;
-      is = ap (λ b. cond b (Some (take_answer g (answer_to s j))) (w1.followers k)) (same_client_is k k refl);
-      others = λ at n. ap (λ b. cond b (Some (take_answer g (answer_to s j))) (w1.followers at)) n ∙ ap (λ b. cond b (Some g) (w.followers at)) n;
-    }, judged_in name w1 s t good1 (inl refl))
+submit_leads name w k f g s t i p e q = (
+  record {
+    after = last;
+    good = good3;
+    pooled = grown_pooled w.host w.deltas j.1 p;
+    host = refl;
+    is = ap (λ b. cond b (Some (take_answer g (answer_to s j))) (w1.followers k)) (same_client_is k k refl);
+    others = λ at n. ap (λ b. cond b (Some (take_answer g (answer_to s j))) (w1.followers at)) n ∙ ap (λ b. cond b (Some g) (w.followers at)) n;
+  },
+  judged_in name w1 s t good1 (inl refl),
+)
   where
     j : Judged
     j = judge name w.host s t

@@ -106,12 +106,7 @@ fn answer(
 }
 
 // What waits is submitted at the time, if a submission can be taken of it.
-fn submit(
-    alloc: Global,
-    host: &mut Host,
-    follower: &mut Follower,
-    time: u64,
-) -> Result<(), Memory>
+fn submit(alloc: Global, host: &mut Host, follower: &mut Follower, time: u64) -> Result<(), Memory>
     ensures { OnOk result (meeting host.new (follower_of follower.new) ≡ submitted time (meeting host.old (follower_of follower.old)) (submit (follower_of follower.old))) }
 {
     match follower.take_submission(alloc) {

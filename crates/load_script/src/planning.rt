@@ -26,12 +26,7 @@ fn letter(alloc: Global, number: u64) -> Result<String, Memory>
 }
 
 // The operation that types a text of one character.
-fn typing<D: Items>(
-    alloc: Global,
-    document: &D,
-    place: u64,
-    text: &str,
-) -> Result<DocOp, Memory>
+fn typing<D: Items>(alloc: Global, document: &D, place: u64, text: &str) -> Result<DocOp, Memory>
     requires one { length (chars text.now) ≡ 1 }
     requires place { place ≤ length (D.items document.now) }
     requires room { length (D.items document.now) < max_count }
