@@ -2,7 +2,7 @@
 --     IsCaughtUp h f g       g is f at the head of h
 --     lacking_is             what it lacks is what is behind it
 --     catches_up
-use Rattle.std.proofs.Common.{◌≡◌, inl, inr, ℕ, zero, suc, ◌+◌, ◌<◌, ◌≤◌, Bool, true, false, cond, nat_lt, List, [], ◌∷◌, ◌++◌, length, drop, Option, None, Some, refl, sym, ap, subst, ◌∙◌, arith, append_assoc, append-nil}
+use Rattle.std.proofs.Common.{◌≡◌, inl, inr, ℕ, suc, ◌<◌, ◌≤◌, Bool, true, false, cond, nat_lt, List, [], ◌∷◌, ◌++◌, length, drop, Option, None, Some, refl, sym, ap, subst, ◌∙◌, arith, append_assoc, append-nil}
 use Rattle.std.specs.Option.{option_map}
 use Rattle.std.proofs.lemmas.Bool.Decides.{nat_tests}
 use Rattle.doc_items.specs.Maps.{Key}
@@ -23,7 +23,7 @@ use Rattle.node_rules.specs.Receiving.{past, rebase, receive}
 use Rattle.node_rules.proofs.Advances.{IsAdvance}
 use Rattle.wave_world.specs.Texts.{AreTextActs}
 use Rattle.wave_world.specs.Worlds.{Mem}
-use Rattle.wave_world.proofs.Clients.{IsFollower, IsMet, meets, receive_follower}
+use Rattle.wave_world.proofs.Clients.{IsFollower, meets, receive_follower}
 use Rattle.wave_world.proofs.Members.{mem_right}
 use Rattle.wave_world.proofs.Places.{below, above}
 use Rattle.load_script.specs.Exchanges.{lacking, received, caught_up}

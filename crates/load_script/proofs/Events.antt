@@ -3,7 +3,7 @@
 --     Leads w k h g          so it does: the host's history is h then, and the client's follower g
 --     stays, on_to           nothing happens; one thing after the other
 --     edit_leads, drop_leads, submit_leads, receive_leads     an edit, a drop, a submission with its answer, deltas in turn
-use Rattle.std.proofs.Common.{◌≡◌, inl, inr, ℕ, Bool, true, false, cond, List, [], ◌∷◌, ◌++◌, length, Option, None, Some, Result, Ok, Err, slice_get, refl, sym, ap, subst, ◌∙◌, option_and_then}
+use Rattle.std.proofs.Common.{◌≡◌, inl, inr, ℕ, true, false, cond, List, [], ◌∷◌, length, Option, None, Some, Ok, Err, slice_get, refl, sym, ap, subst, ◌∙◌, option_and_then}
 use Rattle.std.specs.Option.{option_map}
 use Rattle.std.specs.Result.{result_ok}
 use Rattle.doc_items.specs.Maps.{Key}

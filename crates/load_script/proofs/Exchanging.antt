@@ -3,8 +3,8 @@
 --     IsExchanged w k n c    what holds behind an exchange
 --     level_leads, exchange_leads
 --     IsSettling, settling_leads
-use Rattle.std.proofs.Common.{◌≡◌, ◌⊎◌, inl, inr, ℕ, zero, suc, ◌-◌, ◌<◌, ◌≤◌, Bool, true, false, cond, ◌&&◌, nat_le, List, [], ◌∷◌, ◌++◌, length, take, drop, Option, None, Some, Ok, Err, refl, sym, ap, subst, ◌∙◌, arith}
-use Rattle.std.specs.Option.{option_map, option_map_or}
+use Rattle.std.proofs.Common.{◌≡◌, inl, inr, ℕ, zero, suc, ◌-◌, ◌≤◌, Bool, true, false, cond, nat_le, List, [], ◌∷◌, ◌++◌, length, take, drop, Option, None, Some, Ok, Err, refl, sym, ap, subst, ◌∙◌, arith}
+use Rattle.std.specs.Option.{option_map_or}
 use Rattle.std.proofs.lemmas.List.{take-append-drop}
 use Rattle.doc_items.specs.Limits.{max_count}
 use Rattle.doc_op.proofs.Applying.{no_value, same_Some, mapped}
@@ -19,17 +19,16 @@ use Rattle.delta_history.specs.Laws.{IsJudged}
 use Rattle.delta_history.specs.Legal.{IsLegal}
 use Rattle.delta_history.specs.Places.{started_below}
 use Rattle.delta_history.specs.Points.{start, replay}
-use Rattle.delta_history.specs.Verdicts.{Judged, judge}
+use Rattle.delta_history.specs.Verdicts.{judge}
 use Rattle.node_rules.specs.declared.fault.FollowerFault.TheVariants.{TooBig, NumbersSpent}
 use Rattle.node_rules.specs.Followers.{ClientOf, Flight, FollowerOf, flying, pending, dropped, refuse_if}
 use Rattle.node_rules.specs.Submitting.{Gathered, fitting, gather_on, gather, sent_by, submitting, take_numbered, take_gathered, take_queued, take_unless, Submitted, submit}
 use Rattle.client_control.specs.Parts.{settled}
-use Rattle.wave_world.specs.Worlds.{Mem, World, is_refusal, grown, take_answer}
-use Rattle.wave_world.proofs.Clients.{IsFollower}
+use Rattle.wave_world.specs.Worlds.{Mem, World, grown, take_answer}
 use Rattle.wave_world.proofs.Events.{IsGood}
 use Rattle.wave_world.proofs.Members.{mem_right}
 use Rattle.wave_world.proofs.Places.{below}
-use Rattle.load_script.specs.Exchanges.{Meeting, meeting, lacking, caught_up, answered, submitted, level, exchanged, settling}
+use Rattle.load_script.specs.Exchanges.{Meeting, meeting, lacking, caught_up, submitted, level, exchanged, settling}
 use Rattle.load_script.specs.Names.{the_wavelet}
 use Rattle.load_script.proofs.Catching.{IsCaughtUp, catches_up}
 use Rattle.load_script.proofs.Events.{IsPooled, Leads, stays, on_to, drop_leads, receive_leads, answer_to, submit_leads}

@@ -1,5 +1,5 @@
 -- A text of one ASCII character.
-use Rattle.std.proofs.Common.{◌≡◌, ℕ, ◌<◌, ◌-◌, List, [], ◌∷◌, true, cond, nat_lt, ap, arith}
+use Rattle.std.proofs.Common.{◌≡◌, ℕ, ◌<◌, ◌-◌, [], ◌∷◌, true, cond, nat_lt, ap, arith}
 use Rattle.std.specs.Str.{chars, chars_after}
 use Rattle.std.proofs.lemmas.Bool.Decides.{nat_tests}
 

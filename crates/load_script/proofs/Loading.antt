@@ -1,6 +1,6 @@
 -- Behind a load each follower's screen is the host's state.
 --     each_shows
-use Rattle.std.proofs.Common.{◌≡◌, inl, inr, ℕ, zero, suc, ◌+◌, ◌-◌, ◌<◌, ◌≤◌, Bool, true, false, cond, List, [], ◌∷◌, ◌++◌, length, map, Option, None, Some, Ok, Err, slice_get, refl, sym, ap, subst, ◌∙◌, arith, unwrap_or, length-append}
+use Rattle.std.proofs.Common.{◌≡◌, ℕ, zero, suc, ◌-◌, List, [], ◌∷◌, ◌++◌, length, map, Option, None, Some, Ok, Err, slice_get, refl, sym, ap, subst, ◌∙◌, arith, unwrap_or, length-append}
 use Rattle.std.specs.Option.{option_map_or}
 use Rattle.std.specs.List.{All}
 use Rattle.std.proofs.lemmas.Option.{slice_get-get_or}
@@ -10,29 +10,27 @@ use Rattle.doc_items.specs.declared.item.Content.TheVariants.{Character, Start, 
 use Rattle.doc_items.specs.declared.item.Item.{Item}
 use Rattle.doc_op.specs.Actions.{Action}
 use Rattle.doc_op.proofs.Applying.{no_value, same_Some}
-use Rattle.op_build.specs.Plans.{typing, erasing}
+use Rattle.op_build.specs.Plans.{erasing}
 use Rattle.wavelet_op.specs.Acts.{Act, Adds, Mutates}
 use Rattle.wavelet_op.specs.Deltas.{DeltaOf}
-use Rattle.wavelet_op.specs.States.{document_of}
 use Rattle.delta_history.specs.Points.{Point, start, replay, end_of}
-use Rattle.node_rules.specs.Followers.{ClientOf, Flight, FollowerOf, new_follower, run_all, flying, pending, screen}
-use Rattle.node_rules.specs.Submitting.{Edited, queued, edit}
+use Rattle.node_rules.specs.Followers.{ClientOf, Flight, FollowerOf, new_follower, run_all, flying, pending}
+use Rattle.node_rules.specs.Submitting.{Edited, edit}
 use Rattle.node_rules.proofs.Sounds.{edited_is}
 use Rattle.wave_world.specs.Texts.{AreTextActs, AreTextsIn}
 use Rattle.wave_world.specs.Worlds.{Mem, World, Event, Starts, world_of}
-use Rattle.wave_world.proofs.Clients.{IsFollower}
 use Rattle.wave_world.proofs.Events.{IsGood, good}
 use Rattle.load_script.specs.Draws.{next, drawn}
-use Rattle.load_script.specs.Edits.{letters, unless_refused, changed, mutated, letter, typed, erasure_of, erasure, erased, invited, types, erases_one, erases}
-use Rattle.load_script.specs.Exchanges.{Meeting, meeting, caught_up, level, exchanged, settling}
-use Rattle.load_script.specs.Loads.{Load, client, first, moved, on, each, founding, founded, choice_of, edited, turned, with_draws, step, steps, settles, loaded, head, Shows}
+use Rattle.load_script.specs.Edits.{letters, unless_refused, changed, mutated, erasure_of, erasure, erased, invited, types, erases_one, erases}
+use Rattle.load_script.specs.Exchanges.{meeting, caught_up, level, exchanged}
+use Rattle.load_script.specs.Loads.{Load, client, first, each, founding, founded, choice_of, edited, turned, with_draws, step, steps, settles, loaded, Shows}
 use Rattle.load_script.specs.declared.choice.Choice.{Choice}
 use Rattle.load_script.specs.declared.choice.Choice.TheVariants.{Types, Erases, Exchanges}
 use Rattle.load_script.specs.Names.{the_wavelet, the_document, user0, user1, user2, user3, users}
 use Rattle.load_script.proofs.Catching.{IsCaughtUp}
-use Rattle.load_script.proofs.Events.{IsPooled, Leads, stays, edit_leads, on_to}
-use Rattle.load_script.proofs.Exchanging.{IsIdle, IsExchanged, IsSettled, level_leads, caught, exchange_leads, settling_leads, none_pending}
-use Rattle.load_script.proofs.Followers.{IsOf, IsHeld, IsMoved, Moves, moved_held, each_held}
+use Rattle.load_script.proofs.Events.{IsPooled, stays, edit_leads, on_to}
+use Rattle.load_script.proofs.Exchanging.{IsIdle, IsExchanged, level_leads, caught, exchange_leads, settling_leads, none_pending}
+use Rattle.load_script.proofs.Followers.{IsHeld, IsMoved, Moves, moved_held, each_held}
 use Rattle.load_script.proofs.Screens.{letters_are}
 use Rattle.load_script.proofs.Texts.{shown_texts, typing_text, erasing_text, inviting_text}
 

@@ -1,7 +1,7 @@
 -- The document on a follower's screen.
 --     letters_are                 it is that of the screen
 --     letters_fit, shown_fits     it has room for an item more
-use Rattle.std.proofs.Common.{◌≡◌, ℕ, ◌+◌, ◌<◌, ◌≤◌, List, [], ◌∷◌, length, Some, ap, sym, subst, ◌∙◌, arith}
+use Rattle.std.proofs.Common.{◌≡◌, ℕ, ◌+◌, ◌<◌, List, [], ◌∷◌, length, Some, ap, sym, subst, ◌∙◌, arith}
 use Rattle.std.specs.Option.{option_map_or}
 use Rattle.doc_items.specs.Limits.{max_count}
 use Rattle.doc_items.specs.Maps.{Key}
@@ -9,7 +9,6 @@ use Rattle.doc_op.proofs.Applying.{same_Some}
 use Rattle.wavelet_op.specs.Acts.{Act, inserted}
 use Rattle.wavelet_op.specs.States.{State, document_of, run}
 use Rattle.wavelet_op.proofs.Partial.{and_then_some}
-use Rattle.wavelet_state.specs.Snapshots.{max_inserted}
 use Rattle.node_rules.specs.Followers.{FollowerOf, run_all, inserted_all, pending, screen}
 use Rattle.node_rules.specs.Laws.{IsSmall, IsSound}
 use Rattle.node_rules.proofs.Room.{small_run}

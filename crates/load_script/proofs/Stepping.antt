@@ -4,7 +4,7 @@
 --     moved_there, moved_past    the follower at a place of a list moves; there is none
 --     on_ok                      what follows where a result is Ok
 --     IsDrawn, stepped, stepped_past     a step with what is drawn for it
-use Rattle.std.proofs.Common.{◌≡◌, ◌≤◌, ℕ, suc, ◌+◌, List, length, map, slice_get, slice_set, Option, Some, None, Result, Ok, Err, option_map, refl, sym, ap, ◌∙◌, add-one}
+use Rattle.std.proofs.Common.{◌≡◌, ◌≤◌, ℕ, ◌+◌, List, length, map, slice_get, slice_set, Some, None, Result, Ok, Err, option_map, refl, sym, ap, ◌∙◌, add-one}
 use Rattle.std.specs.Result.{OnOk}
 use Rattle.std.proofs.lemmas.List.{map-set}
 use Rattle.std.proofs.lemmas.Option.{slice_get-map, slice_get_past}

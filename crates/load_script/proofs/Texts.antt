@@ -11,12 +11,11 @@ use Rattle.std.specs.Str.{is_utf8}
 use Rattle.std.proofs.lemmas.Bool.{and_parts, and_from}
 use Rattle.doc_items.specs.Changes.{KeyChange, ChangeSet, set_new, put, none_running}
 use Rattle.doc_items.specs.Maps.{Key, Map}
-use Rattle.doc_items.specs.declared.item.Content.TheVariants.{Character}
 use Rattle.doc_items.specs.declared.item.Item.{Item}
 use Rattle.doc_items.proofs.Maps.{get-merge, get-each}
 use Rattle.change_view.specs.Sets.{fresh}
 use Rattle.change_view.specs.Texts.{is_text_value, is_text_at, AreTexts}
-use Rattle.doc_op.specs.Actions.{Unchanged, Action, Keep, Ins, Del}
+use Rattle.doc_op.specs.Actions.{Action, Keep, Ins, Del}
 use Rattle.doc_op.specs.Apply.{keeps, kept, fits, apply}
 use Rattle.doc_op.specs.Normal.{gone, to_absent}
 use Rattle.doc_op.proofs.Applying.{no_value, same_Some, mapped, passed}

@@ -6,7 +6,7 @@
 --     answered c f s j   behind the verdict on its submission; where that is a refusal, nothing is pending any more
 --     exchanged t c      a submission is taken, if there is one, and submitted at the time t; then the follower catches up
 --     settling t n c     so again, at most n times, until nothing is pending
-use Rattle.std.specs.Prelude.{ℕ, zero, suc, cond, List, [], ◌∷◌, drop, Option, Some, None, Ok, Err}
+use Rattle.std.specs.Prelude.{ℕ, zero, suc, cond, List, [], ◌∷◌, drop, Some, None, Ok, Err}
 use Rattle.wavelet_op.specs.Deltas.{DeltaOf}
 use Rattle.wavelet_op.specs.declared.delta.Submission.{Submission}
 use Rattle.delta_history.specs.Places.{started_below}

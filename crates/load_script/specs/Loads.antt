@@ -11,7 +11,7 @@
 --     loaded n           behind them, with all followers settled and level
 --     Shows l f          a follower's screen is the host's state
 --     summary l          the version, the number of letters and the hash at the head
-use Rattle.std.specs.Prelude.{◌≡◌, ℕ, zero, suc, List, [], ◌∷◌, length, map, slice_get, slice_set, Option, Some, None}
+use Rattle.std.specs.Prelude.{◌≡◌, ℕ, zero, suc, List, [], length, map, slice_get, slice_set, Option, Some, None}
 use Rattle.std.specs.Option.{option_map}
 use Rattle.doc_items.specs.Maps.{Key}
 use Rattle.wavelet_op.specs.Deltas.{DeltaOf}

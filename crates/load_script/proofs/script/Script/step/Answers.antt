@@ -1,8 +1,6 @@
-use Rattle.std.proofs.Common.{◌≡◌, Some, length, slice_get, refl, sym, ap}
+use Rattle.std.proofs.Common.{◌≡◌, Some, length, slice_get, refl, sym}
 use Rattle.std.proofs.lemmas.Option.{slice_get_read}
 use Rattle.delta_history.proofs.Finding.{lt_false}
-use Rattle.client_control.specs.Parts.{Parts}
-use Rattle.load_script.specs.Loads.{Load}
 use Rattle.load_script.specs.Scripts.{load_of}
 use Rattle.load_script.proofs.Stepping.{on_ok, IsDrawn, stepped, stepped_past}
 use Rattle.load_script.proofs.script.Script.step.Goals as goal
