@@ -1,0 +1,5 @@
+pub mod Entries
+pub mod FileNames
+pub mod Hosting
+pub mod Loads
+pub mod Shelves

@@ -1,0 +1,59 @@
+// A shelf as the copies of the wavelets that are hosted here.
+ghost use Rattle.std.specs.Prelude.{◌≡◌, ◌≢◌, [], IfSome, IsSome, option_copied, slice_get};
+ghost use Rattle.delta_history.specs.Copying.{AreAscending, IsKeptOutcome};
+ghost use Rattle.wavelet_shelf.specs.Hosting.{names_of};
+ghost use Rattle.wavelet_shelf.specs.Shelves.{hosted_of, copies_of, outcome_of};
+
+use crate::Shelf;
+use delta_history::{Copies, History};
+use wave_base::{DeltaId, WaveletName};
+use wave_outside::Folder;
+use wavelet_op::Verdict;
+
+impl<F: Folder> Copies for Shelf<F> {
+    ghost use Rattle.std.specs.Prelude.{false};
+    ghost use Rattle.wavelet_shelf.specs.Hosting.{names_of};
+    ghost use Rattle.wavelet_shelf.specs.Shelves.{hosted_of, copies_of, outcome_of};
+
+    ghost copies = { λ s n. copies_of s n };
+
+    ghost hosts = { λ s. names_of (hosted_of s) };
+
+    ghost drops = { λ _ _. false };
+
+    ghost outcomes = { λ s n i. outcome_of s n i };
+
+    fn copy_of(&self, name: &WaveletName) -> Option<&History> {
+        let history = self.containers.map.get(name)?.container.history();
+        if history.deltas().is_empty() {
+            None
+        } else {
+            Some(history)
+        }
+    }
+
+    fn hosted(&self, place: u64) -> Option<&WaveletName> {
+        let mut left = place;
+        for (name, filed) in self.containers.map.iter() {
+            if !filed.container.history().deltas().is_empty() {
+                if left == 0 {
+                    return Some(name);
+                }
+                left -= 1;
+            }
+        }
+        None
+    }
+
+    fn dropped(&self, _name: &WaveletName) -> bool {
+        false
+    }
+
+    fn outcome(&self, name: &WaveletName, id: &DeltaId) -> Option<Verdict> {
+        let kept = self.copy_of(name)?.kept(id)?;
+        Some(Verdict::Ack {
+            at: kept.at,
+            to: kept.to,
+        })
+    }
+}

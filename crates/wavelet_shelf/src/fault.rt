@@ -1,0 +1,42 @@
+use std::alloc::AllocError;
+use wave_outside::FolderFault;
+use wavelet_container::LoadFault;
+
+/// Why a shelf wasn't loaded.
+#[derive(Debug, Drop)]
+pub enum ShelfFault {
+    /// A file isn't the journal of a legal history of the wavelet whose file it is, by what stands at this offset, in bytes.
+    Damaged { file: String, offset: u64 },
+    /// The folder or a disk failed, and the shelf's count of faults tells so.
+    Failed,
+    /// Want of memory.
+    Memory,
+}
+
+impl From<AllocError> for ShelfFault {
+    ghost use Rattle.std.specs.Prelude.{◌≡◌};
+    ghost use Rattle.wavelet_shelf.specs.declared.fault.ShelfFault.TheVariants.{Memory};
+
+    ghost from_gives = { λ _ e. e ≡ Memory };
+
+    fn from(_: AllocError) -> Self {
+        ShelfFault::Memory
+    }
+}
+
+/// Why the folder gave nothing, as the shelf tells it.
+pub(crate) fn fault_of(fault: FolderFault) -> ShelfFault {
+    match fault {
+        FolderFault::Failed => ShelfFault::Failed,
+        FolderFault::Memory => ShelfFault::Memory,
+    }
+}
+
+/// Why the file of this name gave no history, as the shelf tells it.
+pub(crate) fn fault_in(file: String, fault: LoadFault) -> ShelfFault {
+    match fault {
+        LoadFault::Damaged { offset } => ShelfFault::Damaged { file, offset },
+        LoadFault::DiskFault => ShelfFault::Failed,
+        LoadFault::Memory => ShelfFault::Memory,
+    }
+}

@@ -1,0 +1,20 @@
+//! The histories of wavelets at their host, by name, each with its journal in a folder.
+#![tactic(auto)]
+
+mod close;
+mod containers;
+mod copies;
+mod divide;
+mod fault;
+mod file_name;
+mod filed;
+mod keeping;
+mod load;
+mod made;
+mod opened;
+mod shelf;
+mod submit;
+
+pub use fault::ShelfFault;
+pub use file_name::{file_name, shard};
+pub use shelf::Shelf;

@@ -1,0 +1,102 @@
+// The files of wavelets, as they are opened.
+ghost use Rattle.std.specs.Prelude.{◌≡◌};
+
+use crate::file_name::file_name;
+use delta_journal::{JournalFault, stored_name};
+use disk_model::Disk;
+use doc_items::Memory;
+use std::alloc::{AllocError, Global};
+use std::str;
+use wave_base::{BaseFault, WaveletName};
+use wavelet_container::{Container, LoadFault, LoadRefused};
+
+/// What a file holds.
+#[derive(Drop)]
+pub(crate) enum Opened<K: Disk> {
+    /// The history of the wavelet of this name.
+    Read(WaveletName, Container<K>),
+    /// No header.
+    Passed(K),
+}
+
+/// What the file of this name, whose disk this is, holds. A refusal hands the disk back: `Damaged` at offset 0 too, where the name in
+/// the header isn't that of this file's wavelet.
+pub(crate) fn opened<K: Disk>(
+    alloc: Global,
+    disk: K,
+    file: &str,
+) -> Result<Opened<K>, LoadRefused<K>> {
+    let mut disk = disk;
+    match stored_name(alloc, &mut disk) {
+        Ok(None) => Ok(Opened::Passed(disk)),
+        Ok(Some(bytes)) => opened_as(alloc, disk, file, &bytes),
+        Err(fault) => Err(LoadRefused {
+            disk,
+            fault: fault_of(fault),
+        }),
+    }
+}
+
+// So it is, where these bytes are the name in its header.
+fn opened_as<K: Disk>(
+    alloc: Global,
+    disk: K,
+    file: &str,
+    bytes: &[u8],
+) -> Result<Opened<K>, LoadRefused<K>> {
+    match own_name(alloc, bytes, file) {
+        Ok(Some(name)) => read(alloc, disk, name),
+        Ok(None) => Err(LoadRefused {
+            disk,
+            fault: LoadFault::Damaged { offset: 0 },
+        }),
+        Err(_) => Err(LoadRefused {
+            disk,
+            fault: LoadFault::Memory,
+        }),
+    }
+}
+
+// So it is, where this is its wavelet.
+fn read<K: Disk>(alloc: Global, disk: K, name: WaveletName) -> Result<Opened<K>, LoadRefused<K>> {
+    match name.copy(alloc) {
+        Ok(key) => {
+            let container = Container::load(alloc, name, disk)?;
+            Ok(Opened::Read(key, container))
+        }
+        Err(_) => Err(LoadRefused {
+            disk,
+            fault: LoadFault::Memory,
+        }),
+    }
+}
+
+// The name of these bytes, if it is that of a wavelet, and this is the wavelet's file. The error is want of memory.
+fn own_name(alloc: Global, bytes: &[u8], file: &str) -> Result<Option<WaveletName>, Memory> {
+    let Ok(text) = str::from_utf8(bytes) else {
+        return Ok(None);
+    };
+    match WaveletName::parse(alloc, text) {
+        Ok(name) => own(alloc, name, file),
+        Err(BaseFault::Memory) => Err(AllocError),
+        Err(_) => Ok(None),
+    }
+}
+
+// The name, if this is the wavelet's file.
+fn own(alloc: Global, name: WaveletName, file: &str) -> Result<Option<WaveletName>, Memory> {
+    if file_name(alloc, &name)?.as_str() == file {
+        Ok(Some(name))
+    } else {
+        Ok(None)
+    }
+}
+
+// Why no name was read, as the container tells it.
+fn fault_of(fault: JournalFault) -> LoadFault {
+    match fault {
+        JournalFault::Damaged { offset } => LoadFault::Damaged { offset },
+        JournalFault::DiskFault => LoadFault::DiskFault,
+        JournalFault::Memory => LoadFault::Memory,
+    }
+}
