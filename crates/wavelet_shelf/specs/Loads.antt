@@ -1,6 +1,7 @@
 -- What a folder's files stand for.
 --     IsAsBefore view o p         a file that is there reads as before, and a crash leaves no more than before, or what it read
---     IsReadFrom view o c         the file stands for the history of the container, and each image is the file as it was read
+--     IsStoredFile view o n ds    the file stands for the history of this name, as it reads and in each image
+--     IsReadFrom o c              the file stands for the history of the container, and each image is the file as it was read
 --     HasAll view files hs        each file of a wavelet that stands for a history stands for that of its name
 --     IsRefusedFile view o f k    the file of this name is no journal of a legal history, by what stands at the offset k: its header is
 --                                 no name's; or the name in it is no wavelet's, or that of another file, and k is 0; or it is
@@ -41,6 +42,14 @@ module _ {K : Type 0} (view : K → DiskView) where
   IsAsBefore None (Some g) = ⊥
   IsAsBefore (Some f) None = ⊥
   IsAsBefore (Some f) (Some g) = ReadsAsBefore (view f) (view g)
+
+  pub record StandsAs (name : Key) (ds : List DeltaOf) (f : DiskView) : Type 0 where
+    pub seen : StandsForHistory name ds f.seen
+    pub images : (c : List ℕ) → f.may_leave c → StandsForHistory name ds c
+
+  abbrev pub IsStoredFile : Option K → Key → List DeltaOf → Type 0
+  IsStoredFile None name ds = ⊥
+  IsStoredFile (Some f) name ds = StandsAs name ds (view f)
 
   pub record HasAll (files : List ℕ → Option K) (hs : List Hosted) : Type 0 where
     pub each : (n : Key) (ds : List DeltaOf) → is_wavelet_name n ≡ true → ds ≢ [] → IfSome (files (file_name_of n)) (λ f. StandsForHistory n ds (view f).seen → deltas_in hs n ≡ ds)

@@ -6,6 +6,7 @@
 --     IsKept s               over a folder whose disks tell their bytes: each history stands in a journal
 --     IsSettled s            so it does, in its file as that reads and in each image of it, and no repair is pending
 --     AreApart s             no two names have one file
+--     HasFile s m            this is the file of one of its names
 --     copies_of s n          the history of the name, where it has a delta
 --     outcome_of s n i       the acknowledgement that it keeps for the id
 use Rattle.std.specs.Prelude.{◌≡◌, ◌≢◌, ℕ, ◌+◌, ◌-◌, ◌^◌, min, List, [], ◌∷◌, Bool, Option, Some, None, IsSome, IsTrue}
@@ -65,6 +66,9 @@ module _ {F D : Type 0} {folder : folder_of.Ghosts F D} {disk : disk_of.Ghosts D
 
   abbrev pub AreApart : Shelf F D folder disk → Type 0
   AreApart s = (n m : Key) → IsSome (container_in s n) → IsSome (container_in s m) → file_name_of n ≡ file_name_of m → n ≡ m
+
+  abbrev pub HasFile : Shelf F D folder disk → List ℕ → Type 0
+  HasFile s m = (n : Key) × IsSome (container_in s n) × (file_name_of n ≡ m)
 
   abbrev pub copies_of : Shelf F D folder disk → Key → Option HistoryOf
   copies_of s n = option_and_then (λ c. shown_copy (history_of c)) (container_in s n)

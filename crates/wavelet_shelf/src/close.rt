@@ -1,6 +1,12 @@
 // Shelves that are closed.
-ghost use Rattle.std.specs.Prelude.{◌≡◌, ◌-◌, ◌^◌, min, ℕ, List, IsSome, IfSome, IsTrue};
-ghost use Rattle.wavelet_shelf.specs.Shelves.{in_folder, fault_count};
+ghost use Rattle.std.specs.Prelude.{◌≡◌, ◌↔◌, ◌-◌, ◌^◌, min, ℕ, List, IsSome, IfSome, IsTrue};
+ghost use Rattle.doc_items.specs.Maps.{Key};
+ghost use Rattle.delta_journal.specs.Journal.{on_disk};
+ghost use Rattle.wave_outside.specs.Folders.{IsPutBack};
+ghost use Rattle.wavelet_container.specs.Containers.{journal_of, history_of};
+ghost use Rattle.wavelet_shelf.specs.FileNames.{file_name_of};
+ghost use Rattle.wavelet_shelf.specs.Loads.{IsStoredFile};
+ghost use Rattle.wavelet_shelf.specs.Shelves.{in_folder, container_in, fault_count, IsKept, IsSettled, AreApart, HasFile};
 
 use crate::Shelf;
 use crate::containers::Containers;
@@ -9,7 +15,13 @@ use wave_outside::Folder;
 
 impl<F: Folder + Drop> Shelf<F> {
     /// Puts every disk back, and gives the folder, which counts their faults; None exactly where there is no folder.
-    pub fn close(self) -> Option<F> {
+    pub fn close(self) -> Option<F>
+        ensures folder { IsSome result ↔ IsSome (in_folder self) }
+        ensures back { IfSome result (λ f. IsTrue F.Disk.tells → AreApart self → (n : Key) → IfSome (container_in self n) (λ c. IfSome (journal_of c) (λ j. IsPutBack F.Disk.view (on_disk j) (F.files f (file_name_of n))))) }
+        ensures stored { IfSome result (λ f. IsKept self → IsSettled self → AreApart self → (n : Key) → IfSome (container_in self n) (λ c. IsStoredFile F.Disk.view (F.files f (file_name_of n)) n (history_of c).deltas)) }
+        ensures others { IfSome result (λ f. IsTrue F.Disk.tells → IfSome (in_folder self) (λ g. (m : List ℕ) → (HasFile self m → ⊥) → F.files f m ≡ F.files g m)) }
+        ensures counted { IfSome result (λ f. min (F.faults f) (2 ^ 64 - 1) ≡ fault_count self) }
+    {
         let Shelf {
             folder,
             mut containers,

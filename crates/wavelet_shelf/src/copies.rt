@@ -57,3 +57,17 @@ impl<F: Folder> Copies for Shelf<F> {
         })
     }
 }
+
+impl<F: Folder> Shelf<F> {
+    ghost use Rattle.doc_items.specs.Maps.{Key};
+    ghost use Rattle.wavelet_shelf.specs.Hosting.{copy_in, IsCopyOf, HaveDeltas};
+
+    /// The law of a shelf's copies: they are its hosted histories, which have deltas, and whose names ascend.
+    pub fn copies_are_hosted(&self)
+        ensures copies { (n : Key) → IsCopyOf (copies_of self.now n) (copy_in (hosted_of self.now) n) }
+        ensures deltas { HaveDeltas (hosted_of self.now) }
+        ensures ascending { AreAscending (names_of (hosted_of self.now)) }
+    {
+        let _containers = &self.containers;
+    }
+}

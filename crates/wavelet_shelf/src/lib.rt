@@ -9,6 +9,7 @@ mod fault;
 mod file_name;
 mod filed;
 mod keeping;
+mod laws;
 mod load;
 mod made;
 mod opened;
@@ -17,4 +18,5 @@ mod submit;
 
 pub use fault::ShelfFault;
 pub use file_name::{file_name, shard};
+pub use laws::hosting_grows_alone;
 pub use shelf::Shelf;

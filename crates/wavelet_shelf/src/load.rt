@@ -1,5 +1,10 @@
 // Shelves that are read from their folders.
-ghost use Rattle.std.specs.Prelude.{◌≡◌};
+ghost use Rattle.std.specs.Prelude.{◌≡◌, ◌≤◌, ℕ, List, [], None, IsSome, IfSome, IsTrue, IfErr, OnOk, OnErr, string_bytes};
+ghost use Rattle.doc_items.specs.Maps.{Key};
+ghost use Rattle.wave_outside.specs.Counts.{Rose};
+ghost use Rattle.wavelet_shelf.specs.FileNames.{file_name_of};
+ghost use Rattle.wavelet_shelf.specs.Loads.{IsAsBefore, IsReadFrom, IsRefusedFile, HasAll};
+ghost use Rattle.wavelet_shelf.specs.Shelves.{in_folder, entries_of, container_in, hosted_of, fault_count, IsKept, IsSettled, AreApart, HasFile};
 
 use crate::close::put_all;
 use crate::containers::Containers;
@@ -14,8 +19,26 @@ use std::collections::BTreeSet;
 use wave_outside::Folder;
 
 impl<F: Folder + Drop> Shelf<F> {
-    /// Reads the wavelets' files of the folder, in byte order of their names; one without a header is passed over.
-    pub fn load(&mut self, alloc: Global) -> Result<(), ShelfFault> {
+    /// Reads the wavelets' files of the folder, in byte order of their names, and has then the histories for which they stand; a file
+    /// without a header, and one that is no wavelet's, is passed over. A refusal puts every disk back, and there is no container:
+    /// `Damaged` with the file that isn't the journal of a legal history of its wavelet, `Failed` where the folder or a disk failed.
+    pub fn load(&mut self, alloc: Global) -> Result<(), ShelfFault>
+        requires folder { IsSome (in_folder self.old) }
+        requires empty { entries_of self.old ≡ [] }
+
+        ensures read { OnOk result (IsTrue F.Disk.tells → IfSome (in_folder self.old) (λ f. (n : Key) → IfSome (container_in self.new n) (λ c. IsReadFrom (F.files f (file_name_of n)) c))) }
+        ensures all { OnOk result (IsTrue F.Disk.tells → IfSome (in_folder self.old) (λ f. HasAll F.Disk.view (F.files f) (hosted_of self.new))) }
+        ensures kept { OnOk result (IsTrue F.Disk.tells → IsKept self.new × IsSettled self.new) }
+        ensures apart { OnOk result (AreApart self.new) }
+
+        ensures damaged { IfErr result (λ e. (file : String) (offset : ℕ) → e ≡ ShelfFault.Damaged file offset → IsTrue F.Disk.tells → IfSome (in_folder self.old) (λ f. IsRefusedFile F.Disk.view (F.files f (string_bytes file)) (string_bytes file) offset)) }
+        ensures none { OnErr result (entries_of self.new ≡ []) }
+        ensures as_before { IsTrue F.Disk.tells → IfSome (in_folder self.old) (λ f. IfSome (in_folder self.new) (λ g. (m : List ℕ) → (HasFile self.new m → ⊥) → IsAsBefore F.Disk.view (F.files f m) (F.files g m))) }
+
+        ensures folder { IsSome (in_folder self.new) }
+        ensures later { fault_count self.old ≤ fault_count self.new }
+        ensures failed { IfErr result (λ e. e ≡ ShelfFault.Failed → Rose (fault_count self.old) (fault_count self.new)) }
+    {
         let Some(folder) = &mut self.folder else {
             return Ok(());
         };
