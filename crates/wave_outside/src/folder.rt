@@ -54,6 +54,9 @@ pub trait Folder {
     /// How many calls have failed, those of disks that were put back included.
     ghost faults: { Self → ℕ };
 
+    /// The law of telling: a folder whose disks tell what a read gives tells its files.
+    ghost told: { IsTrue Self.Disk.tells → IsTrue tells };
+
     /// Opens the folder of this path, and makes it where it isn't there.
     fn enter(&mut self, alloc: Global, path: &str) -> Result<(), FolderFault>
         ensures files { IsTrue tells → IsSame (files self.old) (files self.new) }

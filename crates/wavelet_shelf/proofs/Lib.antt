@@ -1,2 +1,5 @@
 pub mod Names
-pub mod Hosting
+pub mod Growing
+pub mod Placing
+pub mod Sums
+pub mod FileName
