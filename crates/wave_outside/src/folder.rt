@@ -79,6 +79,7 @@ pub trait Folder {
         ensures out { OnOk result (room self.new name.now ≡ true) }
         ensures others { IsTrue tells → IsElsewhere name.now (files self.old) (files self.new) }
         ensures other_room { IsElsewhere name.now (room self.old) (room self.new) }
+        ensures room_stays { room self.old name.now ≡ true → room self.new name.now ≡ true }
         ensures kept { OnErr result (IsTrue tells → IsSame (files self.old) (files self.new)) }
         ensures later { faults self.old ≤ faults self.new }
         ensures failed { IfErr result (λ e. e ≡ Failed → Rose (faults self.old) (faults self.new)) };
@@ -90,6 +91,7 @@ pub trait Folder {
         ensures out { OnOk result (room self.new name.now ≡ true) }
         ensures others { IsTrue tells → IsElsewhere name.now (files self.old) (files self.new) }
         ensures other_room { IsElsewhere name.now (room self.old) (room self.new) }
+        ensures room_stays { room self.old name.now ≡ true → room self.new name.now ≡ true }
         ensures later { faults self.old ≤ faults self.new }
         ensures failed { IfErr result (λ e. e ≡ Failed → Rose (faults self.old) (faults self.new)) };
 

@@ -3,3 +3,5 @@ pub mod Growing
 pub mod Placing
 pub mod Sums
 pub mod FileName
+pub mod Taking
+pub mod Shelving

@@ -27,9 +27,9 @@ use Rattle.indexmap.proofs.MoveLemmas.{push_moved}
 use Rattle.doc_items.specs.Maps.{Key, same_text}
 use Rattle.wavelet_op.specs.Deltas.{DeltaOf}
 use Rattle.delta_history.specs.Copying.{AscendFrom, AreAscending}
-use Rattle.wavelet_shelf.specs.Entries.{shown}
+use Rattle.wavelet_shelf.specs.Entries.{shown, IsPlace}
 use Rattle.wavelet_shelf.specs.Hosting.{Hosted, names_of, deltas_in, grown_in}
-use Rattle.wavelet_shelf.proofs.Names.{own, unlike, lower, any, tied, even, turned, below_none}
+use Rattle.wavelet_shelf.proofs.Names.{own, decided, unlike, lower, any, tied, even, turned, below_none}
 use Rattle.wavelet_shelf.proofs.Growing.{put_in, put_by, hosted, names_put, deltas_shown, shown_grown, shown_none}
 
 no_value : {X T : Type 0} {x : X} → None ≡ Some x → T
@@ -37,12 +37,6 @@ no_value e = absurd (cc)
 
 same_Some : {X : Type 0} {x y : X} → Some x ≡ Some y → x ≡ y
 same_Some e = cc
-
--- where a new name belongs among others
-pub record IsPlace (n : Key) (keys : List Key) (i : ℕ) : Type 0 where
-  pub inside : i ≤ length keys
-  pub below : AllWithin (λ k. slice_cmp nat_cmp k n ≡ Less) keys 0 i
-  pub above : AllWithin (λ k. slice_cmp nat_cmp k n ≡ Greater) keys i (length keys)
 
 module _ {V : Type 0} (f : V → List DeltaOf) where
   abbrev pub hist : List (Key × V) → List Hosted
@@ -202,7 +196,7 @@ place es n i a none search = ⊎_elim
     record { inside = search.0; below = parts.0; above = parts.1 })
     search.1
 
-length_keys : {V : Type 0} (es : List (Key × V)) → length (keys_of es) ≡ length es
+pub length_keys : {V : Type 0} (es : List (Key × V)) → length (keys_of es) ≡ length es
 length_keys [] = refl
 length_keys (e ∷ es) = ap suc (length_keys es)
 
@@ -219,3 +213,65 @@ put_at es n w i to none le e =
     let below : i ≤ length es = omega (arith, le, long) in
     let is : to ≡ i = e ∙ ap (λ p. index_before p i) last ∙ index_past (length es) i below in
     (λ j. move_index (insert_entry-absent same_text n w es absent j) (last j) (is j)) ∙ push_moved es (n, w) i below
+
+-- ---- look-ups
+
+module _ {V : Type 0} where
+  pub found_set : (es : List (Key × V)) (n : Key) (v w : V) → lookup (same_text n) es ≡ Some v → lookup (same_text n) (set_value (same_text n) es w) ≡ Some w
+  found_set [] n v w e = no_value e
+  found_set (x ∷ es) n v w e = go (λ g. found_set es n v w g) (same_text n x.0) refl e
+    where
+      go : (lookup (same_text n) es ≡ Some v → lookup (same_text n) (set_value (same_text n) es w) ≡ Some w) → (t : Bool) → same_text n x.0 ≡ t → cond t (Some x.1) (lookup (same_text n) es) ≡ Some v
+          → lookup (same_text n) (cond t ((x.0, w) ∷ es) (x ∷ set_value (same_text n) es w)) ≡ Some w
+      go rest true s g = ap (λ t. cond t (Some w) (lookup (same_text n) es)) s
+      go rest false s g = ap (λ t. cond t (Some x.1) (lookup (same_text n) (set_value (same_text n) es w))) s ∙ rest g
+
+  pub others_set : (es : List (Key × V)) (n : Key) (w : V) (m : Key) → m ≢ n → lookup (same_text m) (set_value (same_text n) es w) ≡ lookup (same_text m) es
+  others_set [] n w m other = refl
+  others_set (x ∷ es) n w m other = go (others_set es n w m other) (same_text n x.0) refl
+    where
+      go : lookup (same_text m) (set_value (same_text n) es w) ≡ lookup (same_text m) es → (t : Bool) → same_text n x.0 ≡ t → lookup (same_text m) (cond t ((x.0, w) ∷ es) (x ∷ set_value (same_text n) es w)) ≡ lookup (same_text m) (x ∷ es)
+      go rest true s =
+          let apart = decided m x.0 (λ e. other (e ∙ sym ((bytes_decides n x.0).0 s))) in
+          ap (λ t. cond t (Some w) (lookup (same_text m) es)) apart ∙ sym (ap (λ t. cond t (Some x.1) (lookup (same_text m) es)) apart)
+      go rest false s = ap (cond (same_text m x.0) (Some x.1)) rest
+
+  pub found_put : (es : List (Key × V)) (n : Key) (w : V) (i : ℕ) → i ≤ length es → lookup (same_text n) es ≡ None → lookup (same_text n) (insert es i (n, w)) ≡ Some w
+  found_put es n w zero le none = ap (λ t. cond t (Some w) (lookup (same_text n) es)) (own n)
+  found_put [] n w (suc i) le none = absurd (omega (arith, le))
+  found_put (x ∷ es) n w (suc i) le none = go (same_text n x.0) (λ g. found_put es n w i (omega (arith, le)) g) none
+    where
+      go : (t : Bool) → (lookup (same_text n) es ≡ None → lookup (same_text n) (insert es i (n, w)) ≡ Some w) → cond t (Some x.1) (lookup (same_text n) es) ≡ None → cond t (Some x.1) (lookup (same_text n) (insert es i (n, w))) ≡ Some w
+      go true rest g = no_value (sym g)
+      go false rest g = rest g
+
+  pub others_put : (es : List (Key × V)) (n : Key) (w : V) (i : ℕ) (m : Key) → m ≢ n → i ≤ length es → lookup (same_text m) (insert es i (n, w)) ≡ lookup (same_text m) es
+  others_put es n w zero m other le = ap (λ t. cond t (Some w) (lookup (same_text m) es)) (decided m n other)
+  others_put [] n w (suc i) m other le = absurd (omega (arith, le))
+  others_put (x ∷ es) n w (suc i) m other le = ap (cond (same_text m x.0) (Some x.1)) (others_put es n w i m other (omega (arith, le)))
+
+  -- an entry is found by its name
+  pub found_last : (es : List (Key × V)) (n : Key) (v : V) → AreAscending (keys_of (es ++ (n, v) ∷ [])) → lookup (same_text n) (es ++ (n, v) ∷ []) ≡ Some v
+  found_last [] n v a = ap (λ t. cond t (Some v) None) (own n)
+  found_last (x ∷ es) n v a = ap (λ t. cond t (Some x.1) (lookup (same_text n) (es ++ (n, v) ∷ []))) (decided n x.0 (λ e. below_none x.0 (subst (λ k. slice_cmp nat_cmp x.0 k ≡ Less) e (last_above x.0 es n v a)))) ∙ found_last es n v (any x.0 (keys_of (es ++ (n, v) ∷ [])) a)
+    where
+      last_above : (k : Key) (xs : List (Key × V)) (n : Key) (v : V) → AscendFrom k (keys_of (xs ++ (n, v) ∷ [])) → slice_cmp nat_cmp k n ≡ Less
+      last_above k [] n v a = a.0
+      last_above k (y ∷ ys) n v a = nat_list_cmp_total.trans k y.0 n a.0 (last_above y.0 ys n v a.1)
+
+  -- what is so of entries is so of those in front
+  front_ascends_from : (k : Key) (es : List (Key × V)) (x : Key × V) → AscendFrom k (keys_of (es ++ x ∷ [])) → AscendFrom k (keys_of es)
+  front_ascends_from k [] x a = tt
+  front_ascends_from k (e ∷ es) x a = (a.0, front_ascends_from e.0 es x a.1)
+
+  pub front_ascends : (es : List (Key × V)) (x : Key × V) → AreAscending (keys_of (es ++ x ∷ [])) → AreAscending (keys_of es)
+  front_ascends [] x a = tt
+  front_ascends (e ∷ es) x a = front_ascends_from e.0 es x a
+
+  pub all_front : (P : Key × V → Type 0) (es : List (Key × V)) (x : Key × V) → AllByRecursion P (es ++ x ∷ []) → AllByRecursion P es
+  all_front P [] x ps = tt
+  all_front P (e ∷ es) x ps = (ps.0, all_front P es x ps.1)
+
+  pub all_last : (P : Key × V → Type 0) (es : List (Key × V)) (x : Key × V) → AllByRecursion P (es ++ x ∷ []) → P x
+  all_last P [] x ps = ps.0
+  all_last P (e ∷ es) x ps = all_last P es x ps.1

@@ -1,6 +1,8 @@
 -- Containers by name.
 --     found es n             the container of the name
 --     AreInOrder es          the names ascend; each container's history has its name, and its file is that of the name
+--     IsPlace n names i      the name belongs there among the names
+--     IsPut n f es after     the entry came to the others
 --     histories es           the deltas of each name
 --     hosting es             so, of those that have a delta
 --     faults_of c, faults_in es     how often disks have failed
@@ -9,13 +11,14 @@
 --     AreSafe es             so it is for each
 --     HaveRoom room es       there is room for the disk of each
 --     HaveRoomIn room folder es     so it is in the folder, where there is one
-use Rattle.std.specs.Prelude.{◌≡◌, ◌==◌, ℕ, ◌+◌, Bool, true, false, List, [], ◌∷◌, map, Option, Some, None, string_bytes}
-use Rattle.std.specs.Cmp.Lexicographic.{pointwise}
+use Rattle.std.specs.Prelude.{◌≡◌, ◌==◌, ℕ, ◌+◌, ◌≤◌, Bool, true, false, List, [], ◌∷◌, length, insert, map, Option, Some, None, string_bytes}
+use Rattle.std.specs.Cmp.Lexicographic.{pointwise, slice_cmp}
 use Rattle.std.specs.Coded.{IsProp, Coded-set, coded_ℕ, coded_list, coded_bool, ×_prop, Unit-prop}
-use Rattle.std.specs.List.{AllByRecursion, AllByRecursion-prop}
+use Rattle.std.specs.List.{AllByRecursion, AllByRecursion-prop, AllWithin}
 use Rattle.std.specs.Map.{lookup, keys_of}
 use Rattle.std.specs.Option.{option_map}
-use Rattle.std.specs.Ordering.{Ordering-set}
+use Rattle.std.specs.Ordering.{nat_cmp, Ordering-set}
+use Rattle.std.specs.declared.cmp.Ordering.TheVariants.{Less, Greater}
 use Rattle.doc_items.specs.Maps.{Key}
 use Rattle.wavelet_op.specs.Deltas.{DeltaOf}
 use Rattle.delta_history.specs.Copying.{AscendFrom, AreAscending}
@@ -38,6 +41,12 @@ shown_by h (d ∷ ds) hs = h ∷ hs
 abbrev pub shown : List Hosted → List Hosted
 shown [] = []
 shown (h ∷ hs) = shown_by h h.deltas (shown hs)
+
+-- where a new name belongs among others
+pub record IsPlace (n : Key) (keys : List Key) (i : ℕ) : Type 0 where
+  pub inside : i ≤ length keys
+  pub below : AllWithin (λ k. slice_cmp nat_cmp k n ≡ Less) keys 0 i
+  pub above : AllWithin (λ k. slice_cmp nat_cmp k n ≡ Greater) keys i (length keys)
 
 same_key : (n m : Key) → IsProp (n ≡ m)
 same_key n m = Coded-set (coded_list coded_ℕ) n m
@@ -62,6 +71,13 @@ module _ {K : Type 0} {disk : Ghosts K} where
 
   pub AreInOrder-prop : (es : List (Key × Filed K disk)) → IsProp (AreInOrder es)
   AreInOrder-prop es = ×_prop (AreAscending-prop (keys_of es)) (AllByRecursion-prop IsNamed (λ e. ×_prop (same_key _ _) (same_key _ _)) es)
+
+  -- the entry came to the others
+  pub record IsPut (n : Key) (filed : Filed K disk) (es after : List (Key × Filed K disk)) : Type 0 where
+    pub at : ℕ
+    pub place : IsPlace n (keys_of es) at
+    pub absent : lookup (pointwise ◌==◌ n) es ≡ None
+    pub is : after ≡ insert es at (n, filed)
 
   abbrev pub history_at : Key × Filed K disk → Hosted
   history_at e = record { name = e.0; deltas = (history_of e.1.container).deltas }

@@ -1,5 +1,7 @@
 pub mod Entries
 pub mod FileNames
+pub mod Folders
 pub mod Hosting
 pub mod Loads
 pub mod Shelves
+pub mod Steps

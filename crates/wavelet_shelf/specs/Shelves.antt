@@ -2,6 +2,7 @@
 --     in_folder s            its folder
 --     container_in s n       the container of the name
 --     hosted_of s            the histories that have a delta
+--     folder_faults faults o     how often the folder has failed, where there is one
 --     fault_count s          how often its folder and its disks have failed, added; it stays at the greatest u64
 --     IsKept s               over a folder whose disks tell their bytes: each history stands in a journal
 --     IsSettled s            so it does, in its file as that reads and in each image of it, and no repair is pending
@@ -10,7 +11,7 @@
 --     copies_of s n          the history of the name, where it has a delta
 --     outcome_of s n i       the acknowledgement that it keeps for the id
 use Rattle.std.specs.Prelude.{◌≡◌, ◌≢◌, ℕ, ◌+◌, ◌-◌, ◌^◌, min, List, [], ◌∷◌, Bool, Option, Some, None, IsSome, IsTrue}
-use Rattle.std.specs.Option.{option_map_or, option_and_then, option_map}
+use Rattle.std.specs.Option.{option_and_then, option_map}
 use Rattle.doc_items.specs.Maps.{Key}
 use Rattle.wave_base.specs.Versions.{IdOf}
 use Rattle.wavelet_op.specs.Deltas.{DeltaOf}
@@ -40,6 +41,10 @@ shown_copy h = shown_of h h.deltas
 abbrev pub acknowledged : Kept → Verdict
 acknowledged k = Ack k.at k.to
 
+abbrev pub folder_faults : {F : Type 0} → (F → ℕ) → Option F → ℕ
+folder_faults faults None = 0
+folder_faults faults (Some f) = faults f
+
 module _ {F D : Type 0} {folder : folder_of.Ghosts F D} {disk : disk_of.Ghosts D} where
   abbrev pub entries_of : Shelf F D folder disk → List (Key × Filed D disk)
   entries_of s = s.containers.map.entries
@@ -53,8 +58,11 @@ module _ {F D : Type 0} {folder : folder_of.Ghosts F D} {disk : disk_of.Ghosts D
   abbrev pub hosted_of : Shelf F D folder disk → List Hosted
   hosted_of s = hosting (entries_of s)
 
+  abbrev pub folder_count : Option F → ℕ
+  folder_count o = folder_faults folder.faults o
+
   abbrev pub fault_count : Shelf F D folder disk → ℕ
-  fault_count s = min (option_map_or folder.faults (in_folder s) 0 + faults_in (entries_of s)) (2 ^ 64 - 1)
+  fault_count s = min (folder_count (in_folder s) + faults_in (entries_of s)) (2 ^ 64 - 1)
 
   pub record IsKept (s : Shelf F D folder disk) : Type 0 where
     pub told : IsTrue disk.tells

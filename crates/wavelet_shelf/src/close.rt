@@ -1,9 +1,11 @@
 // Shelves that are closed.
-ghost use Rattle.std.specs.Prelude.{◌≡◌, ◌↔◌, ◌-◌, ◌^◌, min, ℕ, List, IsSome, IfSome, IsTrue};
+ghost use Rattle.std.specs.Prelude.{◌≡◌, ◌↔◌, ◌-◌, ◌^◌, min, ℕ, List, [], true, IsSome, IfSome, IsTrue, string_bytes};
 ghost use Rattle.doc_items.specs.Maps.{Key};
 ghost use Rattle.delta_journal.specs.Journal.{on_disk};
 ghost use Rattle.wave_outside.specs.Folders.{IsPutBack};
 ghost use Rattle.wavelet_container.specs.Containers.{journal_of, history_of};
+ghost use Rattle.wavelet_shelf.specs.Entries.{HaveRoom};
+ghost use Rattle.wavelet_shelf.specs.Folders.{IsOneBack, ArePutBack};
 ghost use Rattle.wavelet_shelf.specs.FileNames.{file_name_of};
 ghost use Rattle.wavelet_shelf.specs.Loads.{IsStoredFile};
 ghost use Rattle.wavelet_shelf.specs.Shelves.{in_folder, container_in, fault_count, IsKept, IsSettled, AreApart, HasFile};
@@ -33,14 +35,21 @@ impl<F: Folder + Drop> Shelf<F> {
 }
 
 /// Puts the disks of all containers back into the folder, and takes the containers away.
-pub(crate) fn put_all<F: Folder>(folder: &mut F, containers: &mut Containers<F::Disk>) {
+pub(crate) fn put_all<F: Folder>(folder: &mut F, containers: &mut Containers<F::Disk>)
+    requires room { HaveRoom (F.room folder.old) containers.old.map.entries }
+    ensures back { ArePutBack folder.old folder.new containers.old.map.entries }
+    ensures empty { containers.new.map.entries ≡ [] }
+{
     while let Some(filed) = containers.pop() {
         put_back(folder, filed);
     }
 }
 
 // Puts the disk back, where there is one.
-fn put_back<F: Folder>(folder: &mut F, filed: Filed<F::Disk>) {
+fn put_back<F: Folder>(folder: &mut F, filed: Filed<F::Disk>)
+    requires room { F.room folder.old (string_bytes filed.file) ≡ true }
+    ensures { IsOneBack folder.old folder.new (string_bytes filed.file) filed.container }
+{
     let Filed { file, container } = filed;
     if let Some(disk) = container.close() {
         folder.put(file.as_str(), disk);

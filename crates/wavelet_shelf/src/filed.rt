@@ -1,3 +1,4 @@
+// A container with its file's name.
 use disk_model::Disk;
 use wavelet_container::Container;
 

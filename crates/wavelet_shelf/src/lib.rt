@@ -15,6 +15,7 @@ mod made;
 mod opened;
 mod shelf;
 mod submit;
+mod taking;
 
 pub use fault::ShelfFault;
 pub use file_name::{file_name, shard};

@@ -1,8 +1,11 @@
 // Shelves that are read from their folders.
-ghost use Rattle.std.specs.Prelude.{◌≡◌, ◌≤◌, ℕ, List, [], None, IsSome, IfSome, IsTrue, IfErr, OnOk, OnErr, string_bytes};
+ghost use Rattle.std.specs.Prelude.{◌≡◌, ◌≢◌, ◌≤◌, ℕ, List, [], map, IsSome, IfSome, IsTrue, IfOk, IfErr, OnOk, OnErr, IsErrOf, string_bytes};
 ghost use Rattle.doc_items.specs.Maps.{Key};
+ghost use Rattle.delta_history.specs.Copying.{AreAscending};
 ghost use Rattle.wave_outside.specs.Counts.{Rose};
+ghost use Rattle.wave_outside.specs.Folders.{AreNames, IsSame};
 ghost use Rattle.wavelet_shelf.specs.FileNames.{file_name_of};
+ghost use Rattle.wavelet_shelf.specs.Folders.{is_among};
 ghost use Rattle.wavelet_shelf.specs.Loads.{IsAsBefore, IsReadFrom, IsRefusedFile, HasAll};
 ghost use Rattle.wavelet_shelf.specs.Shelves.{in_folder, entries_of, container_in, hosted_of, fault_count, IsKept, IsSettled, AreApart, HasFile};
 
@@ -11,11 +14,9 @@ use crate::containers::Containers;
 use crate::fault::{fault_in, fault_of};
 use crate::file_name::is_file_name;
 use crate::filed::Filed;
-use crate::opened::{Opened, opened};
+use crate::opened::{Opened, open_file};
 use crate::{Shelf, ShelfFault};
-use doc_items::Memory;
 use std::alloc::Global;
-use std::collections::BTreeSet;
 use wave_outside::Folder;
 
 impl<F: Folder + Drop> Shelf<F> {
@@ -42,7 +43,7 @@ impl<F: Folder + Drop> Shelf<F> {
         let Some(folder) = &mut self.folder else {
             return Ok(());
         };
-        let names = journals(alloc, folder)?;
+        let names = names_of(alloc, folder)?;
         match load_all(alloc, folder, &mut self.containers, &names) {
             Ok(()) => Ok(()),
             Err(fault) => {
@@ -53,29 +54,34 @@ impl<F: Folder + Drop> Shelf<F> {
     }
 }
 
-// The names of the wavelets' files, in byte order, each once.
-fn journals<F: Folder>(alloc: Global, folder: &mut F) -> Result<Vec<String>, ShelfFault> {
+// The names of the files, in byte order, each once.
+fn names_of<F: Folder>(alloc: Global, folder: &mut F) -> Result<Vec<String>, ShelfFault>
+    ensures names { IfOk result (λ v. IsTrue F.Disk.tells → AreNames (F.files folder.old) (map string_bytes v.items)) }
+    ensures distinct { IfOk result (λ v. AreAscending (map string_bytes v.items)) }
+    ensures files { IsTrue F.Disk.tells → IsSame (F.files folder.old) (F.files folder.new) }
+    ensures room { IsSame (F.room folder.old) (F.room folder.new) }
+    ensures later { F.faults folder.old ≤ F.faults folder.new }
+    ensures failed { IsErrOf result ShelfFault.Failed → Rose (F.faults folder.old) (F.faults folder.new) }
+    ensures whole { IfErr result (λ e. (file : String) (offset : ℕ) → e ≢ ShelfFault.Damaged file offset) }
+{
     match folder.names(alloc) {
-        Ok(names) => Ok(sorted(alloc, names)?),
+        Ok(names) => Ok(in_order(names)),
         Err(fault) => Err(fault_of(fault)),
     }
 }
 
-fn sorted(alloc: Global, names: Vec<String>) -> Result<Vec<String>, Memory> {
-    let mut set = BTreeSet::new(alloc);
-    for name in names {
-        if is_file_name(name.as_str()) {
-            set.insert(name)?;
-        }
-    }
-    let mut sorted = Vec::new(alloc);
-    for name in set {
-        sorted.push(name)?;
-    }
-    Ok(sorted)
+// The names in byte order, each once.
+fn in_order(names: Vec<String>) -> Vec<String>
+    ensures ascending { AreAscending (map string_bytes result.items) }
+    ensures same { (m : List ℕ) → is_among (map string_bytes result.items) m ≡ is_among (map string_bytes names.items) m }
+{
+    let mut names = names;
+    names.sort_unstable();
+    names.dedup();
+    names
 }
 
-// Reads the files of these names.
+// Reads the wavelets' files among those of these names.
 fn load_all<F: Folder>(
     alloc: Global,
     folder: &mut F,
@@ -83,7 +89,9 @@ fn load_all<F: Folder>(
     names: &[String],
 ) -> Result<(), ShelfFault> {
     for name in names {
-        load_file(alloc, folder, containers, name.as_str())?;
+        if is_file_name(name.as_str()) {
+            load_file(alloc, folder, containers, name.as_str())?;
+        }
     }
     Ok(())
 }
@@ -101,7 +109,7 @@ fn load_file<F: Folder>(
         Ok(disk) => disk,
         Err(fault) => return Err(fault_of(fault)),
     };
-    match opened(alloc, disk, name) {
+    match open_file(alloc, disk, name) {
         Ok(Opened::Read(key, container)) => {
             containers.put(key, Filed { file, container });
             Ok(())

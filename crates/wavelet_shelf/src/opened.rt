@@ -21,7 +21,7 @@ pub(crate) enum Opened<K: Disk> {
 
 /// What the file of this name, whose disk this is, holds. A refusal hands the disk back: `Damaged` at offset 0 too, where the name in
 /// the header isn't that of this file's wavelet.
-pub(crate) fn opened<K: Disk>(
+pub(crate) fn open_file<K: Disk>(
     alloc: Global,
     disk: K,
     file: &str,
@@ -29,7 +29,7 @@ pub(crate) fn opened<K: Disk>(
     let mut disk = disk;
     match stored_name(alloc, &mut disk) {
         Ok(None) => Ok(Opened::Passed(disk)),
-        Ok(Some(bytes)) => opened_as(alloc, disk, file, &bytes),
+        Ok(Some(bytes)) => open_as(alloc, disk, file, &bytes),
         Err(fault) => Err(LoadRefused {
             disk,
             fault: fault_of(fault),
@@ -38,7 +38,7 @@ pub(crate) fn opened<K: Disk>(
 }
 
 // So it is, where these bytes are the name in its header.
-fn opened_as<K: Disk>(
+fn open_as<K: Disk>(
     alloc: Global,
     disk: K,
     file: &str,

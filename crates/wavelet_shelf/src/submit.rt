@@ -1,14 +1,23 @@
 // Submissions to a shelf.
-ghost use Rattle.std.specs.Prelude.{◌≡◌, ◌≢◌, ◌≤◌, ℕ, IfOk, IfSome, OnOk, OnErr, IsErrOf};
+ghost use Rattle.std.specs.Prelude.{◌≡◌, ◌≢◌, ◌==◌, ◌≤◌, ◌<◌, ℕ, List, [], true, None, IsTrue, IsSome, IfOk, IfSome, OnOk, OnErr, IsErrOf, string_bytes};
+ghost use Rattle.std.specs.Cmp.Lexicographic.{pointwise};
+ghost use Rattle.std.specs.Map.{lookup};
 ghost use Rattle.doc_items.specs.Maps.{Key};
+ghost use Rattle.indexmap.specs.IndexMap.{spare};
 ghost use Rattle.wave_outside.specs.Counts.{Rose};
+ghost use Rattle.wavelet_container.specs.Containers.{history_of, journal_of};
 ghost use Rattle.wavelet_shelf.specs.Entries.{IsSafe};
+ghost use Rattle.wavelet_shelf.specs.FileNames.{file_name_of};
 ghost use Rattle.wavelet_shelf.specs.Hosting.{judged_in, after_submission};
-ghost use Rattle.wavelet_shelf.specs.Shelves.{hosted_of, container_in, fault_count, IsKept, IsSettled};
+ghost use Rattle.wavelet_shelf.specs.Shelves.{entries_of, in_folder, folder_faults, hosted_of, container_in, fault_count, IsKept, IsSettled};
+ghost use Rattle.wavelet_shelf.specs.Steps.{IsHosted, IsStarted, IsTakenFirst};
 
 use crate::Shelf;
 use crate::file_name::file_name;
 use crate::filed::Filed;
+use crate::taking::taken;
+use disk_model::Disk;
+use doc_items::Memory;
 use std::alloc::Global;
 use wave_base::WaveletName;
 use wave_outside::{Folder, FolderFault};
@@ -52,17 +61,24 @@ impl<F: Folder + Drop> Shelf<F> {
         name: &WaveletName,
         submission: &Submission,
         time: u64,
-    ) -> Result<Verdict, SubmitFault> {
-        let mut plain = Container::new(alloc, name.copy(alloc)?);
-        let verdict = plain.submit(alloc, submission, time)?;
+    ) -> Result<Verdict, SubmitFault>
+        requires absent { lookup (pointwise ◌==◌ name.now) (entries_of self.old) ≡ None }
+        ensures { IsHosted name.now submission.now time self.old self.new result }
+    {
+        let mut plain = empty(alloc, name)?;
+        let verdict = taken(alloc, &mut plain, submission, time)?;
         if plain.history().deltas().is_empty() {
             return Ok(verdict);
         }
-        self.host(alloc, name, submission, time, plain, verdict)
+        if self.folder.is_none() {
+            self.keep(alloc, name, submission, time, plain, verdict)
+        } else {
+            self.store(alloc, name, submission, time)
+        }
     }
 
-    // So it is, where the delta is accepted; without a folder this is the container.
-    fn host(
+    // So it is, where there is no folder, and the container answered.
+    fn keep(
         &mut self,
         alloc: Global,
         name: &WaveletName,
@@ -70,25 +86,86 @@ impl<F: Folder + Drop> Shelf<F> {
         time: u64,
         plain: Container<F::Disk>,
         verdict: Verdict,
-    ) -> Result<Verdict, SubmitFault> {
-        let key = name.copy(alloc)?;
-        let file = file_name(alloc, name)?;
-        self.containers.reserve()?;
-        let Some(folder) = &mut self.folder else {
-            self.containers.put(
-                key,
-                Filed {
-                    file,
-                    container: plain,
-                },
-            );
-            return Ok(verdict);
-        };
-        let mut container = started(alloc, folder, file.as_str(), name.copy(alloc)?)?;
-        let answer = container.submit(alloc, submission, time);
+    ) -> Result<Verdict, SubmitFault>
+        requires absent { lookup (pointwise ◌==◌ name.now) (entries_of self.old) ≡ None }
+        requires plain { in_folder self.old ≡ None }
+        requires taken { IsTakenFirst name.now submission.now time plain verdict }
+        ensures { IsHosted name.now submission.now time self.old self.new result }
+    {
+        let (key, file) = self.place(alloc, name)?;
+        self.containers.put(
+            key,
+            Filed {
+                file,
+                container: plain,
+            },
+        );
+        Ok(verdict)
+    }
+
+    // So it is, where there is a folder.
+    fn store(
+        &mut self,
+        alloc: Global,
+        name: &WaveletName,
+        submission: &Submission,
+        time: u64,
+    ) -> Result<Verdict, SubmitFault>
+        requires absent { lookup (pointwise ◌==◌ name.now) (entries_of self.old) ≡ None }
+        requires filed { IsSome (in_folder self.old) }
+        ensures { IsHosted name.now submission.now time self.old self.new result }
+    {
+        let (key, file) = self.place(alloc, name)?;
+        let mut container = self.start(alloc, name, file.as_str())?;
+        let answer = taken(alloc, &mut container, submission, time);
         self.containers.put(key, Filed { file, container });
         answer
     }
+
+    // The name and the file of one more container, for which there is room. The error is want of memory.
+    fn place(&mut self, alloc: Global, name: &WaveletName) -> Result<(WaveletName, String), Memory>
+        ensures key { IfOk result (λ p. p.0 ≡ name.now) }
+        ensures file { IfOk result (λ p. string_bytes p.1 ≡ file_name_of name.now) }
+        ensures room { OnOk result (0 < spare self.new.containers.map) }
+        ensures same { entries_of self.new ≡ entries_of self.old }
+        ensures folder { in_folder self.new ≡ in_folder self.old }
+    {
+        let key = name.copy(alloc)?;
+        let file = file_name(alloc, name)?;
+        self.containers.reserve()?;
+        Ok((key, file))
+    }
+
+    // The empty history over a new file of the folder.
+    fn start(
+        &mut self,
+        alloc: Global,
+        name: &WaveletName,
+        file: &str,
+    ) -> Result<Container<F::Disk>, SubmitFault>
+        requires filed { IsSome (in_folder self.old) }
+        requires file { file.now ≡ file_name_of name.now }
+        ensures started { IfOk result (λ c. IsStarted name.now c) }
+        ensures room { OnOk result (IfSome (in_folder self.new) (λ f. F.room f file.now ≡ true)) }
+        ensures map { self.new.containers.map ≡ self.old.containers.map }
+        ensures filed { IsSome (in_folder self.new) }
+        ensures later { folder_faults F.faults (in_folder self.old) ≤ folder_faults F.faults (in_folder self.new) }
+        ensures failed { IsErrOf result SubmitFault.DiskFault → Rose (folder_faults F.faults (in_folder self.old)) (folder_faults F.faults (in_folder self.new)) }
+    {
+        match &mut self.folder {
+            Some(folder) => started(alloc, folder, file, name),
+            None => Err(SubmitFault::Memory),
+        }
+    }
+}
+
+// The empty history, without a journal. The error is want of memory.
+fn empty<K: Disk>(alloc: Global, name: &WaveletName) -> Result<Container<K>, Memory>
+    ensures name { IfOk result (λ c. (history_of c).name ≡ name.now) }
+    ensures empty { IfOk result (λ c. (history_of c).deltas ≡ []) }
+    ensures plain { IfOk result (λ c. journal_of c ≡ None) }
+{
+    Ok(Container::new(alloc, name.copy(alloc)?))
 }
 
 // The empty history over a new file of the folder.
@@ -96,8 +173,15 @@ fn started<F: Folder>(
     alloc: Global,
     folder: &mut F,
     file: &str,
-    name: WaveletName,
-) -> Result<Container<F::Disk>, SubmitFault> {
+    name: &WaveletName,
+) -> Result<Container<F::Disk>, SubmitFault>
+    ensures started { IfOk result (λ c. IsStarted name.now c) }
+    ensures out { OnOk result (F.room folder.new file.now ≡ true) }
+    ensures room { (m : List ℕ) → F.room folder.old m ≡ true → F.room folder.new m ≡ true }
+    ensures later { F.faults folder.old ≤ F.faults folder.new }
+    ensures failed { IsErrOf result SubmitFault.DiskFault → Rose (F.faults folder.old) (F.faults folder.new) }
+{
+    let name = name.copy(alloc)?;
     match folder.fresh(alloc, file) {
         Ok(disk) => Ok(Container::start(alloc, name, disk)?),
         Err(FolderFault::Failed) => Err(SubmitFault::DiskFault),
