@@ -2,4 +2,10 @@
 #![tactic(auto)]
 
 #[cfg(test)]
-mod stores;
+mod crashes;
+#[cfg(test)]
+mod damage;
+#[cfg(test)]
+mod wavelets;
+#[cfg(test)]
+mod words;

@@ -2,6 +2,10 @@ pub mod Names
 pub mod Growing
 pub mod Placing
 pub mod Sums
+pub mod Among
+pub mod Ascii
+pub mod Headers
 pub mod FileName
 pub mod Taking
 pub mod Shelving
+pub mod Loading

@@ -4,7 +4,7 @@
 --     tied, even              names that are even are equal
 --     below_none, turned              no name is below itself; the order the other way round
 --     lower, any                      what ascends from a name ascends from a lower one, and ascends
-use Rattle.std.proofs.Common.{Less, Equal, Greater, ◌≡◌, ◌≢◌, ℕ, Bool, true, false, List, [], ◌∷◌, refl, sym, ap, subst, ◌∙◌, true≢false}
+use Rattle.std.proofs.Common.{Less, Equal, Greater, ◌≡◌, ◌≢◌, ◌⊎◌, inl, inr, ℕ, Bool, true, false, List, [], ◌∷◌, refl, sym, ap, subst, ◌∙◌, true≢false}
 use Rattle.std.specs.Cmp.Lexicographic.{slice_cmp, bytes_decides}
 use Rattle.std.specs.Ordering.{nat_cmp, is_lt, is_eq, ordering_reverse}
 use Rattle.std.specs.declared.cmp.Ordering.{Ordering}
@@ -54,3 +54,10 @@ even n = go (slice_cmp nat_cmp n n) refl
     go Less e = below_none n e
     go Equal e = e
     go Greater e = below_none n (turned n n ∙ ap ordering_reverse e)
+
+pub same_or_not : (n m : Key) → (n ≡ m) ⊎ (n ≢ m)
+same_or_not n m = go (same_text n m) refl
+  where
+    go : (t : Bool) → same_text n m ≡ t → (n ≡ m) ⊎ (n ≢ m)
+    go true f = inl ((bytes_decides n m).0 f)
+    go false f = inr (λ e. true≢false (sym ((bytes_decides n m).1 e) ∙ f))

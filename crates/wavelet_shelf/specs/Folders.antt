@@ -6,25 +6,32 @@
 --     IsOneBack f g m c          so was that of a container, into the file of this name
 --     IsFileRead f g m es es'    the file was read: its history came to the others, or it stands for none
 --     IsFileBack f g m           it wasn't, and reads as before
+--     faults_with f es           how often the folder and the disks have failed
+--     IsFileStep f g m es es' r  what came of a file
+--     IsAllStep f g es ms r      what came of all
 --     is_among names m           the name is one of them
 --     IsLoading f g es done      of the folder f these files were looked at
-use Rattle.std.specs.Prelude.{◌≡◌, ◌≢◌, ◌⊎◌, ◌+◌, ◌-◌, ◌^◌, min, ℕ, Bool, true, false, List, [], ◌∷◌, Option, Some, None, IsSome, IfSome, IsTrue}
+use Rattle.std.specs.Prelude.{◌≡◌, ◌≢◌, ◌⊎◌, ◌+◌, ◌-◌, ◌^◌, ◌≤◌, min, ℕ, Bool, true, false, List, [], ◌∷◌, Option, Some, None, Result, IsSome, IfSome, IsTrue, IfErr, OnOk, OnErr, IsErrOf}
 use Rattle.std.specs.List.{AllByRecursion, list_any}
 use Rattle.doc_items.specs.Maps.{Key, same_text}
 use Rattle.wave_base.specs.Grammar.{is_wavelet_name}
 use Rattle.wavelet_op.specs.Deltas.{DeltaOf}
 use Rattle.disk_model.specs.declared.disk.Disk as disk_of
-use Rattle.delta_journal.specs.File.{HasNoHeader}
+use Rattle.delta_journal.specs.File.{HasName, HasNoHeader}
 use Rattle.delta_journal.specs.Journal.{on_disk}
+use Rattle.wave_outside.specs.Counts.{Rose}
 use Rattle.wave_outside.specs.Folders.{IsPutBack, IsElsewhere, IsSame}
 use Rattle.wave_outside.specs.declared.folder.Folder as folder_of
 use Rattle.wavelet_container.specs.Containers.{history_of, journal_of, IsHeld}
 use Rattle.wavelet_container.specs.Records.{StandsForHistory}
 use Rattle.wavelet_container.specs.declared.container.Container.{Container}
 use Rattle.wavelet_shelf.specs.Entries.{found, hosting, faults_of, faults_in, HaveRoom, AreHeld, AreSafe, IsSafe, IsNamed, IsPut}
+use Rattle.wavelet_shelf.specs.Faults.{damage_of}
 use Rattle.wavelet_shelf.specs.FileNames.{file_name_of}
 use Rattle.wavelet_shelf.specs.Hosting.{deltas_in}
-use Rattle.wavelet_shelf.specs.Loads.{IsAsBefore, IsReadFrom, IsOwnName}
+use Rattle.wavelet_shelf.specs.Loads.{IsAsBefore, IsReadFrom, IsOwnName, IsRefusedFile}
+use Rattle.wavelet_shelf.specs.declared.fault.ShelfFault.{ShelfFault}
+use Rattle.wavelet_shelf.specs.declared.fault.ShelfFault.TheVariants.{Failed}
 use Rattle.wavelet_shelf.specs.declared.filed.Filed.{Filed}
 
 abbrev pub most_faults : ℕ
@@ -66,6 +73,7 @@ module _ {F D : Type 0} {folder : folder_of.Ghosts F D} {disk : disk_of.Ghosts D
     pub own : IsOwnName name m
     pub named : IsNamed (name, filed)
     pub put : IsPut name filed es es'
+    pub header : IsTrue disk.tells → IfSome (folder.files before m) (λ d. HasName (Some name) (disk.view d).seen)
     pub read : IsTrue disk.tells → IsReadFrom (folder.files before m) filed.container
     pub held : IsTrue disk.tells → IsHeld filed.container
     pub safe : IsTrue disk.tells → IsSafe filed.container
@@ -78,6 +86,16 @@ module _ {F D : Type 0} {folder : folder_of.Ghosts F D} {disk : disk_of.Ghosts D
     pub back : IsTrue disk.tells → IsSome (folder.files before m) → IsAsBefore disk.view (folder.files before m) (folder.files after m)
     pub others : IsTrue disk.tells → IsElsewhere m (folder.files before) (folder.files after)
 
+  abbrev pub faults_with : F → List (Key × Filed D disk) → ℕ
+  faults_with f es = min (folder.faults f + faults_in es) most_faults
+
+  pub record IsFileStep (before after : F) (m : List ℕ) (es es' : List (Key × Filed D disk)) (r : Result (Unit {0}) ShelfFault) : Type 0 where
+    pub read : OnOk r (IsFileRead before after m es es')
+    pub back : OnErr r ((es' ≡ es) × IsFileBack before after m)
+    pub damaged : IfErr r (λ e. IfSome (damage_of e) (λ d. (d.0 ≡ m) × (IsTrue disk.tells → IsRefusedFile disk.view (folder.files before m) m d.1)))
+    pub later : faults_with before es ≤ faults_with after es'
+    pub failed : IsErrOf r Failed → Rose (faults_with before es) (faults_with after es')
+
   -- ---- all files
 
   pub record IsLoading (before after : F) (es : List (Key × Filed D disk)) (done : List (List ℕ)) : Type 0 where
@@ -89,3 +107,9 @@ module _ {F D : Type 0} {folder : folder_of.Ghosts F D} {disk : disk_of.Ghosts D
     pub each : IsTrue disk.tells → (n : Key) (ds : List DeltaOf) → is_wavelet_name n ≡ true → ds ≢ [] → is_among done (file_name_of n) ≡ true → IfSome (folder.files before (file_name_of n)) (λ d. StandsForHistory n ds (disk.view d).seen → deltas_in (hosting es) n ≡ ds)
     pub held : IsTrue disk.tells → AreHeld es
     pub safe : IsTrue disk.tells → AreSafe es
+
+  pub record IsAllStep (before after : F) (es : List (Key × Filed D disk)) (names : List (List ℕ)) (r : Result (Unit {0}) ShelfFault) : Type 0 where
+    pub loading : (done : List (List ℕ)) × IsLoading before after es done × OnOk r (done ≡ names)
+    pub damaged : IfErr r (λ e. IfSome (damage_of e) (λ d. IsTrue disk.tells → IsRefusedFile disk.view (folder.files before d.0) d.0 d.1))
+    pub later : faults_with before [] ≤ faults_with after es
+    pub failed : IsErrOf r Failed → Rose (faults_with before []) (faults_with after es)

@@ -1,4 +1,5 @@
 pub mod Entries
+pub mod Faults
 pub mod FileNames
 pub mod Folders
 pub mod Hosting

@@ -6,20 +6,27 @@
 --     IsRefusedFile view o f k    the file of this name is no journal of a legal history, by what stands at the offset k: its header is
 --                                 no name's; or the name in it is no wavelet's, or that of another file, and k is 0; or it is
 --                                 damaged as a journal of this name
-use Rattle.std.specs.Prelude.{◌≡◌, ◌≢◌, ◌⊎◌, ℕ, List, [], true, Option, Some, None, IfSome}
+--     IsOpened m d o              what is told of the file of this name, whose disk d was
+--     IsUnopened disk m d r       why it wasn't opened
+use Rattle.std.specs.Prelude.{◌≡◌, ◌≢◌, ◌⊎◌, ◌≤◌, ℕ, List, [], true, IsTrue, Option, Some, None, IfSome}
 use Rattle.doc_items.specs.Maps.{Key}
 use Rattle.wave_base.specs.Grammar.{is_wavelet_name}
 use Rattle.wavelet_op.specs.Deltas.{DeltaOf}
-use Rattle.disk_model.specs.Disk.{DiskView, LeavesJust}
+use Rattle.disk_model.specs.Disk.{DiskView, LeavesJust, Rose}
 use Rattle.disk_model.specs.declared.disk.Disk.{Ghosts}
-use Rattle.delta_journal.specs.File.{HasName, HasBrokenHeader}
+use Rattle.delta_journal.specs.File.{HasName, HasNoHeader, HasBrokenHeader}
 use Rattle.delta_journal.specs.Journal.{on_disk, needs_repair}
 use Rattle.delta_journal.specs.declared.journal.Journal.{Journal}
-use Rattle.wavelet_container.specs.Containers.{history_of, journal_of}
+use Rattle.wavelet_container.specs.Containers.{history_of, journal_of, IsHeld}
 use Rattle.wavelet_container.specs.Records.{StandsForHistory, IsDamagedHistory}
 use Rattle.wavelet_container.specs.declared.container.Container.{Container}
+use Rattle.wavelet_container.specs.declared.fault.LoadFault.TheVariants.{Damaged, DiskFault}
+use Rattle.wavelet_container.specs.declared.load.LoadRefused.{LoadRefused}
+use Rattle.wavelet_shelf.specs.Entries.{faults_of, IsSafe}
 use Rattle.wavelet_shelf.specs.FileNames.{file_name_of}
 use Rattle.wavelet_shelf.specs.Hosting.{Hosted, deltas_in}
+use Rattle.wavelet_shelf.specs.declared.opened.Opened.{Opened}
+use Rattle.wavelet_shelf.specs.declared.opened.Opened.TheVariants.{Read, Passed}
 
 pub record ReadsAsBefore (before now : DiskView) : Type 0 where
   pub seen : now.seen ≡ before.seen
@@ -68,3 +75,28 @@ pub record IsReadAs {K : Type 0} {disk : Ghosts K} (file : DiskView) (c : Contai
 abbrev pub IsReadFrom : {K : Type 0} {disk : Ghosts K} → Option K → Container K disk → Type 0
 IsReadFrom None c = ⊥
 IsReadFrom {K} {disk} (Some f) c = IsReadAs (disk.view f) c
+
+-- ---- one file, as its disk is handed out
+
+pub record IsOpenedAs {K : Type 0} {disk : Ghosts K} (m : List ℕ) (file : DiskView) (name : Key) (c : Container K disk) : Type 0 where
+  pub own : IsOwnName name m
+  pub named : (history_of c).name ≡ name
+  pub read : IsTrue disk.tells → IsReadAs file c
+  pub held : IsTrue disk.tells → IsHeld c
+  pub safe : IsTrue disk.tells → IsSafe c
+  pub faults : file.faults ≤ faults_of c
+
+pub record IsPassedAs {K : Type 0} (disk : Ghosts K) (file : DiskView) (k : K) : Type 0 where
+  pub none : IsTrue disk.tells → HasNoHeader file.seen
+  pub as_before : ReadsAsBefore file (disk.view k)
+  pub faults : file.faults ≤ (disk.view k).faults
+
+abbrev pub IsOpened : {K : Type 0} {disk : Ghosts K} → List ℕ → DiskView → Opened K disk → Type 0
+IsOpened m file (Read name c) = IsOpenedAs m file name c
+IsOpened {K} {disk} m file (Passed k) = IsPassedAs disk file k
+
+pub record IsUnopened {K : Type 0} (disk : Ghosts K) (m : List ℕ) (file : DiskView) (r : LoadRefused K) : Type 0 where
+  pub damaged : (offset : ℕ) → r.fault ≡ Damaged offset → IsTrue disk.tells → IsRefused m offset file.seen
+  pub as_before : ReadsAsBefore file (disk.view r.disk)
+  pub faults : file.faults ≤ (disk.view r.disk).faults
+  pub failed : r.fault ≡ DiskFault → Rose file (disk.view r.disk)

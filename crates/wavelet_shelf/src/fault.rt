@@ -1,6 +1,5 @@
+// Why a shelf wasn't loaded.
 use std::alloc::AllocError;
-use wave_outside::FolderFault;
-use wavelet_container::LoadFault;
 
 /// Why a shelf wasn't loaded.
 #[derive(Debug, Drop)]
@@ -21,22 +20,5 @@ impl From<AllocError> for ShelfFault {
 
     fn from(_: AllocError) -> Self {
         ShelfFault::Memory
-    }
-}
-
-/// Why the folder gave nothing, as the shelf tells it.
-pub(crate) fn fault_of(fault: FolderFault) -> ShelfFault {
-    match fault {
-        FolderFault::Failed => ShelfFault::Failed,
-        FolderFault::Memory => ShelfFault::Memory,
-    }
-}
-
-/// Why the file of this name gave no history, as the shelf tells it.
-pub(crate) fn fault_in(file: String, fault: LoadFault) -> ShelfFault {
-    match fault {
-        LoadFault::Damaged { offset } => ShelfFault::Damaged { file, offset },
-        LoadFault::DiskFault => ShelfFault::Failed,
-        LoadFault::Memory => ShelfFault::Memory,
     }
 }

@@ -16,6 +16,7 @@ mod opened;
 mod shelf;
 mod submit;
 mod taking;
+mod telling;
 
 pub use fault::ShelfFault;
 pub use file_name::{file_name, shard};

@@ -1,20 +1,23 @@
 // Shelves that are read from their folders.
 ghost use Rattle.std.specs.Prelude.{◌≡◌, ◌≢◌, ◌≤◌, ℕ, List, [], map, IsSome, IfSome, IsTrue, IfOk, IfErr, OnOk, OnErr, IsErrOf, string_bytes};
+ghost use Rattle.std.specs.List.{AllByRecursion};
 ghost use Rattle.doc_items.specs.Maps.{Key};
 ghost use Rattle.delta_history.specs.Copying.{AreAscending};
 ghost use Rattle.wave_outside.specs.Counts.{Rose};
 ghost use Rattle.wave_outside.specs.Folders.{AreNames, IsSame};
+ghost use Rattle.wavelet_shelf.specs.Entries.{found, HaveRoom};
+ghost use Rattle.wavelet_shelf.specs.Faults.{damage_of};
 ghost use Rattle.wavelet_shelf.specs.FileNames.{file_name_of};
-ghost use Rattle.wavelet_shelf.specs.Folders.{is_among};
+ghost use Rattle.wavelet_shelf.specs.Folders.{is_among, IsFileStep, IsAllStep};
 ghost use Rattle.wavelet_shelf.specs.Loads.{IsAsBefore, IsReadFrom, IsRefusedFile, HasAll};
 ghost use Rattle.wavelet_shelf.specs.Shelves.{in_folder, entries_of, container_in, hosted_of, fault_count, IsKept, IsSettled, AreApart, HasFile};
 
 use crate::close::put_all;
 use crate::containers::Containers;
-use crate::fault::{fault_in, fault_of};
 use crate::file_name::is_file_name;
 use crate::filed::Filed;
 use crate::opened::{Opened, open_file};
+use crate::telling::{fault_in, fault_of};
 use crate::{Shelf, ShelfFault};
 use std::alloc::Global;
 use wave_outside::Folder;
@@ -32,13 +35,13 @@ impl<F: Folder + Drop> Shelf<F> {
         ensures kept { OnOk result (IsTrue F.Disk.tells → IsKept self.new × IsSettled self.new) }
         ensures apart { OnOk result (AreApart self.new) }
 
-        ensures damaged { IfErr result (λ e. (file : String) (offset : ℕ) → e ≡ ShelfFault.Damaged file offset → IsTrue F.Disk.tells → IfSome (in_folder self.old) (λ f. IsRefusedFile F.Disk.view (F.files f (string_bytes file)) (string_bytes file) offset)) }
+        ensures damaged { IfErr result (λ e. IfSome (damage_of e) (λ d. IsTrue F.Disk.tells → IfSome (in_folder self.old) (λ f. IsRefusedFile F.Disk.view (F.files f d.0) d.0 d.1))) }
         ensures none { OnErr result (entries_of self.new ≡ []) }
         ensures as_before { IsTrue F.Disk.tells → IfSome (in_folder self.old) (λ f. IfSome (in_folder self.new) (λ g. (m : List ℕ) → (HasFile self.new m → ⊥) → IsAsBefore F.Disk.view (F.files f m) (F.files g m))) }
 
         ensures folder { IsSome (in_folder self.new) }
         ensures later { fault_count self.old ≤ fault_count self.new }
-        ensures failed { IfErr result (λ e. e ≡ ShelfFault.Failed → Rose (fault_count self.old) (fault_count self.new)) }
+        ensures failed { IsErrOf result ShelfFault.Failed → Rose (fault_count self.old) (fault_count self.new) }
     {
         let Some(folder) = &mut self.folder else {
             return Ok(());
@@ -62,7 +65,7 @@ fn names_of<F: Folder>(alloc: Global, folder: &mut F) -> Result<Vec<String>, She
     ensures room { IsSame (F.room folder.old) (F.room folder.new) }
     ensures later { F.faults folder.old ≤ F.faults folder.new }
     ensures failed { IsErrOf result ShelfFault.Failed → Rose (F.faults folder.old) (F.faults folder.new) }
-    ensures whole { IfErr result (λ e. (file : String) (offset : ℕ) → e ≢ ShelfFault.Damaged file offset) }
+    ensures whole { IfErr result (λ e. damage_of e ≡ None) }
 {
     match folder.names(alloc) {
         Ok(names) => Ok(in_order(names)),
@@ -87,7 +90,14 @@ fn load_all<F: Folder>(
     folder: &mut F,
     containers: &mut Containers<F::Disk>,
     names: &[String],
-) -> Result<(), ShelfFault> {
+) -> Result<(), ShelfFault>
+    requires room { HaveRoom (F.room folder.old) containers.old.map.entries }
+    requires empty { containers.old.map.entries ≡ [] }
+    requires there { IsTrue F.Disk.tells → AllByRecursion (λ n. IsSome (F.files folder.old n)) (map string_bytes names.now) }
+    requires distinct { AreAscending (map string_bytes names.now) }
+    ensures room { HaveRoom (F.room folder.new) containers.new.map.entries }
+    ensures step { IsAllStep folder.old folder.new containers.new.map.entries (map string_bytes names.now) result }
+{
     for name in names {
         if is_file_name(name.as_str()) {
             load_file(alloc, folder, containers, name.as_str())?;
@@ -102,7 +112,13 @@ fn load_file<F: Folder>(
     folder: &mut F,
     containers: &mut Containers<F::Disk>,
     name: &str,
-) -> Result<(), ShelfFault> {
+) -> Result<(), ShelfFault>
+    requires room { HaveRoom (F.room folder.old) containers.old.map.entries }
+    requires there { IsTrue F.Disk.tells → IsSome (F.files folder.old name.now) }
+    requires apart { (n : Key) → IsSome (found containers.old.map.entries n) → name.now ≢ file_name_of n }
+    ensures room { HaveRoom (F.room folder.new) containers.new.map.entries }
+    ensures step { IsFileStep folder.old folder.new name.now containers.old.map.entries containers.new.map.entries result }
+{
     let file = String::from_str(alloc, name)?;
     containers.reserve()?;
     let disk = match folder.file(alloc, name) {

@@ -1,5 +1,9 @@
 // The files of wavelets, as they are opened.
-ghost use Rattle.std.specs.Prelude.{◌≡◌};
+ghost use Rattle.std.specs.Prelude.{◌≡◌, ◌≤◌, ℕ, List, Some, IsTrue, IfOk, IfErr, MatchOption};
+ghost use Rattle.doc_items.specs.Maps.{Key};
+ghost use Rattle.disk_model.specs.Disk.{DiskView};
+ghost use Rattle.delta_journal.specs.File.{HasName};
+ghost use Rattle.wavelet_shelf.specs.Loads.{IsOwnName, IsOpened, IsUnopened};
 
 use crate::file_name::file_name;
 use delta_journal::{JournalFault, stored_name};
@@ -25,7 +29,10 @@ pub(crate) fn open_file<K: Disk>(
     alloc: Global,
     disk: K,
     file: &str,
-) -> Result<Opened<K>, LoadRefused<K>> {
+) -> Result<Opened<K>, LoadRefused<K>>
+    ensures ok { IfOk result (IsOpened file.now (K.view disk)) }
+    ensures err { IfErr result (IsUnopened K.Disk file.now (K.view disk)) }
+{
     let mut disk = disk;
     match stored_name(alloc, &mut disk) {
         Ok(None) => Ok(Opened::Passed(disk)),
@@ -43,7 +50,11 @@ fn open_as<K: Disk>(
     disk: K,
     file: &str,
     bytes: &[u8],
-) -> Result<Opened<K>, LoadRefused<K>> {
+) -> Result<Opened<K>, LoadRefused<K>>
+    requires { IsTrue K.tells → HasName (Some bytes.now) (K.view disk).seen }
+    ensures ok { IfOk result (IsOpened file.now (K.view disk)) }
+    ensures err { IfErr result (IsUnopened K.Disk file.now (K.view disk)) }
+{
     match own_name(alloc, bytes, file) {
         Ok(Some(name)) => read(alloc, disk, name),
         Ok(None) => Err(LoadRefused {
@@ -72,7 +83,9 @@ fn read<K: Disk>(alloc: Global, disk: K, name: WaveletName) -> Result<Opened<K>,
 }
 
 // The name of these bytes, if it is that of a wavelet, and this is the wavelet's file. The error is want of memory.
-fn own_name(alloc: Global, bytes: &[u8], file: &str) -> Result<Option<WaveletName>, Memory> {
+fn own_name(alloc: Global, bytes: &[u8], file: &str) -> Result<Option<WaveletName>, Memory>
+    ensures { IfOk result (λ o. MatchOption o (IsOwnName bytes.now file.now → ⊥) (λ n. (n ≡ bytes.now) × IsOwnName n file.now)) }
+{
     let Ok(text) = str::from_utf8(bytes) else {
         return Ok(None);
     };
@@ -84,7 +97,9 @@ fn own_name(alloc: Global, bytes: &[u8], file: &str) -> Result<Option<WaveletNam
 }
 
 // The name, if this is the wavelet's file.
-fn own(alloc: Global, name: WaveletName, file: &str) -> Result<Option<WaveletName>, Memory> {
+fn own(alloc: Global, name: WaveletName, file: &str) -> Result<Option<WaveletName>, Memory>
+    ensures { IfOk result (λ o. MatchOption o (IsOwnName name file.now → ⊥) (λ n. (n ≡ name) × IsOwnName n file.now)) }
+{
     if file_name(alloc, &name)?.as_str() == file {
         Ok(Some(name))
     } else {
@@ -93,7 +108,10 @@ fn own(alloc: Global, name: WaveletName, file: &str) -> Result<Option<WaveletNam
 }
 
 // Why no name was read, as the container tells it.
-fn fault_of(fault: JournalFault) -> LoadFault {
+fn fault_of(fault: JournalFault) -> LoadFault
+    ensures damaged { (offset : ℕ) → result ≡ LoadFault.Damaged offset → fault ≡ JournalFault.Damaged offset }
+    ensures failed { result ≡ LoadFault.DiskFault → fault ≡ JournalFault.DiskFault }
+{
     match fault {
         JournalFault::Damaged { offset } => LoadFault::Damaged { offset },
         JournalFault::DiskFault => LoadFault::DiskFault,
