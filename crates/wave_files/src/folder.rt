@@ -100,8 +100,6 @@ impl<R: Files<File = File> + Alloc<A = Global> + Clone + Drop> Folder for FileFo
 
     ghost faults = { λ f. f.faults };
 
-    ghost told = { λ told. told };
-
     fn enter(&mut self, alloc: Global, path: &str) -> Result<(), FolderFault> {
         let text = String::from_str(alloc, path)?;
         match create_dir_all(&self.rt, path) {

@@ -148,8 +148,6 @@ impl Folder for MemoryFolder {
 
     ghost faults = { λ f. (folder_calls f).faults.count };
 
-    ghost told = { λ told. told };
-
     fn enter(&mut self, _alloc: Global, _path: &str) -> Result<(), FolderFault> {
         self.calls.make()?;
         Ok(())

@@ -58,6 +58,7 @@ above_apart k (n ∷ names) a = go (same_text k n) refl (above_apart k names (lo
     lower_all : (k n : Key) (names : List Key) → slice_cmp nat_cmp k n ≡ Less → AscendFrom n names → AscendFrom k names
     lower_all k n [] e a = tt
     lower_all k n (m ∷ names) e a = (nat_list_cmp_total.trans k n m e a.0, a.1)
+
     go : (t : Bool) → same_text k n ≡ t → is_among names k ≡ false → t || is_among names k ≡ false
     go true s f = below_none k (subst (λ z. slice_cmp nat_cmp k z ≡ Less) (sym ((bytes_decides k n).0 s)) a.0)
     go false s f = f

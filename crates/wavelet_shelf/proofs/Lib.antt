@@ -6,6 +6,7 @@ pub mod Among
 pub mod Ascii
 pub mod Headers
 pub mod FileName
-pub mod Taking
+pub mod Answering
 pub mod Shelving
+pub mod Sharing
 pub mod Loading

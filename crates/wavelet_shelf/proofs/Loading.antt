@@ -61,8 +61,8 @@ module _ (laws : NamedOnce) (n : Key) (ds : List DeltaOf) (file : List ℕ) (goo
   same_name : (m : Key) → HasName (Some m) file → n ≡ m
   same_name m named = same_Some (laws.one file (Some n) (Some m) header_of named)
 
-module _ {F D : Type 0} {folder : folder_of.Ghosts F D} {disk : disk_of.Ghosts D} where
-  pub begun_loading : (f : F) → IsLoading {folder = folder} {disk = disk} f f [] []
+module _ {F D : Type 0} (folder : folder_of.Ghosts F D) {disk : disk_of.Ghosts D} where
+  pub begun_loading : (f : F) → IsLoading folder {disk = disk} f f [] []
   begun_loading f = record {
     apart = λ n m one other same. absurd (true≢false (sym one));
     among = λ n one. absurd (true≢false (sym one));
@@ -75,7 +75,7 @@ module _ {F D : Type 0} {folder : folder_of.Ghosts F D} {disk : disk_of.Ghosts D
   }
 
   -- one more name, that is no wavelet's file
-  pub passed_over : (f g : F) (es : List (Key × Filed D disk)) (done : List (List ℕ)) (m : List ℕ) → is_file_name m ≡ false → IsLoading f g es done → IsLoading f g es (done ++ m ∷ [])
+  pub passed_over : (f g : F) (es : List (Key × Filed D disk)) (done : List (List ℕ)) (m : List ℕ) → is_file_name m ≡ false → IsLoading folder f g es done → IsLoading folder f g es (done ++ m ∷ [])
   passed_over f g es done m other x = record {
     apart = x.apart;
     among = λ n one. more done m (file_name_of n) (x.among n one);
@@ -90,7 +90,7 @@ module _ {F D : Type 0} {folder : folder_of.Ghosts F D} {disk : disk_of.Ghosts D
     safe = x.safe;
   }
 
-  module _ (f g h : F) (es es' : List (Key × Filed D disk)) (done : List (List ℕ)) (m : List ℕ) (new : is_among done m ≡ false) (x : IsLoading f g es done) where
+  module _ (f g h : F) (es es' : List (Key × Filed D disk)) (done : List (List ℕ)) (m : List ℕ) (new : is_among done m ≡ false) (x : IsLoading folder f g es done) where
     -- a name whose file was looked at before has another file
     not_this : (n : Key) → IsSome (found es n) → file_name_of n ≢ m
     not_this n one is = true≢false (sym (x.among n one) ∙ ap (is_among done) is ∙ new)
@@ -102,9 +102,9 @@ module _ {F D : Type 0} {folder : folder_of.Ghosts F D} {disk : disk_of.Ghosts D
     same_here told = x.untouched told m new
 
     -- a file without a header
-    pub went_past : (laws : NamedOnce) → (IsTrue disk.tells → IsElsewhere m (folder.files g) (folder.files h)) → IsPassed g h m es es' → IsLoading f h es' (done ++ m ∷ [])
+    pub went_past : (laws : NamedOnce) → (IsTrue disk.tells → IsElsewhere m (folder.files g) (folder.files h)) → IsPassed folder g h m es es' → IsLoading folder f h es' (done ++ m ∷ [])
     went_past laws others p =
-        let back : IsLoading f h es (done ++ m ∷ []) = record {
+        let back : IsLoading folder f h es (done ++ m ∷ []) = record {
           apart = x.apart;
           among = λ n one. more done m (file_name_of n) (x.among n one);
           untouched = untouched_on others;
@@ -121,14 +121,14 @@ module _ {F D : Type 0} {folder : folder_of.Ghosts F D} {disk : disk_of.Ghosts D
           held = x.held;
           safe = x.safe;
         } in
-        subst (λ l. IsLoading f h l (done ++ m ∷ [])) (sym p.same) back
+        subst (λ l. IsLoading folder f h l (done ++ m ∷ [])) (sym p.same) back
       where
         headless : (laws : NamedOnce) (n : Key) (ds : List DeltaOf) → is_wavelet_name n ≡ true → ds ≢ [] → (o : Option D) → IfSome o (λ d. HasNoHeader (disk.view d).seen) → IfSome o (λ d. StandsForHistory n ds (disk.view d).seen → deltas_in (hosting es) n ≡ ds)
         headless laws n ds good some None none = tt
         headless laws n ds good some (Some d) none = λ stands. absurd (not_headless laws n ds (disk.view d).seen good some stands none)
 
     -- a file whose history came to the others
-    module _ (p : IsAdded g h m es es') (order : AreInOrder es) (order' : AreInOrder es') where
+    module _ (p : IsAdded folder g h m es es') (order : AreInOrder es) (order' : AreInOrder es') where
       own_file : file_name_of p.name ≡ m
       own_file = p.own.file_is
 
@@ -201,7 +201,7 @@ module _ {F D : Type 0} {folder : folder_of.Ghosts F D} {disk : disk_of.Ghosts D
           let there : StandsForHistory n (deltas_of p.filed) (disk.view d).seen = subst (λ k. StandsForHistory k (deltas_of p.filed) (disk.view d).seen) (p.named.0 ∙ sym is) read.stands in
           ap (deltas_in (hosting es')) is ∙ deltas_new ∙ history_is_one n (disk.view d).seen (deltas_of p.filed) ds (bounded d) there stands
 
-      pub went_on : NamedOnce → (IsTrue disk.tells → (d : D) → length (disk.view d).seen < 2 ^ 64) → (IsTrue disk.tells → IsElsewhere m (folder.files g) (folder.files h)) → IsLoading f h es' (done ++ m ∷ [])
+      pub went_on : NamedOnce → (IsTrue disk.tells → (d : D) → length (disk.view d).seen < 2 ^ 64) → (IsTrue disk.tells → IsElsewhere m (folder.files g) (folder.files h)) → IsLoading folder f h es' (done ++ m ∷ [])
       went_on laws bounded others = record {
         apart = apart_now;
         among = among_now;

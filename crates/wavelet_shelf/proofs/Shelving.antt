@@ -3,16 +3,22 @@
 --     after_first         the name's first container did, and came to the others
 --     after_nothing       nothing was accepted where the name isn't there
 --     after_fault         nothing was answered, and the folder may have failed
-use Rattle.std.proofs.Common.{◌≡◌, ◌≢◌, ℕ, ◌+◌, ◌-◌, ◌^◌, ◌≤◌, min, Bool, List, [], ◌∷◌, ◌++◌, length, insert, Option, Some, None, Ok, Err, IsSome, IfSome, IfOk, OnOk, Result, refl, sym, ap, subst, ◌∙◌, arith, le_refl}
-use Rattle.std.specs.Result.{IsErrOf}
-use Rattle.std.specs.List.{AllByRecursion}
+use Rattle.std.proofs.Common.{◌≡◌, ◌≢◌, ℕ, ◌+◌, ◌-◌, ◌^◌, ◌≤◌, min, Bool, true, List, [], ◌∷◌, ◌++◌, length, insert, Option, Some, None, Ok, Err, IsSome, IfSome, IfOk, OnOk, Result, string_bytes, refl, sym, ap, subst, ◌∙◌, arith, le_refl, append-nil, true≢false}
+use Rattle.std.specs.Result.{IsErrOf, IsOk}
+use Rattle.std.specs.List.{AllByRecursion, position_or_len}
 use Rattle.std.specs.Map.{lookup, keys_of, set_value}
-use Rattle.std.specs.Option.{option_map, option_map_or}
+use Rattle.std.specs.Option.{option_map, option_map_or, option_to_list}
+use Rattle.std.specs.Cmp.Lexicographic.{slice_cmp}
+use Rattle.std.specs.Ordering.{nat_cmp}
+use Rattle.indexmap.specs.Calls.{IsSearchIndex}
+use Rattle.indexmap.specs.IndexMap.{move_index, insert_entry, index_before}
+use Rattle.std.proofs.lemmas.Map.{keys-set_value}
 use Rattle.std.proofs.lemmas.Result.{IfOk-weaker, on_ok_weaker, on_err_weaker}
 use Rattle.doc_items.specs.Maps.{Key, same_text}
 use Rattle.wavelet_op.specs.Deltas.{DeltaOf}
 use Rattle.wavelet_op.specs.declared.delta.Submission.{Submission}
 use Rattle.wavelet_op.specs.declared.verdict.Verdict.{Verdict}
+use Rattle.delta_history.specs.Copying.{AreAscending}
 use Rattle.delta_history.specs.Histories.{HistoryOf, IsSameHistory}
 use Rattle.delta_history.specs.Verdicts.{Judged, judge}
 use Rattle.disk_model.specs.declared.disk.Disk as disk_of
@@ -24,13 +30,15 @@ use Rattle.wavelet_container.specs.Stores.{IsGrownBy}
 use Rattle.wavelet_container.specs.declared.container.Container.{Container}
 use Rattle.wavelet_container.specs.declared.fault.SubmitFault.{SubmitFault}
 use Rattle.wavelet_container.specs.declared.fault.SubmitFault.TheVariants.{DiskFault}
-use Rattle.wavelet_shelf.specs.Entries.{found, shown, hosting, IsNamed, AreInOrder, IsPut, faults_of, faults_in, AreHeld, AreSafe, IsSafe}
+use Rattle.wavelet_shelf.specs.Entries.{found, shown, hosting, IsNamed, AreInOrder, IsPut, faults_of, faults_in, AreHeld, AreSafe, IsSafe, HaveRoom, HaveRoomIn}
+use Rattle.wavelet_shelf.specs.FileNames.{file_name_of}
 use Rattle.wavelet_shelf.specs.Hosting.{Hosted, deltas_in, grown_in, with_added, judged_in, after_submission}
-use Rattle.wavelet_shelf.specs.Shelves.{entries_of, in_folder, container_in, hosted_of, folder_count, fault_count, IsKept, IsSettled}
+use Rattle.wavelet_shelf.specs.Shelves.{entries_of, in_folder, container_in, hosted_of, folder_faults, fault_count, IsKept, IsSettled}
 use Rattle.wavelet_shelf.specs.Steps.{IsTaken, IsAnswered, IsHosted}
 use Rattle.wavelet_shelf.specs.declared.filed.Filed.{Filed}
 use Rattle.wavelet_shelf.specs.declared.shelf.Shelf.{Shelf}
-use Rattle.wavelet_shelf.proofs.Placing.{hist, deltas_hosting, after_set, same_set, after_put, none_put, all_set, all_put, all_found, found_set, others_set, found_put, others_put, length_keys}
+use Rattle.wavelet_shelf.proofs.Answering.{name_after}
+use Rattle.wavelet_shelf.proofs.Placing.{hist, deltas_hosting, after_set, same_set, after_put, none_put, all_set, all_put, all_found, found_set, others_set, found_put, others_put, length_keys, keys_ascend, front_ascends, all_front, place, put_at}
 use Rattle.wavelet_shelf.proofs.Sums.{total, sum_set, sum_has, sum_put, sum_later, sum_rose}
 
 no_cons : {X T : Type 0} {x : X} {xs : List X} → [] ≡ x ∷ xs → T
@@ -59,7 +67,7 @@ same_rose : (f h s t m : ℕ) → t ≡ s → min (f + 1) m ≤ h → min (min (
 same_rose f h s t m e le = omega (arith, e, le)
 
 module _ {K : Type 0} {disk : disk_of.Ghosts K} where
-  abbrev deltas_of : Filed K disk → List DeltaOf
+  abbrev pub deltas_of : Filed K disk → List DeltaOf
   deltas_of f = (history_of f.container).deltas
 
   abbrev count_of : Filed K disk → ℕ
@@ -85,6 +93,11 @@ module _ {K : Type 0} {disk : disk_of.Ghosts K} where
 
     old_name : (history_of old.container).name ≡ n
     old_name = (all_found deltas_of IsNamed es n old order.1 was).0
+
+  -- the name stays
+  taken_name : (s : Submission) (t : ℕ) (c after : Container K disk) (r : Result Verdict SubmitFault) → IsTaken s t c after r → (history_of after).name ≡ (history_of c).name
+  taken_name s t c after (Ok v) x = name_after (history_of c) (history_of after) (judged (history_of c) s t).1 x.grown
+  taken_name s t c after (Err e) x = x.same.name
 
 module _ {F D : Type 0} {folder : folder_of.Ghosts F D} {disk : disk_of.Ghosts D} (a b : Shelf F D folder disk) (n : Key) (s : Submission) (t : ℕ) where
   told_by : (c : Container D disk) → judged (history_of c) s t ≡ judged_in (hosted_of a) n s t → (r : Result Verdict SubmitFault) → IfOk r (λ v. v ≡ (judged (history_of c) s t).0) → IfOk r (λ v. v ≡ (judged_in (hosted_of a) n s t).0)
@@ -114,9 +127,9 @@ module _ {F D : Type 0} {folder : folder_of.Ghosts F D} {disk : disk_of.Ghosts D
         settled = on_ok_weaker r
             (λ safe k settled. subst AreSafe (sym x.is) (all_set deltas_of (λ e. IsSafe e.1.container) es n x.new settled (safe (all_found deltas_of (λ e. IsHeld e.1.container) es n x.old k.held x.was))))
             x.taken.safe;
-        later = sum_later (folder_count (in_folder a)) (folder_count (in_folder b)) (faults_of c) (faults_of x.new.container) (faults_in es) (faults_in (entries_of b)) (2 ^ 64 - 1) sums x.taken.later (subst (λ o. folder_count (in_folder a) ≤ folder_count o) (sym same) (le_refl _));
-        failed = λ e. subst (λ o. Rose (fault_count a) (min (folder_count o + faults_in (entries_of b)) (2 ^ 64 - 1))) (sym same)
-            (sum_rose (folder_count (in_folder a)) (faults_of c) (faults_of x.new.container) (faults_in es) (faults_in (entries_of b)) (2 ^ 64 - 1) sums (subst (λ m. faults_of c ≤ m) (sym (faults_total es)) (sum_has count_of es n x.old x.was)) (x.taken.failed e));
+        later = sum_later (folder_faults folder.faults (in_folder a)) (folder_faults folder.faults (in_folder b)) (faults_of c) (faults_of x.new.container) (faults_in es) (faults_in (entries_of b)) (2 ^ 64 - 1) sums x.taken.later (subst (λ o. folder_faults folder.faults (in_folder a) ≤ folder_faults folder.faults o) (sym same) (le_refl _));
+        failed = λ e. subst (λ o. Rose (fault_count a) (min (folder_faults folder.faults o + faults_in (entries_of b)) (2 ^ 64 - 1))) (sym same)
+            (sum_rose (folder_faults folder.faults (in_folder a)) (faults_of c) (faults_of x.new.container) (faults_in es) (faults_in (entries_of b)) (2 ^ 64 - 1) sums (subst (λ m. faults_of c ≤ m) (sym (faults_total es)) (sum_has count_of es n x.old x.was)) (x.taken.failed e));
       }
 
   -- what is known of the first container of a name
@@ -130,7 +143,7 @@ module _ {F D : Type 0} {folder : folder_of.Ghosts F D} {disk : disk_of.Ghosts D
   put_grown filed c order put empty None same = ap hosting put.is ∙ none_put deltas_of (entries_of a) n filed put.at order.0 put.absent put.place (same.deltas ∙ empty)
   put_grown filed c order put empty (Some d) grown = ap hosting put.is ∙ after_put deltas_of (entries_of a) n filed put.at d order.0 put.absent put.place (grown.deltas ∙ ap (λ ds. ds ++ d ∷ []) empty)
 
-  pub after_first : (r : Result Verdict SubmitFault) (c : Container D disk) (filed : Filed D disk) → AreInOrder (entries_of a) → (IsSome (in_folder a) → IsSome (in_folder b)) → folder_count (in_folder a) ≤ folder_count (in_folder b)
+  pub after_first : (r : Result Verdict SubmitFault) (c : Container D disk) (filed : Filed D disk) → AreInOrder (entries_of a) → (IsSome (in_folder a) → IsSome (in_folder b)) → folder_faults folder.faults (in_folder a) ≤ folder_faults folder.faults (in_folder b)
       → IsFirst c → IsTaken s t c filed.container r → IsPut n filed (entries_of a) (entries_of b) → IsHosted n s t a b r
   after_first r c filed order same counts first taken put =
       let es = entries_of a in
@@ -156,11 +169,11 @@ module _ {F D : Type 0} {folder : folder_of.Ghosts F D} {disk : disk_of.Ghosts D
         settled = on_ok_weaker r
             (λ safe k settled. subst AreSafe (sym put.is) (all_put deltas_of (λ e. IsSafe e.1.container) es put.at (n, filed) inside settled (safe (first.held k))))
             taken.safe;
-        later = first_later (folder_count (in_folder a)) (folder_count (in_folder b)) (faults_of filed.container) (faults_in es) (faults_in (entries_of b)) (2 ^ 64 - 1) sums counts;
-        failed = λ e. first_rose (folder_count (in_folder a)) (folder_count (in_folder b)) (faults_of c) (faults_of filed.container) (faults_in es) (faults_in (entries_of b)) (2 ^ 64 - 1) sums counts first.unfailed (taken.failed e);
+        later = first_later (folder_faults folder.faults (in_folder a)) (folder_faults folder.faults (in_folder b)) (faults_of filed.container) (faults_in es) (faults_in (entries_of b)) (2 ^ 64 - 1) sums counts;
+        failed = λ e. first_rose (folder_faults folder.faults (in_folder a)) (folder_faults folder.faults (in_folder b)) (faults_of c) (faults_of filed.container) (faults_in es) (faults_in (entries_of b)) (2 ^ 64 - 1) sums counts first.unfailed (taken.failed e);
       }
 
-  pub after_fault : (e : SubmitFault) → entries_of b ≡ entries_of a → (IsSome (in_folder a) → IsSome (in_folder b)) → folder_count (in_folder a) ≤ folder_count (in_folder b) → (e ≡ DiskFault → Rose (folder_count (in_folder a)) (folder_count (in_folder b))) → IsHosted n s t a b (Err e)
+  pub after_fault : (e : SubmitFault) → entries_of b ≡ entries_of a → (IsSome (in_folder a) → IsSome (in_folder b)) → folder_faults folder.faults (in_folder a) ≤ folder_faults folder.faults (in_folder b) → (e ≡ DiskFault → Rose (folder_faults folder.faults (in_folder a)) (folder_faults folder.faults (in_folder b))) → IsHosted n s t a b (Err e)
   after_fault e is same counts rose = record {
     verdict = tt;
     grown = tt;
@@ -169,8 +182,8 @@ module _ {F D : Type 0} {folder : folder_of.Ghosts F D} {disk : disk_of.Ghosts D
     kept = λ k. record { told = k.told; filed = same k.filed; held = subst AreHeld (sym is) k.held };
     safe = tt;
     settled = tt;
-    later = same_later (folder_count (in_folder a)) (folder_count (in_folder b)) (faults_in (entries_of a)) (faults_in (entries_of b)) (2 ^ 64 - 1) (ap faults_in is) counts;
-    failed = λ r. same_rose (folder_count (in_folder a)) (folder_count (in_folder b)) (faults_in (entries_of a)) (faults_in (entries_of b)) (2 ^ 64 - 1) (ap faults_in is) (rose (same_Err r));
+    later = same_later (folder_faults folder.faults (in_folder a)) (folder_faults folder.faults (in_folder b)) (faults_in (entries_of a)) (faults_in (entries_of b)) (2 ^ 64 - 1) (ap faults_in is) counts;
+    failed = λ r. same_rose (folder_faults folder.faults (in_folder a)) (folder_faults folder.faults (in_folder b)) (faults_in (entries_of a)) (faults_in (entries_of b)) (2 ^ 64 - 1) (ap faults_in is) (rose (same_Err r));
   }
 
 module _ {F D : Type 0} {folder : folder_of.Ghosts F D} {disk : disk_of.Ghosts D} (a : Shelf F D folder disk) (n : Key) (s : Submission) (t : ℕ) where
@@ -195,3 +208,54 @@ module _ {F D : Type 0} {folder : folder_of.Ghosts F D} {disk : disk_of.Ghosts D
         later = le_refl _;
         failed = λ r. absurd (ok_err r);
       }
+
+-- ---- room for the disks
+
+module _ {F D : Type 0} {disk : disk_of.Ghosts D} (room : F → List ℕ → Bool) where
+  pub room_set : (folder : Option F) (es es' : List (Key × Filed D disk)) (n : Key) (old new : Filed D disk) → lookup (same_text n) es ≡ Some old → es' ≡ set_value (same_text n) es new → HaveRoomIn room folder es → HaveRoomIn room folder es'
+  room_set None es es' n old new was is there = tt
+  room_set (Some f) es es' n old new was is there = subst (HaveRoom (room f)) (sym is) (all_set deltas_of (λ e. room f (file_name_of e.0) ≡ true) es n new there (all_found deltas_of (λ e. room f (file_name_of e.0) ≡ true) es n old there was))
+
+  pub room_put : (folder : Option F) (es es' : List (Key × Filed D disk)) (n : Key) (filed : Filed D disk) → IsPut n filed es es' → IfSome folder (λ f. room f (file_name_of n) ≡ true) → HaveRoomIn room folder es → HaveRoomIn room folder es'
+  room_put None es es' n filed put here there = tt
+  room_put (Some f) es es' n filed put here there = subst (HaveRoom (room f)) (sym put.is) (all_put deltas_of (λ e. room f (file_name_of e.0) ≡ true) es put.at (n, filed) (subst (λ k. put.at ≤ k) (length_keys es) put.place.inside) there here)
+
+  pub room_kept : (f g : F) (es : List (Key × Filed D disk)) → ((m : List ℕ) → room f m ≡ true → room g m ≡ true) → HaveRoom (room f) es → HaveRoom (room g) es
+  room_kept f g [] keeps there = tt
+  room_kept f g (e ∷ es) keeps there = (keeps (file_name_of e.0) there.0, room_kept f g es keeps there.1)
+
+-- ---- their order
+
+module _ {D : Type 0} {disk : disk_of.Ghosts D} where
+  pub order_set : (s : Submission) (t : ℕ) (es es' : List (Key × Filed D disk)) (n : Key) (r : Result Verdict SubmitFault) → IsAnswered n s t es es' r → AreInOrder es → AreInOrder es'
+  order_set s t es es' n r x order =
+      let named = all_found deltas_of IsNamed es n x.old order.1 x.was in
+      subst AreInOrder (sym x.is) (
+        subst AreAscending (sym (keys-set_value (same_text n) es x.new)) order.0,
+        all_set deltas_of IsNamed es n x.new order.1 (taken_name s t x.old.container x.new.container r x.taken ∙ named.0, ap string_bytes x.file ∙ named.1),
+      )
+
+  pub order_put : (es es' : List (Key × Filed D disk)) (n : Key) (filed : Filed D disk) → IsPut n filed es es' → IsNamed (n, filed) → AreInOrder es → AreInOrder es'
+  order_put es es' n filed put named order = subst AreInOrder (sym put.is) (
+    keys_ascend deltas_of es n filed put.at order.0 put.place,
+    all_put deltas_of IsNamed es put.at (n, filed) (subst (λ k. put.at ≤ k) (length_keys es) put.place.inside) order.1 named,
+  )
+
+  pub order_front : (es : List (Key × Filed D disk)) (e : Key × Filed D disk) → AreInOrder (es ++ e ∷ []) → AreInOrder es
+  order_front es e order = (front_ascends es e order.0, all_front IsNamed es e order.1)
+
+  pub order_popped : (es es' : List (Key × Filed D disk)) (o : Option (Key × Filed D disk)) → es ≡ es' ++ option_to_list o → AreInOrder es → AreInOrder es'
+  order_popped es es' None is order = subst AreInOrder (is ∙ append-nil es') order
+  order_popped es es' (Some e) is order = order_front es' e (subst AreInOrder is order)
+
+  -- what `insert_sorted` made of the entries
+  pub put_sorted : {E : Type 0} (es es' : List (Key × Filed D disk)) (n : Key) (filed : Filed D disk) (r : Result (ℕ × Option (Filed D disk)) E) → AreAscending (keys_of es) → lookup (same_text n) es ≡ None → IsOk r
+      → IfOk r (λ p. es' ≡ move_index (insert_entry same_text es n filed) (position_or_len (same_text n) (keys_of es)) p.0)
+      → IfOk r (λ p. (i : ℕ) × IsSearchIndex (λ k. slice_cmp nat_cmp k n) (keys_of es) i × (p.0 ≡ index_before (position_or_len (same_text n) (keys_of es)) i)) → IsPut n filed es es'
+  put_sorted es es' n filed (Ok p) a none yes entries index = record {
+    at = index.0;
+    place = place es n index.0 a none index.1;
+    absent = none;
+    is = entries ∙ put_at es n filed index.0 p.0 none index.1.0 index.2;
+  }
+  put_sorted es es' n filed (Err e) a none yes entries index = absurd (true≢false (sym yes))

@@ -13,7 +13,7 @@
 --     HaveRoomIn room folder es     so it is in the folder, where there is one
 use Rattle.std.specs.Prelude.{◌≡◌, ◌==◌, ℕ, ◌+◌, ◌≤◌, Bool, true, false, List, [], ◌∷◌, length, insert, map, Option, Some, None, string_bytes}
 use Rattle.std.specs.Cmp.Lexicographic.{pointwise, slice_cmp}
-use Rattle.std.specs.Coded.{IsProp, Coded-set, coded_ℕ, coded_list, coded_bool, ×_prop, Unit-prop}
+use Rattle.std.specs.Coded.{Coded-set, coded_ℕ, coded_list, coded_bool, ×_prop, Unit-prop}
 use Rattle.std.specs.List.{AllByRecursion, AllByRecursion-prop, AllWithin}
 use Rattle.std.specs.Map.{lookup, keys_of}
 use Rattle.std.specs.Option.{option_map}

@@ -40,7 +40,11 @@ most_faults = 2 ^ 64 - 1
 abbrev pub is_among : List (List ℕ) → List ℕ → Bool
 is_among names m = list_any (same_text m) names
 
-module _ {F D : Type 0} {folder : folder_of.Ghosts F D} {disk : disk_of.Ghosts D} where
+pub record IsFileBack {F D : Type 0} (folder : folder_of.Ghosts F D) (disk : disk_of.Ghosts D) (before after : F) (m : List ℕ) : Type 0 where
+  pub back : IsTrue disk.tells → IsSome (folder.files before m) → IsAsBefore disk.view (folder.files before m) (folder.files after m)
+  pub others : IsTrue disk.tells → IsElsewhere m (folder.files before) (folder.files after)
+
+module _ {F D : Type 0} (folder : folder_of.Ghosts F D) {disk : disk_of.Ghosts D} where
   abbrev pub IsBack : F → Key × Filed D disk → Type 0
   IsBack f e = IfSome (journal_of e.1.container) (λ j. IsPutBack disk.view (on_disk j) (folder.files f (file_name_of e.0)))
 
@@ -82,16 +86,12 @@ module _ {F D : Type 0} {folder : folder_of.Ghosts F D} {disk : disk_of.Ghosts D
     pub what : IsPassed before after m es es' ⊎ IsAdded before after m es es'
     pub others : IsTrue disk.tells → IsElsewhere m (folder.files before) (folder.files after)
 
-  pub record IsFileBack (before after : F) (m : List ℕ) : Type 0 where
-    pub back : IsTrue disk.tells → IsSome (folder.files before m) → IsAsBefore disk.view (folder.files before m) (folder.files after m)
-    pub others : IsTrue disk.tells → IsElsewhere m (folder.files before) (folder.files after)
-
   abbrev pub faults_with : F → List (Key × Filed D disk) → ℕ
   faults_with f es = min (folder.faults f + faults_in es) most_faults
 
   pub record IsFileStep (before after : F) (m : List ℕ) (es es' : List (Key × Filed D disk)) (r : Result (Unit {0}) ShelfFault) : Type 0 where
     pub read : OnOk r (IsFileRead before after m es es')
-    pub back : OnErr r ((es' ≡ es) × IsFileBack before after m)
+    pub back : OnErr r ((es' ≡ es) × IsFileBack folder disk before after m)
     pub damaged : IfErr r (λ e. IfSome (damage_of e) (λ d. (d.0 ≡ m) × (IsTrue disk.tells → IsRefusedFile disk.view (folder.files before m) m d.1)))
     pub later : faults_with before es ≤ faults_with after es'
     pub failed : IsErrOf r Failed → Rose (faults_with before es) (faults_with after es')

@@ -58,11 +58,8 @@ module _ {F D : Type 0} {folder : folder_of.Ghosts F D} {disk : disk_of.Ghosts D
   abbrev pub hosted_of : Shelf F D folder disk → List Hosted
   hosted_of s = hosting (entries_of s)
 
-  abbrev pub folder_count : Option F → ℕ
-  folder_count o = folder_faults folder.faults o
-
   abbrev pub fault_count : Shelf F D folder disk → ℕ
-  fault_count s = min (folder_count (in_folder s) + faults_in (entries_of s)) (2 ^ 64 - 1)
+  fault_count s = min (folder_faults folder.faults (in_folder s) + faults_in (entries_of s)) (2 ^ 64 - 1)
 
   pub record IsKept (s : Shelf F D folder disk) : Type 0 where
     pub told : IsTrue disk.tells

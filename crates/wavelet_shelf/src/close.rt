@@ -37,7 +37,7 @@ impl<F: Folder + Drop> Shelf<F> {
 /// Puts the disks of all containers back into the folder, and takes the containers away.
 pub(crate) fn put_all<F: Folder>(folder: &mut F, containers: &mut Containers<F::Disk>)
     requires room { HaveRoom (F.room folder.old) containers.old.map.entries }
-    ensures back { ArePutBack folder.old folder.new containers.old.map.entries }
+    ensures back { ArePutBack F.Folder folder.old folder.new containers.old.map.entries }
     ensures empty { containers.new.map.entries ≡ [] }
 {
     while let Some(filed) = containers.pop() {
@@ -48,7 +48,7 @@ pub(crate) fn put_all<F: Folder>(folder: &mut F, containers: &mut Containers<F::
 // Puts the disk back, where there is one.
 fn put_back<F: Folder>(folder: &mut F, filed: Filed<F::Disk>)
     requires room { F.room folder.old (string_bytes filed.file) ≡ true }
-    ensures { IsOneBack folder.old folder.new (string_bytes filed.file) filed.container }
+    ensures { IsOneBack F.Folder folder.old folder.new (string_bytes filed.file) filed.container }
 {
     let Filed { file, container } = filed;
     if let Some(disk) = container.close() {

@@ -34,13 +34,15 @@ impl<F: Folder> Copies for Shelf<F> {
 
     fn hosted(&self, place: u64) -> Option<&WaveletName> {
         let mut left = place;
-        for (name, filed) in self.containers.map.iter() {
+        let mut rest = self.containers.map.as_slice();
+        while let Some(((name, filed), more)) = rest.split_first() {
             if !filed.container.history().deltas().is_empty() {
                 if left == 0 {
                     return Some(name);
                 }
                 left -= 1;
             }
+            rest = more;
         }
         None
     }

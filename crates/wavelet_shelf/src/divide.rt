@@ -6,7 +6,7 @@ ghost use Rattle.wavelet_shelf.specs.Shelves.{in_folder, container_in, hosted_of
 
 use crate::Shelf;
 use crate::containers::Containers;
-use crate::file_name::shard;
+use crate::journal_name::shard;
 use doc_items::Memory;
 use std::alloc::{AllocError, Global};
 use wave_outside::{Folder, FolderFault};

@@ -1,5 +1,5 @@
 // What is done with containers by name.
-ghost use Rattle.std.specs.Prelude.{◌≡◌, ◌==◌, ◌<◌, ◌++◌, ◌∷◌, [], None, IfNone, IfSome, OnOk};
+ghost use Rattle.std.specs.Prelude.{◌≡◌, ◌==◌, ◌<◌, ◌++◌, ◌∷◌, [], true, None, is_some, IfNone, IfSome, OnOk};
 ghost use Rattle.std.specs.Cmp.Lexicographic.{pointwise};
 ghost use Rattle.std.specs.Map.{lookup};
 ghost use Rattle.doc_items.specs.Maps.{Key};
@@ -28,21 +28,27 @@ impl<K: Disk + Drop> Containers<K> {
         }
     }
 
-    /// The verdict of the container of this name; None where there is none.
+    /// Whether the name is there.
+    pub fn has(&self, name: &WaveletName) -> bool
+        ensures { result ≡ is_some (lookup (pointwise ◌==◌ name.now) self.now.map.entries) }
+    {
+        self.map.contains_key(name)
+    }
+
+    /// The verdict of the container of this name.
     pub fn submit(
         &mut self,
         alloc: Global,
         name: &WaveletName,
         submission: &Submission,
         time: u64,
-    ) -> Option<Result<Verdict, SubmitFault>>
-        ensures absent { IfNone result (lookup (pointwise ◌==◌ name.now) self.old.map.entries ≡ None) }
-        ensures same { IfNone result (self.new.map.entries ≡ self.old.map.entries) }
-        ensures answered { IfSome result (IsAnswered name.now submission.now time self.old.map.entries self.new.map.entries) }
+    ) -> Result<Verdict, SubmitFault>
+        requires { is_some (lookup (pointwise ◌==◌ name.now) self.old.map.entries) ≡ true }
+        ensures { IsAnswered name.now submission.now time self.old.map.entries self.new.map.entries result }
     {
         match self.map.get_mut(name) {
-            Some(filed) => Some(taken(alloc, &mut filed.container, submission, time)),
-            None => None,
+            Some(filed) => taken(alloc, &mut filed.container, submission, time),
+            None => unreachable!(),
         }
     }
 

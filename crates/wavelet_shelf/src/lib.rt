@@ -6,8 +6,8 @@ mod containers;
 mod copies;
 mod divide;
 mod fault;
-mod file_name;
 mod filed;
+mod journal_name;
 mod keeping;
 mod laws;
 mod load;
@@ -19,6 +19,6 @@ mod taking;
 mod telling;
 
 pub use fault::ShelfFault;
-pub use file_name::{file_name, shard};
+pub use journal_name::{file_name, shard};
 pub use laws::hosting_grows_alone;
 pub use shelf::Shelf;

@@ -14,8 +14,8 @@ ghost use Rattle.wavelet_shelf.specs.Shelves.{in_folder, entries_of, container_i
 
 use crate::close::put_all;
 use crate::containers::Containers;
-use crate::file_name::is_file_name;
 use crate::filed::Filed;
+use crate::journal_name::is_file_name;
 use crate::opened::{Opened, open_file};
 use crate::telling::{fault_in, fault_of};
 use crate::{Shelf, ShelfFault};
@@ -96,7 +96,7 @@ fn load_all<F: Folder>(
     requires there { IsTrue F.Disk.tells → AllByRecursion (λ n. IsSome (F.files folder.old n)) (map string_bytes names.now) }
     requires distinct { AreAscending (map string_bytes names.now) }
     ensures room { HaveRoom (F.room folder.new) containers.new.map.entries }
-    ensures step { IsAllStep folder.old folder.new containers.new.map.entries (map string_bytes names.now) result }
+    ensures step { IsAllStep F.Folder folder.old folder.new containers.new.map.entries (map string_bytes names.now) result }
 {
     for name in names {
         if is_file_name(name.as_str()) {
@@ -117,7 +117,7 @@ fn load_file<F: Folder>(
     requires there { IsTrue F.Disk.tells → IsSome (F.files folder.old name.now) }
     requires apart { (n : Key) → IsSome (found containers.old.map.entries n) → name.now ≢ file_name_of n }
     ensures room { HaveRoom (F.room folder.new) containers.new.map.entries }
-    ensures step { IsFileStep folder.old folder.new name.now containers.old.map.entries containers.new.map.entries result }
+    ensures step { IsFileStep F.Folder folder.old folder.new name.now containers.old.map.entries containers.new.map.entries result }
 {
     let file = String::from_str(alloc, name)?;
     containers.reserve()?;

@@ -5,7 +5,7 @@ ghost use Rattle.disk_model.specs.Disk.{DiskView};
 ghost use Rattle.delta_journal.specs.File.{HasName};
 ghost use Rattle.wavelet_shelf.specs.Loads.{IsOwnName, IsOpened, IsUnopened};
 
-use crate::file_name::file_name;
+use crate::journal_name::file_name;
 use delta_journal::{JournalFault, stored_name};
 use disk_model::Disk;
 use doc_items::Memory;

@@ -1,5 +1,5 @@
 // Submissions to a shelf.
-ghost use Rattle.std.specs.Prelude.{◌≡◌, ◌≢◌, ◌==◌, ◌≤◌, ◌<◌, ℕ, List, [], true, None, IsTrue, IsSome, IfOk, IfSome, OnOk, OnErr, IsErrOf, string_bytes};
+ghost use Rattle.std.specs.Prelude.{◌≡◌, ◌≢◌, ◌==◌, ◌≤◌, ◌<◌, ℕ, List, [], true, false, None, is_some, IsTrue, IsSome, IfOk, IfSome, OnOk, OnErr, IsErrOf, string_bytes};
 ghost use Rattle.std.specs.Cmp.Lexicographic.{pointwise};
 ghost use Rattle.std.specs.Map.{lookup};
 ghost use Rattle.doc_items.specs.Maps.{Key};
@@ -13,8 +13,8 @@ ghost use Rattle.wavelet_shelf.specs.Shelves.{entries_of, in_folder, folder_faul
 ghost use Rattle.wavelet_shelf.specs.Steps.{IsHosted, IsStarted, IsTakenFirst};
 
 use crate::Shelf;
-use crate::file_name::file_name;
 use crate::filed::Filed;
+use crate::journal_name::file_name;
 use crate::taking::taken;
 use disk_model::Disk;
 use doc_items::Memory;
@@ -48,9 +48,23 @@ impl<F: Folder + Drop> Shelf<F> {
         ensures later { fault_count self.old ≤ fault_count self.new }
         ensures failed { IsErrOf result SubmitFault.DiskFault → Rose (fault_count self.old) (fault_count self.new) }
     {
-        match self.containers.submit(alloc, name, submission, time) {
-            Some(answer) => answer,
-            None => self.submit_first(alloc, name, submission, time),
+        self.answer(alloc, name, submission, time)
+    }
+
+    // So it is, in one fact.
+    fn answer(
+        &mut self,
+        alloc: Global,
+        name: &WaveletName,
+        submission: &Submission,
+        time: u64,
+    ) -> Result<Verdict, SubmitFault>
+        ensures { IsHosted name.now submission.now time self.old self.new result }
+    {
+        if self.containers.has(name) {
+            self.containers.submit(alloc, name, submission, time)
+        } else {
+            self.submit_first(alloc, name, submission, time)
         }
     }
 
@@ -62,7 +76,7 @@ impl<F: Folder + Drop> Shelf<F> {
         submission: &Submission,
         time: u64,
     ) -> Result<Verdict, SubmitFault>
-        requires absent { lookup (pointwise ◌==◌ name.now) (entries_of self.old) ≡ None }
+        requires absent { is_some (lookup (pointwise ◌==◌ name.now) (entries_of self.old)) ≡ false }
         ensures { IsHosted name.now submission.now time self.old self.new result }
     {
         let mut plain = empty(alloc, name)?;
@@ -87,7 +101,7 @@ impl<F: Folder + Drop> Shelf<F> {
         plain: Container<F::Disk>,
         verdict: Verdict,
     ) -> Result<Verdict, SubmitFault>
-        requires absent { lookup (pointwise ◌==◌ name.now) (entries_of self.old) ≡ None }
+        requires absent { is_some (lookup (pointwise ◌==◌ name.now) (entries_of self.old)) ≡ false }
         requires plain { in_folder self.old ≡ None }
         requires taken { IsTakenFirst name.now submission.now time plain verdict }
         ensures { IsHosted name.now submission.now time self.old self.new result }
@@ -111,7 +125,7 @@ impl<F: Folder + Drop> Shelf<F> {
         submission: &Submission,
         time: u64,
     ) -> Result<Verdict, SubmitFault>
-        requires absent { lookup (pointwise ◌==◌ name.now) (entries_of self.old) ≡ None }
+        requires absent { is_some (lookup (pointwise ◌==◌ name.now) (entries_of self.old)) ≡ false }
         requires filed { IsSome (in_folder self.old) }
         ensures { IsHosted name.now submission.now time self.old self.new result }
     {

@@ -1,11 +1,11 @@
 use Rattle.std.proofs.lemmas.Result.{on_ok_weaker}
-use Rattle.wavelet_shelf.proofs.Taking.{held_after, safe_after, faults_later, faults_rose}
+use Rattle.wavelet_shelf.proofs.Answering.{held_after, safe_after, faults_later, faults_rose}
 use Rattle.wavelet_shelf.proofs.taking.taken.Goals as goal
 
 pub returns : goal.returns
 returns g c =
     let old = c.args.container.now in
-    let new = c.submit.new.container in
+    let new = c.submit.new.self in
     record {
       verdict = c.submit.ensures.verdict;
       grown = c.submit.ensures.grown;

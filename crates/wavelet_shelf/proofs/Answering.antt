@@ -30,7 +30,7 @@ module _ {K : Type 0} {disk : Ghosts K} where
   held_from : (g h : HistoryOf) (o p : Option (Journal K disk)) → OfBoth o p (λ i j. IsStored g i → IsStored h j) → (j : Journal K disk) → o ≡ Some j → IsStored g j → (k : Journal K disk) × (p ≡ Some k) × IsStored h k
   held_from g h None p both j e s = no_value e
   held_from g h (Some i) None both j e s = absurd both
-  held_from g h (Some i) (Some k) both j e s = (k, (refl, both (subst (IsStored g) (sym (same_Some e)) s)))
+  held_from g h (Some i) (Some k) both j e s = (k, refl, both (subst (IsStored g) (sym (same_Some e)) s))
 
   pub held_after : (c after : Container K disk) → OfBoth (journal_of c) (journal_of after) (λ i j. IsStored (history_of c) i → IsStored (history_of after) j) → IsHeld c → IsHeld after
   held_after c after both held = held_from (history_of c) (history_of after) (journal_of c) (journal_of after) both held.0 held.1 held.2

@@ -1,5 +1,6 @@
 // The names of journal files.
 ghost use Rattle.std.specs.Prelude.{◌≡◌, IfOk, string_bytes};
+ghost use Rattle.std.specs.List.{list_all};
 ghost use Rattle.wavelet_shelf.specs.FileNames.{file_name_of, is_digit, is_file_name, shard_of};
 
 use doc_items::Memory;

@@ -1,0 +1,1 @@
+use Rattle.wavelet_shelf.proofs.shelf.Shelf.answer.Goals as goal
