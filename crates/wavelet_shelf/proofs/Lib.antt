@@ -9,4 +9,6 @@ pub mod FileName
 pub mod Answering
 pub mod Shelving
 pub mod Sharing
+pub mod Returning
 pub mod Loading
+pub mod Refusing

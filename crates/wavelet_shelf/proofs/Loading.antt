@@ -22,7 +22,7 @@ use Rattle.wavelet_container.specs.declared.container.Container.{Container}
 use Rattle.wavelet_container.proofs.Loaded.{history_is_one}
 use Rattle.wavelet_shelf.specs.Entries.{found, hosting, AreInOrder, AreHeld, AreSafe, IsSafe, IsPut}
 use Rattle.wavelet_shelf.specs.FileNames.{file_name_of, is_file_name}
-use Rattle.wavelet_shelf.specs.Folders.{is_among, IsPassed, IsAdded, IsFileRead, IsFileBack, IsLoading}
+use Rattle.wavelet_shelf.specs.Folders.{is_among, IsPassed, IsAdded, IsFileRead, IsFileBack, IsLooked, IsLoading}
 use Rattle.wavelet_shelf.specs.Hosting.{deltas_in}
 use Rattle.wavelet_shelf.specs.Loads.{ReadsAsBefore, IsAsBefore, IsReadFrom}
 use Rattle.wavelet_shelf.specs.declared.filed.Filed.{Filed}
@@ -64,33 +64,40 @@ module _ (laws : NamedOnce) (n : Key) (ds : List DeltaOf) (file : List ℕ) (goo
 module _ {F D : Type 0} (folder : folder_of.Ghosts F D) {disk : disk_of.Ghosts D} where
   pub begun_loading : (f : F) → IsLoading folder {disk = disk} f f [] []
   begun_loading f = record {
-    apart = λ n m one other same. absurd (true≢false (sym one));
-    among = λ n one. absurd (true≢false (sym one));
-    untouched = λ told m not. refl;
-    as_before = λ told m not. as_it_is disk.view (folder.files f m);
-    read = λ told n. tt;
+    looked = record {
+      apart = λ n m one other same. absurd (true≢false (sym one));
+      among = λ n one. absurd (true≢false (sym one));
+      untouched = λ told m not. refl;
+      as_before = λ told m not. as_it_is disk.view (folder.files f m);
+      read = λ told n. tt;
+      held = λ told. tt;
+      safe = λ told. tt;
+    };
     each = λ told n ds good some among. absurd (true≢false (sym among));
-    held = λ told. tt;
-    safe = λ told. tt;
   }
 
   -- one more name, that is no wavelet's file
   pub passed_over : (f g : F) (es : List (Key × Filed D disk)) (done : List (List ℕ)) (m : List ℕ) → is_file_name m ≡ false → IsLoading folder f g es done → IsLoading folder f g es (done ++ m ∷ [])
   passed_over f g es done m other x = record {
-    apart = x.apart;
-    among = λ n one. more done m (file_name_of n) (x.among n one);
-    untouched = λ told k not. x.untouched told k (neither done m k not).0;
-    as_before = x.as_before;
-    read = x.read;
+    looked = record {
+      apart = x.looked.apart;
+      among = λ n one. more done m (file_name_of n) (x.looked.among n one);
+      untouched = λ told k not. x.looked.untouched told k (neither done m k not).0;
+      as_before = x.looked.as_before;
+      read = x.looked.read;
+      held = x.looked.held;
+      safe = x.looked.safe;
+    };
     each = λ told n ds good some among. ⊎_elim
         (λ before. x.each told n ds good some before)
         (λ is. absurd (true≢false (sym (own_form n) ∙ ap is_file_name is ∙ other)))
         (split done m (file_name_of n) among);
-    held = x.held;
-    safe = x.safe;
   }
 
-  module _ (f g h : F) (es es' : List (Key × Filed D disk)) (done : List (List ℕ)) (m : List ℕ) (new : is_among done m ≡ false) (x : IsLoading folder f g es done) where
+  module _ (f g h : F) (es es' : List (Key × Filed D disk)) (done : List (List ℕ)) (m : List ℕ) (new : is_among done m ≡ false) (y : IsLoading folder f g es done) where
+    x : IsLooked folder f g es done
+    x = y.looked
+
     -- a name whose file was looked at before has another file
     not_this : (n : Key) → IsSome (found es n) → file_name_of n ≢ m
     not_this n one is = true≢false (sym (x.among n one) ∙ ap (is_among done) is ∙ new)
@@ -101,25 +108,35 @@ module _ {F D : Type 0} (folder : folder_of.Ghosts F D) {disk : disk_of.Ghosts D
     same_here : IsTrue disk.tells → folder.files g m ≡ folder.files f m
     same_here told = x.untouched told m new
 
-    -- a file without a header
+    -- the file reads as before, and no history came of it
+    looked_at : (IsTrue disk.tells → IsElsewhere m (folder.files g) (folder.files h)) → (IsTrue disk.tells → IsAsBefore disk.view (folder.files g m) (folder.files h m)) → IsLooked folder f h es (done ++ m ∷ [])
+    looked_at others back = record {
+      apart = x.apart;
+      among = λ n one. more done m (file_name_of n) (x.among n one);
+      untouched = untouched_on others;
+      as_before = λ told k not. ⊎_elim
+          (λ here. subst (λ l. IsAsBefore disk.view (folder.files f l) (folder.files h l)) (sym here) (subst (λ o. IsAsBefore disk.view o (folder.files h m)) (same_here told) (back told)))
+          (λ there. subst (IsAsBefore disk.view (folder.files f k)) (sym (others told k there)) (x.as_before told k not))
+          (same_or_not k m);
+      read = x.read;
+      held = x.held;
+      safe = x.safe;
+    }
+
+    -- it wasn't read
+    pub came_back : es' ≡ es → (IsTrue disk.tells → IsSome (folder.files g m)) → IsFileBack folder disk g h m → IsLooked folder f h es' (done ++ m ∷ [])
+    came_back is there back = subst (λ l. IsLooked folder f h l (done ++ m ∷ [])) (sym is) (looked_at back.others (λ told. back.back told (there told)))
+
+    -- it has no header
     pub went_past : (laws : NamedOnce) → (IsTrue disk.tells → IsElsewhere m (folder.files g) (folder.files h)) → IsPassed folder g h m es es' → IsLoading folder f h es' (done ++ m ∷ [])
     went_past laws others p =
         let back : IsLoading folder f h es (done ++ m ∷ []) = record {
-          apart = x.apart;
-          among = λ n one. more done m (file_name_of n) (x.among n one);
-          untouched = untouched_on others;
-          as_before = λ told k not. ⊎_elim
-              (λ here. subst (λ l. IsAsBefore disk.view (folder.files f l) (folder.files h l)) (sym here) (subst (λ o. IsAsBefore disk.view o (folder.files h m)) (same_here told) (p.back told)))
-              (λ there. subst (IsAsBefore disk.view (folder.files f k)) (sym (others told k there)) (x.as_before told k not))
-              (same_or_not k m);
-          read = x.read;
+          looked = looked_at others p.back;
           each = λ told n ds good some among. ⊎_elim
-              (λ before. x.each told n ds good some before)
+              (λ before. y.each told n ds good some before)
               (λ is. subst (λ l. IfSome (folder.files f l) (λ d. StandsForHistory n ds (disk.view d).seen → deltas_in (hosting es) n ≡ ds)) (sym is)
               (headless laws n ds good some (folder.files f m) (subst (λ o. IfSome o (λ d. HasNoHeader (disk.view d).seen)) (same_here told) (p.file told))))
               (split done m (file_name_of n) among);
-          held = x.held;
-          safe = x.safe;
         } in
         subst (λ l. IsLoading folder f h l (done ++ m ∷ [])) (sym p.same) back
       where
@@ -203,20 +220,22 @@ module _ {F D : Type 0} (folder : folder_of.Ghosts F D) {disk : disk_of.Ghosts D
 
       pub went_on : NamedOnce → (IsTrue disk.tells → (d : D) → length (disk.view d).seen < 2 ^ 64) → (IsTrue disk.tells → IsElsewhere m (folder.files g) (folder.files h)) → IsLoading folder f h es' (done ++ m ∷ [])
       went_on laws bounded others = record {
-        apart = apart_now;
-        among = among_now;
-        untouched = untouched_on others;
-        as_before = as_before_now others;
-        read = read_now;
+        looked = record {
+          apart = apart_now;
+          among = among_now;
+          untouched = untouched_on others;
+          as_before = as_before_now others;
+          read = read_now;
+          held = λ told. subst AreHeld (sym p.put.is) (all_put deltas_of (λ e. IsHeld e.1.container) es p.put.at (p.name, p.filed) inside (x.held told) (p.held told));
+          safe = λ told. subst AreSafe (sym p.put.is) (all_put deltas_of (λ e. IsSafe e.1.container) es p.put.at (p.name, p.filed) inside (x.safe told) (p.safe told));
+        };
         each = λ told n ds good some among. ⊎_elim
             (λ before. subst (λ (v : List DeltaOf). IfSome (folder.files f (file_name_of n)) (λ d. StandsForHistory n ds (disk.view d).seen → v ≡ ds))
             (sym (deltas_same n (λ is. true≢false (sym before ∙ ap (is_among done) (ap file_name_of is ∙ own_file) ∙ new))))
-            (x.each told n ds good some before))
+            (y.each told n ds good some before))
             (λ is. subst (λ l. IfSome (folder.files f l) (λ d. StandsForHistory n ds (disk.view d).seen → deltas_in (hosting es') n ≡ ds)) (sym is)
             (each_new laws (bounded told) n ds good some (folder.files f m)
             (subst (λ o. IfSome o (λ d. HasName (Some p.name) (disk.view d).seen)) (same_here told) (p.header told))
             (subst (λ o. IsReadFrom o p.filed.container) (same_here told) (p.read told))))
             (split done m (file_name_of n) among);
-        held = λ told. subst AreHeld (sym p.put.is) (all_put deltas_of (λ e. IsHeld e.1.container) es p.put.at (p.name, p.filed) inside (x.held told) (p.held told));
-        safe = λ told. subst AreSafe (sym p.put.is) (all_put deltas_of (λ e. IsSafe e.1.container) es p.put.at (p.name, p.filed) inside (x.safe told) (p.safe told));
       }

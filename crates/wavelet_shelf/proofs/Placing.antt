@@ -50,7 +50,7 @@ module _ {V : Type 0} (f : V → List DeltaOf) where
   hist_ascends es a = subst AreAscending (sym (names_hist es)) a
 
   -- a name that is there is above those below all
-  found_above : (k n : Key) (es : List (Key × V)) (v : V) → AscendFrom k (keys_of es) → lookup (same_text n) es ≡ Some v → slice_cmp nat_cmp k n ≡ Less
+  pub found_above : (k n : Key) (es : List (Key × V)) (v : V) → AscendFrom k (keys_of es) → lookup (same_text n) es ≡ Some v → slice_cmp nat_cmp k n ≡ Less
   found_above k n [] v a e = no_value e
   found_above k n (x ∷ es) v a e = go (λ g. found_above k n es v (lower k x.0 (keys_of es) a.0 a.1) g) (same_text n x.0) refl e
     where

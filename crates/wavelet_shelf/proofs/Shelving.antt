@@ -3,7 +3,7 @@
 --     after_first         the name's first container did, and came to the others
 --     after_nothing       nothing was accepted where the name isn't there
 --     after_fault         nothing was answered, and the folder may have failed
-use Rattle.std.proofs.Common.{◌≡◌, ◌≢◌, ℕ, ◌+◌, ◌-◌, ◌^◌, ◌≤◌, min, Bool, true, List, [], ◌∷◌, ◌++◌, length, insert, Option, Some, None, Ok, Err, IsSome, IfSome, IfOk, OnOk, Result, string_bytes, refl, sym, ap, subst, ◌∙◌, arith, le_refl, append-nil, true≢false}
+use Rattle.std.proofs.Common.{◌≡◌, ◌≢◌, ℕ, ◌+◌, ◌-◌, ◌^◌, ◌≤◌, min, Bool, true, false, List, [], ◌∷◌, ◌++◌, length, insert, Option, Some, None, Ok, Err, IsSome, IfSome, is_some, IfOk, OnOk, Result, string_bytes, refl, sym, ap, subst, ◌∙◌, arith, le_refl, append-nil, true≢false}
 use Rattle.std.specs.Result.{IsErrOf, IsOk}
 use Rattle.std.specs.List.{AllByRecursion, position_or_len}
 use Rattle.std.specs.Map.{lookup, keys_of, set_value}
@@ -48,10 +48,10 @@ no_more : {T : Type 0} (ds : List DeltaOf) (d : DeltaOf) → [] ≡ ds ++ d ∷ 
 no_more [] d e = no_cons e
 no_more (x ∷ ds) d e = no_cons e
 
-same_Err : {T E : Type 0} {x y : E} → Err {T = T} x ≡ Err y → x ≡ y
+same_Err : {T E : Type 0} {x y : E} → ◌≡◌ {A = Result T E} (Err x) (Err y) → x ≡ y
 same_Err e = cc
 
-ok_err : {T E : Type 0} {x : T} {y : E} → Ok x ≡ Err y → ⊥
+ok_err : {T E : Type 0} {x : T} {y : E} → ◌≡◌ {A = Result T E} (Ok x) (Err y) → ⊥
 ok_err e = cc
 
 first_later : (f h w s t m : ℕ) → t ≡ s + w → f ≤ h → min (f + s) m ≤ min (h + t) m
@@ -252,10 +252,18 @@ module _ {D : Type 0} {disk : disk_of.Ghosts D} where
   pub put_sorted : {E : Type 0} (es es' : List (Key × Filed D disk)) (n : Key) (filed : Filed D disk) (r : Result (ℕ × Option (Filed D disk)) E) → AreAscending (keys_of es) → lookup (same_text n) es ≡ None → IsOk r
       → IfOk r (λ p. es' ≡ move_index (insert_entry same_text es n filed) (position_or_len (same_text n) (keys_of es)) p.0)
       → IfOk r (λ p. (i : ℕ) × IsSearchIndex (λ k. slice_cmp nat_cmp k n) (keys_of es) i × (p.0 ≡ index_before (position_or_len (same_text n) (keys_of es)) i)) → IsPut n filed es es'
-  put_sorted es es' n filed (Ok p) a none yes entries index = record {
+  put_sorted es es' n filed (Ok p) a none went entries index = record {
     at = index.0;
     place = place es n index.0 a none index.1;
     absent = none;
     is = entries ∙ put_at es n filed index.0 p.0 none index.1.0 index.2;
   }
-  put_sorted es es' n filed (Err e) a none yes entries index = absurd (true≢false (sym yes))
+  put_sorted es es' n filed (Err e) a none went entries index = absurd (true≢false (sym went))
+
+  -- the entry came to those of another moment, which are the same
+  pub put_from : (es m after : List (Key × Filed D disk)) (n k : Key) (filed : Filed D disk) → m ≡ es → k ≡ n → IsPut k filed m after → IsPut n filed es after
+  put_from es m after n k filed is key put = subst (λ l. IsPut n filed l after) is (subst (λ x. IsPut x filed m after) key put)
+
+pub none_of : {X : Type 0} (o : Option X) → is_some o ≡ false → o ≡ None
+none_of None e = refl
+none_of (Some x) e = absurd (true≢false e)

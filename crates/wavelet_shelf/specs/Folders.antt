@@ -10,7 +10,8 @@
 --     IsFileStep f g m es es' r  what came of a file
 --     IsAllStep f g es ms r      what came of all
 --     is_among names m           the name is one of them
---     IsLoading f g es done      of the folder f these files were looked at
+--     IsLooked f g es done       of the folder f these files were looked at, and those of the entries were read
+--     IsLoading f g es done      and the entries have each history for which one of these stands
 use Rattle.std.specs.Prelude.{◌≡◌, ◌≢◌, ◌⊎◌, ◌+◌, ◌-◌, ◌^◌, ◌≤◌, min, ℕ, Bool, true, false, List, [], ◌∷◌, Option, Some, None, Result, IsSome, IfSome, IsTrue, IfErr, OnOk, OnErr, IsErrOf}
 use Rattle.std.specs.List.{AllByRecursion, list_any}
 use Rattle.doc_items.specs.Maps.{Key, same_text}
@@ -98,18 +99,23 @@ module _ {F D : Type 0} (folder : folder_of.Ghosts F D) {disk : disk_of.Ghosts D
 
   -- ---- all files
 
-  pub record IsLoading (before after : F) (es : List (Key × Filed D disk)) (done : List (List ℕ)) : Type 0 where
+  pub record IsLooked (before after : F) (es : List (Key × Filed D disk)) (done : List (List ℕ)) : Type 0 where
     pub apart : (n m : Key) → IsSome (found es n) → IsSome (found es m) → file_name_of n ≡ file_name_of m → n ≡ m
     pub among : (n : Key) → IsSome (found es n) → is_among done (file_name_of n) ≡ true
     pub untouched : IsTrue disk.tells → (m : List ℕ) → is_among done m ≡ false → folder.files after m ≡ folder.files before m
     pub as_before : IsTrue disk.tells → (m : List ℕ) → ((n : Key) → IsSome (found es n) → m ≢ file_name_of n) → IsAsBefore disk.view (folder.files before m) (folder.files after m)
     pub read : IsTrue disk.tells → (n : Key) → IfSome (found es n) (IsReadFrom (folder.files before (file_name_of n)))
-    pub each : IsTrue disk.tells → (n : Key) (ds : List DeltaOf) → is_wavelet_name n ≡ true → ds ≢ [] → is_among done (file_name_of n) ≡ true → IfSome (folder.files before (file_name_of n)) (λ d. StandsForHistory n ds (disk.view d).seen → deltas_in (hosting es) n ≡ ds)
     pub held : IsTrue disk.tells → AreHeld es
     pub safe : IsTrue disk.tells → AreSafe es
 
+  pub record IsLoading (before after : F) (es : List (Key × Filed D disk)) (done : List (List ℕ)) : Type 0 where
+    pub looked : IsLooked before after es done
+    pub each : IsTrue disk.tells → (n : Key) (ds : List DeltaOf) → is_wavelet_name n ≡ true → ds ≢ [] → is_among done (file_name_of n) ≡ true → IfSome (folder.files before (file_name_of n)) (λ d. StandsForHistory n ds (disk.view d).seen → deltas_in (hosting es) n ≡ ds)
+
   pub record IsAllStep (before after : F) (es : List (Key × Filed D disk)) (names : List (List ℕ)) (r : Result (Unit {0}) ShelfFault) : Type 0 where
-    pub loading : (done : List (List ℕ)) × IsLoading before after es done × OnOk r (done ≡ names)
+    pub done : List (List ℕ)
+    pub looked : IsLooked before after es done
+    pub loading : OnOk r (IsLoading before after es names)
     pub damaged : IfErr r (λ e. IfSome (damage_of e) (λ d. IsTrue disk.tells → IsRefusedFile disk.view (folder.files before d.0) d.0 d.1))
     pub later : faults_with before [] ≤ faults_with after es
     pub failed : IsErrOf r Failed → Rose (faults_with before []) (faults_with after es)

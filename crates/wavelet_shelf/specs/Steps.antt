@@ -4,7 +4,7 @@
 --     IsTakenFirst n s t c v    one without a journal answered
 --     IsAnswered n s t es es' r     the container of the name did
 --     IsHosted n s t a b r      the shelf did
-use Rattle.std.specs.Prelude.{◌≡◌, ◌≢◌, ◌==◌, ◌≤◌, ℕ, List, [], Result, Ok, Some, None, IsTrue, IfOk, IfSome, OnOk, OnErr, IsErrOf}
+use Rattle.std.specs.Prelude.{◌≡◌, ◌≢◌, ◌==◌, ◌≤◌, ℕ, List, [], Result, Ok, Some, None, IsTrue, IsSome, IfOk, IfSome, OnOk, OnErr, IsErrOf}
 use Rattle.std.specs.Cmp.Lexicographic.{pointwise}
 use Rattle.std.specs.Map.{lookup, set_value}
 use Rattle.doc_items.specs.Maps.{Key}
@@ -35,6 +35,7 @@ module _ {K : Type 0} {disk : disk_of.Ghosts K} where
     pub safe : OnOk r (IsHeld c → IsSafe after)
     pub later : faults_of c ≤ faults_of after
     pub failed : IsErrOf r DiskFault → Rose (faults_of c) (faults_of after)
+    pub filed : IsErrOf r DiskFault → IsSome (journal_of c)
 
   -- the first container of a name, as it is made
   pub record IsStarted (n : Key) (c : Container K disk) : Type 0 where

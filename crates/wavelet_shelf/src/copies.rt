@@ -24,7 +24,8 @@ impl<F: Folder> Copies for Shelf<F> {
     ghost outcomes = { λ s n i. outcome_of s n i };
 
     fn copy_of(&self, name: &WaveletName) -> Option<&History> {
-        let history = self.containers.map.get(name)?.container.history();
+        let filed = self.containers.map.get(name)?;
+        let history = filed.container.history();
         if history.deltas().is_empty() {
             None
         } else {

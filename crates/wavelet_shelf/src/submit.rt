@@ -80,18 +80,36 @@ impl<F: Folder + Drop> Shelf<F> {
         ensures { IsHosted name.now submission.now time self.old self.new result }
     {
         let mut plain = empty(alloc, name)?;
-        let verdict = taken(alloc, &mut plain, submission, time)?;
-        if plain.history().deltas().is_empty() {
-            return Ok(verdict);
+        match taken(alloc, &mut plain, submission, time) {
+            Ok(verdict) => self.host(alloc, name, submission, time, plain, verdict),
+            Err(fault) => Err(fault),
         }
-        if self.folder.is_none() {
+    }
+
+    // So it is, where a container without a journal answered.
+    fn host(
+        &mut self,
+        alloc: Global,
+        name: &WaveletName,
+        submission: &Submission,
+        time: u64,
+        plain: Container<F::Disk>,
+        verdict: Verdict,
+    ) -> Result<Verdict, SubmitFault>
+        requires absent { is_some (lookup (pointwise ◌==◌ name.now) (entries_of self.old)) ≡ false }
+        requires taken { IsTakenFirst name.now submission.now time plain verdict }
+        ensures { IsHosted name.now submission.now time self.old self.new result }
+    {
+        if plain.history().deltas().is_empty() {
+            Ok(verdict)
+        } else if self.folder.is_none() {
             self.keep(alloc, name, submission, time, plain, verdict)
         } else {
             self.store(alloc, name, submission, time)
         }
     }
 
-    // So it is, where there is no folder, and the container answered.
+    // So it is, where there is no folder, and a delta is accepted.
     fn keep(
         &mut self,
         alloc: Global,

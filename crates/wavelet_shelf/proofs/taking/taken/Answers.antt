@@ -14,4 +14,5 @@ returns g c =
       safe = on_ok_weaker c.submit.result (λ sure. safe_after old new c.submit.ensures.stored sure) c.submit.ensures.done;
       later = faults_later _ _ c.submit.ensures.later;
       failed = λ e. faults_rose _ _ (c.submit.ensures.disk e) (c.submit.ensures.failed e);
+      filed = c.submit.ensures.disk;
     }

@@ -4,8 +4,8 @@ use Rattle.wavelet_shelf.specs.declared.filed.Filed.{Filed}
 use Rattle.wavelet_shelf.proofs.Shelving.{order_set}
 use Rattle.wavelet_shelf.proofs.containers.Containers.submit.Goals as goal
 
-pub returns-in-Some : goal.returns-in-Some
-returns-in-Some g c =
+pub returns : goal.returns
+returns g c =
     let new : Filed g.row.K.Denot g.K.Disk = record { file = c.in-Some.filed.now.file; container = c.taken.new.container } in
     record { old = c.in-Some.filed.now; new = new; was = sym c.in-Some.ensures.value; is = (c.get_mut.follows.holds new).0; file = refl; taken = c.taken.ensures }
 

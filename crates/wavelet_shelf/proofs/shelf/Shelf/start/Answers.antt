@@ -1,1 +1,0 @@
-use Rattle.wavelet_shelf.proofs.shelf.Shelf.start.Goals as goal
