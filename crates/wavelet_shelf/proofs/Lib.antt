@@ -12,3 +12,5 @@ pub mod Sharing
 pub mod Returning
 pub mod Loading
 pub mod Refusing
+pub mod Sorting
+pub mod Opening

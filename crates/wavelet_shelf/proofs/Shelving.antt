@@ -3,7 +3,7 @@
 --     after_first         the name's first container did, and came to the others
 --     after_nothing       nothing was accepted where the name isn't there
 --     after_fault         nothing was answered, and the folder may have failed
-use Rattle.std.proofs.Common.{◌≡◌, ◌≢◌, ℕ, ◌+◌, ◌-◌, ◌^◌, ◌≤◌, min, Bool, true, false, List, [], ◌∷◌, ◌++◌, length, insert, Option, Some, None, Ok, Err, IsSome, IfSome, is_some, IfOk, OnOk, Result, string_bytes, refl, sym, ap, subst, ◌∙◌, arith, le_refl, append-nil, true≢false}
+use Rattle.std.proofs.Common.{◌≡◌, ◌≢◌, ◌==◌, ℕ, ◌+◌, ◌-◌, ◌^◌, ◌≤◌, min, Bool, true, false, List, [], ◌∷◌, ◌++◌, length, insert, Option, Some, None, Ok, Err, IsSome, IfSome, is_some, IfOk, OnOk, Result, string_bytes, refl, sym, ap, subst, ◌∙◌, arith, le_refl, append-nil, true≢false}
 use Rattle.std.specs.Result.{IsErrOf, IsOk}
 use Rattle.std.specs.List.{AllByRecursion, position_or_len}
 use Rattle.std.specs.Map.{lookup, keys_of, set_value}
@@ -12,6 +12,7 @@ use Rattle.std.specs.Cmp.Lexicographic.{slice_cmp}
 use Rattle.std.specs.Ordering.{nat_cmp}
 use Rattle.indexmap.specs.Calls.{IsSearchIndex}
 use Rattle.indexmap.specs.IndexMap.{move_index, insert_entry, index_before}
+use Rattle.std.proofs.lemmas.Bool.{eqb-true}
 use Rattle.std.proofs.lemmas.Map.{keys-set_value}
 use Rattle.std.proofs.lemmas.Result.{IfOk-weaker, on_ok_weaker, on_err_weaker}
 use Rattle.doc_items.specs.Maps.{Key, same_text}
@@ -48,7 +49,7 @@ no_more : {T : Type 0} (ds : List DeltaOf) (d : DeltaOf) → [] ≡ ds ++ d ∷ 
 no_more [] d e = no_cons e
 no_more (x ∷ ds) d e = no_cons e
 
-same_Err : {T E : Type 0} {x y : E} → ◌≡◌ {A = Result T E} (Err x) (Err y) → x ≡ y
+pub same_Err : {T E : Type 0} {x y : E} → ◌≡◌ {A = Result T E} (Err x) (Err y) → x ≡ y
 same_Err e = cc
 
 ok_err : {T E : Type 0} {x : T} {y : E} → ◌≡◌ {A = Result T E} (Ok x) (Err y) → ⊥
@@ -70,10 +71,10 @@ module _ {K : Type 0} {disk : disk_of.Ghosts K} where
   abbrev pub deltas_of : Filed K disk → List DeltaOf
   deltas_of f = (history_of f.container).deltas
 
-  abbrev count_of : Filed K disk → ℕ
+  abbrev pub count_of : Filed K disk → ℕ
   count_of f = faults_of f.container
 
-  faults_total : (es : List (Key × Filed K disk)) → faults_in es ≡ total count_of es
+  pub faults_total : (es : List (Key × Filed K disk)) → faults_in es ≡ total count_of es
   faults_total [] = refl
   faults_total (e ∷ es) = ap (λ n. faults_of e.1.container + n) (faults_total es)
 
@@ -267,3 +268,7 @@ module _ {D : Type 0} {disk : disk_of.Ghosts D} where
 pub none_of : {X : Type 0} (o : Option X) → is_some o ≡ false → o ≡ None
 none_of None e = refl
 none_of (Some x) e = absurd (true≢false e)
+
+pub empty_list : {X : Type 0} (xs : List X) → (length xs == 0) ≡ true → xs ≡ []
+empty_list [] e = refl
+empty_list (x ∷ xs) e = let none = eqb-true (length (x ∷ xs)) 0 e in absurd (omega (arith, none))

@@ -81,6 +81,7 @@ IsReadFrom {K} {disk} (Some f) c = IsReadAs (disk.view f) c
 pub record IsOpenedAs {K : Type 0} {disk : Ghosts K} (m : List ℕ) (file : DiskView) (name : Key) (c : Container K disk) : Type 0 where
   pub own : IsOwnName name m
   pub named : (history_of c).name ≡ name
+  pub header : IsTrue disk.tells → HasName (Some name) file.seen
   pub read : IsTrue disk.tells → IsReadAs file c
   pub held : IsTrue disk.tells → IsHeld c
   pub safe : IsTrue disk.tells → IsSafe c

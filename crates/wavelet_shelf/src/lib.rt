@@ -4,7 +4,6 @@
 mod close;
 mod containers;
 mod copies;
-mod divide;
 mod fault;
 mod filed;
 mod journal_name;

@@ -19,6 +19,7 @@ use crate::journal_name::is_file_name;
 use crate::opened::{Opened, open_file};
 use crate::telling::{fault_in, fault_of};
 use crate::{Shelf, ShelfFault};
+use delta_journal::file_named_once;
 use std::alloc::Global;
 use wave_outside::Folder;
 
@@ -98,6 +99,7 @@ fn load_all<F: Folder>(
     ensures room { HaveRoom (F.room folder.new) containers.new.map.entries }
     ensures step { IsAllStep F.Folder folder.old folder.new containers.new.map.entries (map string_bytes names.now) result }
 {
+    file_named_once();
     for name in names {
         if is_file_name(name.as_str()) {
             load_file(alloc, folder, containers, name.as_str())?;
