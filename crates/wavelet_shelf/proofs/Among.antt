@@ -2,10 +2,10 @@
 --     more, last       a name is among them still, and the one behind them is
 --     split, neither   one that is among them with one behind: it is that, or was; one that isn't, is neither
 --     ascend_apart     the next of names that ascend isn't among those before it
-use Rattle.std.proofs.Common.{Less, ◌≡◌, ◌≢◌, ◌⊎◌, inl, inr, ⊎_elim, ℕ, zero, suc, ◌+◌, ◌<◌, Bool, true, false, ◌||◌, List, [], ◌∷◌, ◌++◌, length, take, get_or, refl, sym, ap, subst, ◌∙◌, true≢false, arith}
+use Rattle.std.proofs.Common.{Less, ◌≡◌, ◌≢◌, ◌⊎◌, inl, inr, ⊎_elim, ℕ, zero, suc, ◌+◌, ◌<◌, Bool, true, false, ◌||◌, List, [], ◌∷◌, ◌++◌, length, take, get_or, slice_get, Option, Some, None, IfSome, refl, sym, ap, subst, ◌∙◌, true≢false, arith}
 use Rattle.std.specs.Cmp.Lexicographic.{slice_cmp, bytes_decides}
 use Rattle.std.specs.Ordering.{nat_cmp}
-use Rattle.std.specs.List.{list_any}
+use Rattle.std.specs.List.{AllByRecursion, list_any}
 use Rattle.std.proofs.lemmas.Cmp.{nat_list_cmp_total}
 use Rattle.doc_items.specs.Maps.{Key, same_text}
 use Rattle.delta_history.specs.Copying.{AscendFrom, AreAscending}
@@ -75,3 +75,29 @@ ascend_apart (n ∷ names) (suc i) d a lt =
     at_place [] i d lt = absurd (omega (arith, lt))
     at_place (n ∷ names) zero d lt = ap (λ t. t || is_among names n) (own n)
     at_place (n ∷ names) (suc i) d lt = ap (λ t. same_text (get_or names i d) n || t) (at_place names i d (omega (arith, lt))) ∙ or_true (same_text (get_or names i d) n)
+
+-- ---- by place, and one by one
+
+no_get : {T : Type 0} {x : Key} → None ≡ Some x → T
+no_get e = absurd (cc)
+
+pub among_of_get : (names : List Key) (i : ℕ) (m : Key) → slice_get names i ≡ Some m → is_among names m ≡ true
+among_of_get [] i m e = no_get e
+among_of_get (n ∷ names) zero m e = ap (λ t. t || is_among names m) (subst (λ k. same_text m k ≡ true) (sym (same_get e)) (own m))
+  where
+    same_get : {x y : Key} → Some x ≡ Some y → x ≡ y
+    same_get e = cc
+among_of_get (n ∷ names) (suc i) m e = ap (λ t. same_text m n || t) (among_of_get names i m e) ∙ or_true (same_text m n)
+
+pub all_among : (P : Key → Type 0) (names : List Key) → ((m : Key) → is_among names m ≡ true → P m) → AllByRecursion P names
+all_among P [] each = tt
+all_among P (n ∷ names) each = (each n (ap (λ t. t || is_among names n) (own n)), all_among P names (λ m there. each m (ap (λ t. same_text m n || t) there ∙ or_true (same_text m n))))
+
+-- what has a place and is so has it
+pub each_among : (P : Key → Type 0) (names : List Key) → ((i : ℕ) → IfSome (slice_get names i) P) → (m : Key) → is_among names m ≡ true → P m
+each_among P [] each m there = absurd (true≢false (sym there))
+each_among P (n ∷ names) each m there = go (same_text m n) refl (λ rest. each_among P names (λ i. each (suc i)) m rest) there
+  where
+    go : (t : Bool) → same_text m n ≡ t → (is_among names m ≡ true → P m) → t || is_among names m ≡ true → P m
+    go true s rest e = subst P (sym ((bytes_decides m n).0 s)) (each 0)
+    go false s rest e = rest e

@@ -14,3 +14,4 @@ pub mod Loading
 pub mod Refusing
 pub mod Sorting
 pub mod Opening
+pub mod Reading

@@ -4,7 +4,7 @@
 use Rattle.std.proofs.Common.{◌≡◌, ◌≢◌, inl, inr, ⊎_elim, ℕ, ◌+◌, ◌-◌, ◌^◌, ◌≤◌, min, Bool, true, false, List, [], ◌∷◌, length, insert, Option, Some, None, Ok, Err, Result, IsSome, IfSome, IsTrue, string_bytes, refl, sym, ap, subst, ◌∙◌, true≢false, arith, le_refl}
 use Rattle.std.specs.Result.{IsErrOf}
 use Rattle.doc_items.specs.Maps.{Key}
-use Rattle.disk_model.specs.Disk.{DiskView, Rose as HasRisen}
+use Rattle.disk_model.specs.Disk.{DiskView, OnlyRead}
 use Rattle.disk_model.specs.declared.disk.Disk as disk_of
 use Rattle.delta_journal.specs.File.{HasName, HasNoHeader}
 use Rattle.delta_journal.specs.Journal.{on_disk}
@@ -21,11 +21,14 @@ use Rattle.wavelet_shelf.specs.Entries.{faults_of, faults_in, IsNamed, IsPut}
 use Rattle.wavelet_shelf.specs.Faults.{damage_of}
 use Rattle.wavelet_shelf.specs.FileNames.{file_name_of}
 use Rattle.wavelet_shelf.specs.Folders.{most_faults, IsPassed, IsAdded, IsFileRead, IsFileBack, IsFileStep, faults_with}
-use Rattle.wavelet_shelf.specs.Loads.{ReadsAsBefore, IsAsBefore, IsReadAs, IsReadFrom, IsOwnName, IsRefused, IsRefusedFile, IsOpenedAs, IsPassedAs, IsUnopened}
+use Rattle.wavelet_shelf.specs.Loads.{ReadsAsBefore, IsAsBefore, IsReadAs, IsReadFrom, IsOwnName, IsRefused, IsRefusedFile, IsOpenedAs, IsPassedAs, IsOpened, IsUnopened}
 use Rattle.wavelet_shelf.specs.declared.fault.ShelfFault.{ShelfFault}
 use Rattle.wavelet_shelf.specs.declared.fault.ShelfFault.TheVariants.{Failed}
 use Rattle.wavelet_shelf.specs.declared.filed.Filed.{Filed}
+use Rattle.wavelet_shelf.specs.declared.opened.Opened.{Opened}
+use Rattle.wavelet_shelf.specs.declared.opened.Opened.TheVariants.{Read, Passed}
 use Rattle.wavelet_shelf.proofs.Loading.{as_it_is}
+use Rattle.wavelet_shelf.proofs.Names.{same_or_not}
 use Rattle.wavelet_shelf.proofs.Placing.{length_keys}
 use Rattle.wavelet_shelf.proofs.Shelving.{count_of, faults_total, same_Err}
 use Rattle.wavelet_shelf.proofs.Sums.{sum_put}
@@ -160,3 +163,61 @@ module _ {F D : Type 0} (folder : folder_of.Ghosts F D) {disk : disk_of.Ghosts D
       later = kept_later (folder.faults f) (folder.faults g) (faults_in es) most_faults counts;
       failed = λ is. kept_rose (folder.faults f) (folder.faults g) (faults_in es) most_faults (failed (same_Err is));
     }
+
+-- room for a disk that was handed out
+pub keeps_room : (room room' : List ℕ → Bool) (m : List ℕ) → IsElsewhere m room room' → (room m ≡ true → room' m ≡ true) → (l : List ℕ) → room l ≡ true → room' l ≡ true
+keeps_room room room' m others here l there = ⊎_elim
+    (λ is. subst (λ k. room' k ≡ true) (sym is) (here (ap room (sym is) ∙ there)))
+    (λ other. others l other ∙ there)
+    (same_or_not l m)
+
+pub damage_as : (o : Option (List ℕ × ℕ)) (a b : List ℕ) (P : ℕ → Type 0) → a ≡ b → IfSome o (λ x. (x.0 ≡ a) × P x.1) → IfSome o (λ x. (x.0 ≡ b) × P x.1)
+damage_as o a b P is damage = subst (λ l. IfSome o (λ x. (x.0 ≡ l) × P x.1)) is damage
+
+-- ---- what was only read before
+
+then_read : (x y z : DiskView) → OnlyRead x y → ReadsAsBefore y z → ReadsAsBefore x z
+then_read x y z first second = record {
+  seen = second.seen ∙ first.seen;
+  images = λ c left. ⊎_elim (λ old. first.images c old) (λ is. inr (is ∙ first.seen)) (second.images c left);
+}
+
+risen_before : (a b c m : ℕ) → a ≤ b → min (b + 1) m ≤ c → min (a + 1) m ≤ c
+risen_before a b c m le rose = omega (arith, le, rose)
+
+le_before : (a b c : ℕ) → a ≤ b → b ≤ c → a ≤ c
+le_before a b c one two = omega (arith, one, two)
+
+module _ {K : Type 0} {disk : disk_of.Ghosts K} (m : List ℕ) (x y : DiskView) (first : OnlyRead x y) where
+  pub opened_before : (o : Opened K disk) → IsOpened m y o → IsOpened m x o
+  opened_before (Read n c) opened = record {
+    own = opened.own;
+    named = opened.named;
+    header = λ told. subst (HasName (Some n)) first.seen (opened.header told);
+    read = λ told. read_before (opened.read told);
+    held = opened.held;
+    safe = opened.safe;
+    faults = le_before x.faults y.faults (faults_of c) first.faults opened.faults;
+  }
+    where
+      read_before : IsReadAs y c → IsReadAs x c
+      read_before read = record {
+        stands = subst (StandsForHistory (history_of c).name (history_of c).deltas) first.seen read.stands;
+        journal = read.journal;
+        is = read.is;
+        read = read.read ∙ first.seen;
+        images = λ b left. read.images b left ∙ first.seen;
+      }
+  opened_before (Passed k) opened = record {
+    none = λ told. subst HasNoHeader first.seen (opened.none told);
+    as_before = then_read x y (disk.view k) first opened.as_before;
+    faults = le_before x.faults y.faults (disk.view k).faults first.faults opened.faults;
+  }
+
+  pub unopened_before : (r : LoadRefused K) → IsUnopened disk m y r → IsUnopened disk m x r
+  unopened_before r unopened = record {
+    damaged = λ offset is told. subst (IsRefused m offset) first.seen (unopened.damaged offset is told);
+    as_before = then_read x y (disk.view r.disk) first unopened.as_before;
+    faults = le_before x.faults y.faults (disk.view r.disk).faults first.faults unopened.faults;
+    failed = λ is. risen_before x.faults y.faults (disk.view r.disk).faults (2 ^ 64 - 1) first.faults (unopened.failed is);
+  }

@@ -61,11 +61,11 @@ module _ {F D : Type 0} (folder : folder_of.Ghosts F D) {disk : disk_of.Ghosts D
 
   not_any : (m : List ℕ) (es : List (Key × Filed D disk)) → AreAscending (keys_of es) → AllByRecursion (λ e. m ≢ file_name_of e.0) es → (n : Key) → IsSome (found es n) → m ≢ file_name_of n
   not_any m [] a apart n there is = absurd (true≢false (sym there))
-  not_any m (e ∷ es) a apart n there is = go (same_text n e.0) refl there
+  not_any m (e ∷ es) a apart n there is = go (same_text n e.0) refl (λ some. not_any m es (any e.0 (keys_of es) a) apart.1 n some is) there
     where
-      go : (t : Bool) → same_text n e.0 ≡ t → IsSome (option_map (λ (x : Filed D disk). x.container) (cond t (Some e.1) (lookup (same_text n) es))) → ⊥
-      go true s some = apart.0 (is ∙ ap file_name_of ((bytes_decides n e.0).0 s))
-      go false s some = not_any m es (any e.0 (keys_of es) a) apart.1 n some is
+      go : (t : Bool) → same_text n e.0 ≡ t → (IsSome (found es n) → ⊥) → IsSome (option_map (λ (x : Filed D disk). x.container) (cond t (Some e.1) (lookup (same_text n) es))) → ⊥
+      go true s rest some = apart.0 (is ∙ ap file_name_of ((bytes_decides n e.0).0 s))
+      go false s rest some = rest some
 
   pub after_refusal : (f g h : F) (es : List (Key × Filed D disk)) (done : List (List ℕ)) → AreAscending (keys_of es) → IsLooked folder f g es done → ArePutBack folder g h es → IsTrue disk.tells → (m : List ℕ) → IsAsBefore disk.view (folder.files f m) (folder.files h m)
   after_refusal f g h es done a looked back told m =

@@ -5,7 +5,8 @@ use Rattle.std.proofs.Common.{Less, ◌≡◌, ℕ, Bool, true, false, cond, ◌
 use Rattle.std.specs.List.{AllByRecursion, list_any, dedup, dedup_from}
 use Rattle.std.specs.List.Sorted.{IsSorted, IsPermutation, IsStrictlySortedBy}
 use Rattle.std.specs.List.Retain.{IsFiltered, DiffersFromLast}
-use Rattle.std.specs.String.{String, string_cmp, string_eq, string_cmp_total}
+use Rattle.std.specs.Prelude.{String}
+use Rattle.std.specs.String.{string_cmp, string_eq, string_cmp_total}
 use Rattle.std.specs.Cmp.Lexicographic.{bytes_decides}
 use Rattle.std.specs.Ordering.{eq_by_cmp, is_eq}
 use Rattle.std.proofs.lemmas.List.Filters.{dedup_is}

@@ -9,6 +9,7 @@
 --     faults_with f es           how often the folder and the disks have failed
 --     IsFileStep f g m es es' r  what came of a file
 --     IsAllStep f g es ms r      what came of all
+--     IsLoadedAs f g es r        what comes of a folder's files
 --     is_among names m           the name is one of them
 --     IsLooked f g es done       of the folder f these files were looked at, and those of the entries were read
 --     IsLoading f g es done      and the entries have each history for which one of these stands
@@ -30,7 +31,7 @@ use Rattle.wavelet_shelf.specs.Entries.{found, hosting, faults_of, faults_in, Ha
 use Rattle.wavelet_shelf.specs.Faults.{damage_of}
 use Rattle.wavelet_shelf.specs.FileNames.{file_name_of}
 use Rattle.wavelet_shelf.specs.Hosting.{deltas_in}
-use Rattle.wavelet_shelf.specs.Loads.{IsAsBefore, IsReadFrom, IsOwnName, IsRefusedFile}
+use Rattle.wavelet_shelf.specs.Loads.{IsAsBefore, IsReadFrom, IsOwnName, IsRefusedFile, HasAll}
 use Rattle.wavelet_shelf.specs.declared.fault.ShelfFault.{ShelfFault}
 use Rattle.wavelet_shelf.specs.declared.fault.ShelfFault.TheVariants.{Failed}
 use Rattle.wavelet_shelf.specs.declared.filed.Filed.{Filed}
@@ -117,5 +118,16 @@ module _ {F D : Type 0} (folder : folder_of.Ghosts F D) {disk : disk_of.Ghosts D
     pub looked : IsLooked before after es done
     pub loading : OnOk r (IsLoading before after es names)
     pub damaged : IfErr r (λ e. IfSome (damage_of e) (λ d. IsTrue disk.tells → IsRefusedFile disk.view (folder.files before d.0) d.0 d.1))
+    pub later : faults_with before [] ≤ faults_with after es
+    pub failed : IsErrOf r Failed → Rose (faults_with before []) (faults_with after es)
+
+  pub record IsLoadedAs (before after : F) (es : List (Key × Filed D disk)) (r : Result (Unit {0}) ShelfFault) : Type 0 where
+    pub read : OnOk r (IsTrue disk.tells → (n : Key) → IfSome (found es n) (IsReadFrom (folder.files before (file_name_of n))))
+    pub all : OnOk r (IsTrue disk.tells → HasAll disk.view (folder.files before) (hosting es))
+    pub held : OnOk r (IsTrue disk.tells → AreHeld es × AreSafe es)
+    pub apart : OnOk r ((n m : Key) → IsSome (found es n) → IsSome (found es m) → file_name_of n ≡ file_name_of m → n ≡ m)
+    pub damaged : IfErr r (λ e. IfSome (damage_of e) (λ d. IsTrue disk.tells → IsRefusedFile disk.view (folder.files before d.0) d.0 d.1))
+    pub none : OnErr r (es ≡ [])
+    pub as_before : IsTrue disk.tells → (m : List ℕ) → ((n : Key) → IsSome (found es n) → m ≢ file_name_of n) → IsAsBefore disk.view (folder.files before m) (folder.files after m)
     pub later : faults_with before [] ≤ faults_with after es
     pub failed : IsErrOf r Failed → Rose (faults_with before []) (faults_with after es)

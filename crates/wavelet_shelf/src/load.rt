@@ -1,14 +1,14 @@
 // Shelves that are read from their folders.
-ghost use Rattle.std.specs.Prelude.{◌≡◌, ◌≢◌, ◌≤◌, ℕ, List, [], map, IsSome, IfSome, IsTrue, IfOk, IfErr, OnOk, OnErr, IsErrOf, string_bytes};
+ghost use Rattle.std.specs.Prelude.{◌≡◌, ◌≢◌, ◌≤◌, ℕ, List, [], true, map, IsSome, IfSome, IsTrue, IfOk, IfErr, OnOk, OnErr, IsErrOf, string_bytes};
 ghost use Rattle.std.specs.List.{AllByRecursion};
 ghost use Rattle.doc_items.specs.Maps.{Key};
 ghost use Rattle.delta_history.specs.Copying.{AreAscending};
 ghost use Rattle.wave_outside.specs.Counts.{Rose};
-ghost use Rattle.wave_outside.specs.Folders.{AreNames, IsSame};
+ghost use Rattle.wave_outside.specs.Folders.{IsSame};
 ghost use Rattle.wavelet_shelf.specs.Entries.{found, HaveRoom};
 ghost use Rattle.wavelet_shelf.specs.Faults.{damage_of};
 ghost use Rattle.wavelet_shelf.specs.FileNames.{file_name_of};
-ghost use Rattle.wavelet_shelf.specs.Folders.{is_among, IsFileStep, IsAllStep};
+ghost use Rattle.wavelet_shelf.specs.Folders.{is_among, IsFileStep, IsAllStep, IsLoadedAs};
 ghost use Rattle.wavelet_shelf.specs.Loads.{IsAsBefore, IsReadFrom, IsRefusedFile, HasAll};
 ghost use Rattle.wavelet_shelf.specs.Shelves.{in_folder, entries_of, container_in, hosted_of, fault_count, IsKept, IsSettled, AreApart, HasFile};
 
@@ -44,23 +44,37 @@ impl<F: Folder + Drop> Shelf<F> {
         ensures later { fault_count self.old ≤ fault_count self.new }
         ensures failed { IsErrOf result ShelfFault.Failed → Rose (fault_count self.old) (fault_count self.new) }
     {
-        let Some(folder) = &mut self.folder else {
-            return Ok(());
-        };
-        let names = names_of(alloc, folder)?;
-        match load_all(alloc, folder, &mut self.containers, &names) {
-            Ok(()) => Ok(()),
-            Err(fault) => {
-                put_all(folder, &mut self.containers);
-                Err(fault)
-            }
+        match &mut self.folder {
+            Some(folder) => load_from(alloc, folder, &mut self.containers),
+            None => Ok(()),
+        }
+    }
+}
+
+// So it is, with the folder and the containers apart.
+fn load_from<F: Folder>(
+    alloc: Global,
+    folder: &mut F,
+    containers: &mut Containers<F::Disk>,
+) -> Result<(), ShelfFault>
+    requires { containers.old.map.entries ≡ [] }
+    ensures room { HaveRoom (F.room folder.new) containers.new.map.entries }
+    ensures loaded { IsLoadedAs F.Folder folder.old folder.new containers.new.map.entries result }
+{
+    let names = names_of(alloc, folder)?;
+    match load_all(alloc, folder, containers, &names) {
+        Ok(()) => Ok(()),
+        Err(fault) => {
+            put_all(folder, containers);
+            Err(fault)
         }
     }
 }
 
 // The names of the files, in byte order, each once.
 fn names_of<F: Folder>(alloc: Global, folder: &mut F) -> Result<Vec<String>, ShelfFault>
-    ensures names { IfOk result (λ v. IsTrue F.Disk.tells → AreNames (F.files folder.old) (map string_bytes v.items)) }
+    ensures there { IfOk result (λ v. IsTrue F.Disk.tells → AllByRecursion (λ n. IsSome (F.files folder.new n)) (map string_bytes v.items)) }
+    ensures all { IfOk result (λ v. IsTrue F.Disk.tells → (m : List ℕ) → IsSome (F.files folder.old m) → is_among (map string_bytes v.items) m ≡ true) }
     ensures distinct { IfOk result (λ v. AreAscending (map string_bytes v.items)) }
     ensures files { IsTrue F.Disk.tells → IsSame (F.files folder.old) (F.files folder.new) }
     ensures room { IsSame (F.room folder.old) (F.room folder.new) }

@@ -7,5 +7,5 @@ abbrev pub invariant-loop-name : goal.invariant-loop-name
 invariant-loop-name g l = record {
   room : HaveRoom (g.F.Folder.room l.folder) l.containers.map.entries;
   loading : IsLoading g.F.Folder l.initial.folder l.folder l.containers.map.entries (map string_bytes (take l.name-index l.fn.names));
-  later : faults_with g.F.Folder l.initial.folder [] ≤ faults_with g.F.Folder l.folder l.containers.map.entries;
+  later : faults_with g.F.Folder {disk = g.F.Disk.Disk} l.initial.folder [] ≤ faults_with g.F.Folder {disk = g.F.Disk.Disk} l.folder l.containers.map.entries;
 }

@@ -3,8 +3,8 @@ use Rattle.wavelet_shelf.specs.Entries.{hosting}
 use Rattle.wavelet_shelf.specs.Hosting.{names_of}
 use Rattle.wavelet_shelf.proofs.copies.ShelfCopies.hosted.Given as goal
 
-abbrev pub invariant-loop : goal.invariant-loop
-invariant-loop g l = slice_get (names_of (hosting l.rest)) l.left ≡ slice_get (names_of (hosting l.fn.self.containers.map.entries)) l.fn.place
+abbrev pub invariant-loop-name : goal.invariant-loop-name
+invariant-loop-name g l = slice_get (names_of (hosting l.rest)) l.left ≡ slice_get (names_of (hosting l.fn.self.containers.map.entries)) l.fn.place
 
-abbrev pub decreases-loop : goal.decreases-loop
-decreases-loop g l = length l.rest
+abbrev pub decreases-loop-name : goal.decreases-loop-name
+decreases-loop-name g l = length l.rest

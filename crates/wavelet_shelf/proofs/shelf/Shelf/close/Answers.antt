@@ -1,2 +1,20 @@
+use Rattle.std.proofs.Common.{◌≡◌, ⊥, ℕ, List, Option, IfSome, sym, subst}
+use Rattle.wavelet_shelf.specs.FileNames.{file_name_of}
 use Rattle.wavelet_shelf.proofs.Returning.{apart_in, no_file, back_of, stored_of}
 use Rattle.wavelet_shelf.proofs.shelf.Shelf.close.Goals as goal
+
+pub returns-clause-back : goal.returns-clause-back
+returns-clause-back g c told apart n =
+    let s = c.args.self.containers in
+    back_of g.F.Folder c.put_all.new.folder s.map.entries n (c.put_all.ensures.back.back told (apart_in g.F.Folder s.map.entries s.in_order.0 apart))
+
+pub returns-clause-stored : goal.returns-clause-stored
+returns-clause-stored g c kept settled apart n =
+    let s = c.args.self.containers in
+    stored_of g.F.Folder c.put_all.new.folder s.map.entries n s.in_order settled (c.put_all.ensures.back.back kept.told (apart_in g.F.Folder s.map.entries s.in_order.0 apart))
+
+pub returns-clause-others : goal.returns-clause-others
+returns-clause-others g c told =
+    let s = c.args.self.containers in
+    subst (λ (o : Option g.row.F.Denot). IfSome o (λ x. (m : List ℕ) → _ → g.F.Folder.files c.put_all.new.folder m ≡ g.F.Folder.files x m)) (sym c.in_ok-folder.is)
+    (λ m not. c.put_all.ensures.back.others told m (no_file g.F.Folder s.map.entries m (λ n there same. not (n, there, same))))
