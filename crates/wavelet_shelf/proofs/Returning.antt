@@ -26,7 +26,9 @@ use Rattle.wavelet_shelf.specs.Entries.{found, faults_in, AreInOrder, IsNamed, H
 use Rattle.wavelet_shelf.specs.FileNames.{file_name_of}
 use Rattle.wavelet_shelf.specs.Folders.{most_faults, IsBack, AreFiledApart, IsOneBack, ArePutBack}
 use Rattle.wavelet_shelf.specs.Loads.{IsStoredFile, StandsAs}
+use Rattle.wavelet_shelf.specs.Shelves.{in_folder, entries_of, HasFile}
 use Rattle.wavelet_shelf.specs.declared.filed.Filed.{Filed}
+use Rattle.wavelet_shelf.specs.declared.shelf.Shelf.{Shelf}
 use Rattle.wavelet_shelf.proofs.Names.{own, any, below_none}
 use Rattle.wavelet_shelf.proofs.Placing.{all_found, all_front, all_last}
 use Rattle.wavelet_shelf.proofs.Shelving.{deltas_of}
@@ -148,3 +150,6 @@ module _ {F D : Type 0} (folder : folder_of.Ghosts F D) {disk : disk_of.Ghosts D
       go : (o : Option (Filed D disk)) → lookup (same_text n) es ≡ o → IfSome (option_map (λ (x : Filed D disk). x.container) o) (λ c. IsStoredFile disk.view (folder.files f (file_name_of n)) n (history_of c).deltas)
       go None is = tt
       go (Some x) is = stands n x.container (folder.files f (file_name_of n)) (all_found deltas_of (λ e. IsSafe e.1.container) es n x safe is) (all_found deltas_of IsNamed es n x order.1 is).0 (all_found deltas_of (IsBack folder f) es n x back is)
+
+  pub others_of : (s : Shelf F D folder disk) (x f : F) → in_folder s ≡ Some x → ((m : List ℕ) → AllByRecursion (λ e. m ≢ file_name_of e.0) (entries_of s) → folder.files f m ≡ folder.files x m) → IfSome (in_folder s) (λ g. (m : List ℕ) → (HasFile s m → ⊥) → folder.files f m ≡ folder.files g m)
+  others_of s x f is others = subst (λ (o : Option F). IfSome o (λ g. (m : List ℕ) → (HasFile s m → ⊥) → folder.files f m ≡ folder.files g m)) (sym is) (λ m not. others m (no_file (entries_of s) m (λ n there same. not (n, there, same))))

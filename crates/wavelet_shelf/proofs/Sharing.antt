@@ -2,7 +2,7 @@
 --     copy_alike        the copy of a name is its hosted history
 --     have_deltas       what is shown has deltas
 --     named_copy        the copy of a name has it
-use Rattle.std.proofs.Common.{Less, ◌≡◌, ◌≢◌, ℕ, zero, suc, Bool, true, cond, List, [], ◌∷◌, slice_get, Option, Some, None, IsSome, IfSome, option_copied, Bor, refl, sym, ap, subst, ◌∙◌}
+use Rattle.std.proofs.Common.{Less, ◌≡◌, ◌≢◌, ◌==◌, ℕ, zero, suc, ◌-◌, length, true≢false, arith, Bool, true, false, cond, List, [], ◌∷◌, slice_get, Option, Some, None, IsSome, IfSome, option_copied, Bor, refl, sym, ap, subst, ◌∙◌}
 use Rattle.std.specs.Cmp.Lexicographic.{slice_cmp}
 use Rattle.std.specs.Ordering.{nat_cmp}
 use Rattle.std.proofs.lemmas.Cmp.{nat_list_cmp_total}
@@ -93,3 +93,15 @@ module _ {K : Type 0} {disk : Ghosts K} where
 pub lent_name : (P : Key → Type 0) (r : Option (Bor Key)) → IfSome (option_copied r) P → IfSome r (λ n. P n.now)
 lent_name P None h = tt
 lent_name P (Some n) h = h
+
+module _ {K : Type 0} {disk : Ghosts K} where
+  -- the next name that is hosted
+  pub next_host : (es : List (Key × Filed K disk)) (n : Key) (f : Filed K disk) (left : ℕ) (x : Option Key) → (length (deltas_of f) == 0) ≡ false → (left == 0) ≡ false → slice_get (names_of (hosting ((n, f) ∷ es))) left ≡ x → slice_get (names_of (hosting es)) (left - 1) ≡ x
+  next_host es n f zero x some not e = absurd (true≢false not)
+  next_host es n f (suc i) x some not e =
+      let less : i ≡ suc i - 1 = omega arith in
+      subst (λ j. slice_get (names_of (hosting es)) j ≡ x) less (go (deltas_of f) refl e)
+    where
+      go : (ds : List DeltaOf) → deltas_of f ≡ ds → slice_get (names_of (shown_by (record { name = n; deltas = deltas_of f }) ds (hosting es))) (suc i) ≡ x → slice_get (names_of (hosting es)) i ≡ x
+      go [] is e = absurd (true≢false (sym (ap (λ (l : List DeltaOf). length l == 0) is) ∙ some))
+      go (d ∷ ds) is e = e

@@ -29,7 +29,7 @@ use Rattle.wavelet_container.specs.Records.{StandsForHistory}
 use Rattle.wavelet_container.specs.declared.container.Container.{Container}
 use Rattle.wavelet_shelf.specs.Entries.{found, hosting, faults_of, faults_in, HaveRoom, AreHeld, AreSafe, IsSafe, IsNamed, IsPut}
 use Rattle.wavelet_shelf.specs.Faults.{damage_of}
-use Rattle.wavelet_shelf.specs.FileNames.{file_name_of}
+use Rattle.wavelet_shelf.specs.FileNames.{file_name_of, is_file_name}
 use Rattle.wavelet_shelf.specs.Hosting.{deltas_in}
 use Rattle.wavelet_shelf.specs.Loads.{IsAsBefore, IsReadFrom, IsOwnName, IsRefusedFile, HasAll}
 use Rattle.wavelet_shelf.specs.declared.fault.ShelfFault.{ShelfFault}
@@ -87,6 +87,12 @@ module _ {F D : Type 0} (folder : folder_of.Ghosts F D) {disk : disk_of.Ghosts D
   pub record IsFileRead (before after : F) (m : List ℕ) (es es' : List (Key × Filed D disk)) : Type 0 where
     pub what : IsPassed before after m es es' ⊎ IsAdded before after m es es'
     pub others : IsTrue disk.tells → IsElsewhere m (folder.files before) (folder.files after)
+
+  -- the file is no wavelet's
+  pub record IsSkipped (before after : F) (m : List ℕ) (es es' : List (Key × Filed D disk)) : Type 0 where
+    pub other : is_file_name m ≡ false
+    pub same : es' ≡ es
+    pub still : after ≡ before
 
   abbrev pub faults_with : F → List (Key × Filed D disk) → ℕ
   faults_with f es = min (folder.faults f + faults_in es) most_faults

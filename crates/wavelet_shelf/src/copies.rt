@@ -1,14 +1,39 @@
 // A shelf as the copies of the wavelets that are hosted here.
 ghost use Rattle.std.specs.Prelude.{◌≡◌, ◌≢◌, [], IfSome, IsSome, option_copied, slice_get};
 ghost use Rattle.delta_history.specs.Copying.{AreAscending, IsKeptOutcome};
+ghost use Rattle.wavelet_shelf.specs.Entries.{hosting};
 ghost use Rattle.wavelet_shelf.specs.Hosting.{names_of};
 ghost use Rattle.wavelet_shelf.specs.Shelves.{hosted_of, copies_of, outcome_of};
 
 use crate::Shelf;
+use crate::filed::Filed;
 use delta_history::{Copies, History};
+use disk_model::Disk;
+use indexmap::map::Slice;
 use wave_base::{DeltaId, WaveletName};
 use wave_outside::Folder;
 use wavelet_op::Verdict;
+
+// The name at a place among those that have a delta.
+fn host_at<'a, K: Disk>(
+    entries: Slice<'a, WaveletName, Filed<K>>,
+    place: u64,
+) -> Option<&'a WaveletName>
+    ensures { option_copied result ≡ slice_get (names_of (hosting entries)) place }
+{
+    let mut left = place;
+    let mut rest = entries;
+    while let Some(((name, filed), more)) = rest.split_first() {
+        if !filed.container.history().deltas().is_empty() {
+            if left == 0 {
+                return Some(name);
+            }
+            left -= 1;
+        }
+        rest = more;
+    }
+    None
+}
 
 impl<F: Folder> Copies for Shelf<F> {
     ghost use Rattle.std.specs.Prelude.{false};
@@ -34,18 +59,7 @@ impl<F: Folder> Copies for Shelf<F> {
     }
 
     fn hosted(&self, place: u64) -> Option<&WaveletName> {
-        let mut left = place;
-        let mut rest = self.containers.map.as_slice();
-        while let Some(((name, filed), more)) = rest.split_first() {
-            if !filed.container.history().deltas().is_empty() {
-                if left == 0 {
-                    return Some(name);
-                }
-                left -= 1;
-            }
-            rest = more;
-        }
-        None
+        host_at(self.containers.map.as_slice(), place)
     }
 
     fn dropped(&self, _name: &WaveletName) -> bool {

@@ -1,5 +1,5 @@
 // Shelves that are read from their folders.
-ghost use Rattle.std.specs.Prelude.{◌≡◌, ◌≢◌, ◌≤◌, ℕ, List, [], true, map, IsSome, IfSome, IsTrue, IfOk, IfErr, OnOk, OnErr, IsErrOf, string_bytes};
+ghost use Rattle.std.specs.Prelude.{◌≡◌, ◌≢◌, ◌⊎◌, ◌≤◌, ℕ, List, [], true, map, IsSome, IfSome, IsTrue, Err, IfOk, IfErr, OnOk, OnErr, IsErrOf, string_bytes};
 ghost use Rattle.std.specs.List.{AllByRecursion};
 ghost use Rattle.doc_items.specs.Maps.{Key};
 ghost use Rattle.delta_history.specs.Copying.{AreAscending};
@@ -8,9 +8,9 @@ ghost use Rattle.wave_outside.specs.Folders.{IsSame};
 ghost use Rattle.wavelet_shelf.specs.Entries.{found, HaveRoom};
 ghost use Rattle.wavelet_shelf.specs.Faults.{damage_of};
 ghost use Rattle.wavelet_shelf.specs.FileNames.{file_name_of};
-ghost use Rattle.wavelet_shelf.specs.Folders.{is_among, IsFileStep, IsAllStep, IsLoadedAs};
+ghost use Rattle.wavelet_shelf.specs.Folders.{is_among, faults_with, IsSkipped, IsFileRead, IsFileStep, IsAllStep, IsLoadedAs};
 ghost use Rattle.wavelet_shelf.specs.Loads.{IsAsBefore, IsReadFrom, IsRefusedFile, HasAll};
-ghost use Rattle.wavelet_shelf.specs.Shelves.{in_folder, entries_of, container_in, hosted_of, fault_count, IsKept, IsSettled, AreApart, HasFile};
+ghost use Rattle.wavelet_shelf.specs.Shelves.{in_folder, entries_of, container_in, hosted_of, fault_count, IsKept, IsSettled, AreApart};
 
 use crate::close::put_all;
 use crate::containers::Containers;
@@ -38,7 +38,7 @@ impl<F: Folder + Drop> Shelf<F> {
 
         ensures damaged { IfErr result (λ e. IfSome (damage_of e) (λ d. IsTrue F.Disk.tells → IfSome (in_folder self.old) (λ f. IsRefusedFile F.Disk.view (F.files f d.0) d.0 d.1))) }
         ensures none { OnErr result (entries_of self.new ≡ []) }
-        ensures as_before { IsTrue F.Disk.tells → IfSome (in_folder self.old) (λ f. IfSome (in_folder self.new) (λ g. (m : List ℕ) → (HasFile self.new m → ⊥) → IsAsBefore F.Disk.view (F.files f m) (F.files g m))) }
+        ensures as_before { IsTrue F.Disk.tells → IfSome (in_folder self.old) (λ f. IfSome (in_folder self.new) (λ g. (m : List ℕ) → ((n : Key) → IsSome (container_in self.new n) → m ≢ file_name_of n) → IsAsBefore F.Disk.view (F.files f m) (F.files g m))) }
 
         ensures folder { IsSome (in_folder self.new) }
         ensures later { fault_count self.old ≤ fault_count self.new }
@@ -61,13 +61,15 @@ fn load_from<F: Folder>(
     ensures room { HaveRoom (F.room folder.new) containers.new.map.entries }
     ensures loaded { IsLoadedAs F.Folder folder.old folder.new containers.new.map.entries result }
 {
-    let names = names_of(alloc, folder)?;
-    match load_all(alloc, folder, containers, &names) {
-        Ok(()) => Ok(()),
-        Err(fault) => {
-            put_all(folder, containers);
-            Err(fault)
-        }
+    match names_of(alloc, folder) {
+        Ok(names) => match load_all(alloc, folder, containers, names.as_slice()) {
+            Ok(()) => Ok(()),
+            Err(fault) => {
+                put_all(folder, containers);
+                Err(fault)
+            }
+        },
+        Err(fault) => Err(fault),
     }
 }
 
@@ -115,11 +117,34 @@ fn load_all<F: Folder>(
 {
     file_named_once();
     for name in names {
-        if is_file_name(name.as_str()) {
-            load_file(alloc, folder, containers, name.as_str())?;
+        match look_at(alloc, folder, containers, name.as_str()) {
+            Ok(()) => {}
+            Err(fault) => return Err(fault),
         }
     }
     Ok(())
+}
+
+// Reads the file of this name, if it is a wavelet's.
+fn look_at<F: Folder>(
+    alloc: Global,
+    folder: &mut F,
+    containers: &mut Containers<F::Disk>,
+    name: &str,
+) -> Result<(), ShelfFault>
+    requires room { HaveRoom (F.room folder.old) containers.old.map.entries }
+    requires there { IsTrue F.Disk.tells → IsSome (F.files folder.old name.now) }
+    requires apart { (n : Key) → IsSome (found containers.old.map.entries n) → name.now ≢ file_name_of n }
+    ensures room { HaveRoom (F.room folder.new) containers.new.map.entries }
+    ensures ok { OnOk result (IsSkipped F.Folder folder.old folder.new name.now containers.old.map.entries containers.new.map.entries ⊎ IsFileRead F.Folder folder.old folder.new name.now containers.old.map.entries containers.new.map.entries) }
+    ensures err { IfErr result (λ e. IsFileStep F.Folder folder.old folder.new name.now containers.old.map.entries containers.new.map.entries (Err e)) }
+    ensures later { faults_with F.Folder folder.old containers.old.map.entries ≤ faults_with F.Folder folder.new containers.new.map.entries }
+{
+    if is_file_name(name) {
+        load_file(alloc, folder, containers, name)
+    } else {
+        Ok(())
+    }
 }
 
 // Reads the file of this name, whose container comes to the others; one without a header is put back.

@@ -69,7 +69,10 @@ fn open_as<K: Disk>(
 }
 
 // So it is, where this is its wavelet.
-fn read<K: Disk>(alloc: Global, disk: K, name: WaveletName) -> Result<Opened<K>, LoadRefused<K>> {
+fn read<K: Disk>(alloc: Global, disk: K, name: WaveletName) -> Result<Opened<K>, LoadRefused<K>>
+    ensures ok { IfOk result (λ o. (m : List ℕ) → IsOwnName name m → (IsTrue K.tells → HasName (Some name) (K.view disk).seen) → IsOpened m (K.view disk) o) }
+    ensures err { IfErr result (λ r. (m : List ℕ) → IsOwnName name m → (IsTrue K.tells → HasName (Some name) (K.view disk).seen) → IsUnopened K.Disk m (K.view disk) r) }
+{
     match name.copy(alloc) {
         Ok(key) => {
             let container = Container::load(alloc, name, disk)?;

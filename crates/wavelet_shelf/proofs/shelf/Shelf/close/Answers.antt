@@ -1,6 +1,4 @@
-use Rattle.std.proofs.Common.{◌≡◌, ⊥, ℕ, List, Option, IfSome, sym, subst}
-use Rattle.wavelet_shelf.specs.FileNames.{file_name_of}
-use Rattle.wavelet_shelf.proofs.Returning.{apart_in, no_file, back_of, stored_of}
+use Rattle.wavelet_shelf.proofs.Returning.{apart_in, back_of, stored_of, others_of}
 use Rattle.wavelet_shelf.proofs.shelf.Shelf.close.Goals as goal
 
 pub returns-clause-back : goal.returns-clause-back
@@ -14,7 +12,4 @@ returns-clause-stored g c kept settled apart n =
     stored_of g.F.Folder c.put_all.new.folder s.map.entries n s.in_order settled (c.put_all.ensures.back.back kept.told (apart_in g.F.Folder s.map.entries s.in_order.0 apart))
 
 pub returns-clause-others : goal.returns-clause-others
-returns-clause-others g c told =
-    let s = c.args.self.containers in
-    subst (λ (o : Option g.row.F.Denot). IfSome o (λ x. (m : List ℕ) → _ → g.F.Folder.files c.put_all.new.folder m ≡ g.F.Folder.files x m)) (sym c.in_ok-folder.is)
-    (λ m not. c.put_all.ensures.back.others told m (no_file g.F.Folder s.map.entries m (λ n there same. not (n, there, same))))
+returns-clause-others g c told = others_of g.F.Folder _ c.in_ok-folder.folder c.put_all.new.folder c.in_ok-folder.was (λ m apart. c.put_all.ensures.back.others told m apart)
