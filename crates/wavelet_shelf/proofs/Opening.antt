@@ -1,18 +1,19 @@
 -- What comes of one file.
 --     step_read, step_passed, step_refused      its history came to the others; it stands for none; it wasn't read
 --     step_kept                                 its disk wasn't handed out
-use Rattle.std.proofs.Common.{◌≡◌, ◌≢◌, inl, inr, ⊎_elim, ℕ, ◌+◌, ◌-◌, ◌^◌, ◌≤◌, min, Bool, true, false, List, [], ◌∷◌, length, insert, Option, Some, None, Ok, Err, Result, IsSome, IfSome, IsTrue, string_bytes, refl, sym, ap, subst, ◌∙◌, true≢false, arith, le_refl}
+use Rattle.std.proofs.Common.{◌≡◌, ◌≢◌, inl, inr, ⊎_elim, ℕ, ◌+◌, ◌-◌, ◌^◌, ◌≤◌, min, Bool, true, false, List, [], ◌∷◌, length, insert, Option, Some, None, Ok, Err, Result, IsSome, IfSome, IsTrue, is_some, string_bytes, refl, sym, ap, subst, ◌∙◌, true≢false, arith, le_refl}
 use Rattle.std.specs.Result.{IsErrOf}
 use Rattle.doc_items.specs.Maps.{Key}
-use Rattle.disk_model.specs.Disk.{DiskView, OnlyRead}
+use Rattle.disk_model.specs.Disk.{DiskView, OnlyRead, LeavesJust, Rose as HasRisen}
 use Rattle.disk_model.specs.declared.disk.Disk as disk_of
 use Rattle.delta_journal.specs.File.{HasName, HasNoHeader}
-use Rattle.delta_journal.specs.Journal.{on_disk}
+use Rattle.delta_journal.specs.Journal.{on_disk, needs_repair}
+use Rattle.delta_journal.specs.declared.journal.Journal.{Journal}
 use Rattle.wave_outside.specs.Counts.{Rose}
 use Rattle.wave_outside.specs.Folders.{IsSameFile, IsEmptyFile, IsHanded, IsPutBack, IsElsewhere, IsSame}
 use Rattle.wave_outside.specs.declared.folder.Folder as folder_of
-use Rattle.wavelet_container.specs.Containers.{history_of, journal_of}
-use Rattle.wavelet_container.specs.Records.{StandsForHistory}
+use Rattle.wavelet_container.specs.Containers.{history_of, journal_of, IsHeld}
+use Rattle.wavelet_container.specs.Records.{StandsForHistory, IsDamagedHistory}
 use Rattle.wavelet_container.specs.declared.container.Container.{Container}
 use Rattle.wavelet_container.specs.declared.fault.LoadFault.{LoadFault}
 use Rattle.wavelet_container.specs.declared.fault.LoadFault.TheVariants.{Damaged, DiskFault}
@@ -27,6 +28,7 @@ use Rattle.wavelet_shelf.specs.declared.fault.ShelfFault.TheVariants.{Failed}
 use Rattle.wavelet_shelf.specs.declared.filed.Filed.{Filed}
 use Rattle.wavelet_shelf.specs.declared.opened.Opened.{Opened}
 use Rattle.wavelet_shelf.specs.declared.opened.Opened.TheVariants.{Read, Passed}
+use Rattle.wavelet_shelf.proofs.Answering.{safe_file}
 use Rattle.wavelet_shelf.proofs.Loading.{as_it_is}
 use Rattle.wavelet_shelf.proofs.Names.{same_or_not}
 use Rattle.wavelet_shelf.proofs.Placing.{length_keys}
@@ -197,7 +199,6 @@ module _ {K : Type 0} {disk : disk_of.Ghosts K} (m : List ℕ) (x y : DiskView) 
     read = λ told. read_before (opened.read told);
     held = opened.held;
     safe = opened.safe;
-    faults = le_before x.faults y.faults (faults_of c) first.faults opened.faults;
   }
     where
       read_before : IsReadAs y c → IsReadAs x c
@@ -220,4 +221,40 @@ module _ {K : Type 0} {disk : disk_of.Ghosts K} (m : List ℕ) (x y : DiskView) 
     as_before = then_read x y (disk.view r.disk) first unopened.as_before;
     faults = le_before x.faults y.faults (disk.view r.disk).faults first.faults unopened.faults;
     failed = λ is. risen_before x.faults y.faults (disk.view r.disk).faults (2 ^ 64 - 1) first.faults (unopened.failed is);
+  }
+
+-- ---- a journal that was loaded
+
+same_journal : {J : Type 0} {i j : J} → Some i ≡ Some j → i ≡ j
+same_journal e = cc
+
+module _ {K : Type 0} {disk : disk_of.Ghosts K} (m : List ℕ) (x : DiskView) (name : Key) where
+  journal_at : (o : Option (Journal K disk)) (P : Journal K disk → Type 0) → IfSome o P → (j : Journal K disk) → o ≡ Some j → P j
+  journal_at None P some j is = absurd (true≢false (sym (ap is_some is)))
+  journal_at (Some i) P some j is = subst P (same_journal is) some
+
+  pub opened_of : (key : Key) (c : Container K disk) → key ≡ name → (history_of c).name ≡ name → (IsTrue disk.tells → StandsForHistory name (history_of c).deltas x.seen) → (IsTrue disk.tells → IsHeld c)
+      → IfSome (journal_of c) (λ j. needs_repair j ≡ false) → IfSome (journal_of c) (λ j. LeavesJust x.seen (on_disk j)) → IfSome (journal_of c) (λ j. OnlyRead x (on_disk j))
+      → IsOwnName name m → (IsTrue disk.tells → HasName (Some name) x.seen) → IsOpenedAs m x key c
+  opened_of key c is named exact held whole synced read own header = record {
+    own = subst (λ n. IsOwnName n m) (sym is) own;
+    named = named ∙ sym is;
+    header = λ told. subst (λ n. HasName (Some n) x.seen) (sym is) (header told);
+    read = λ told. let h = held told in record {
+      stands = subst (λ n. StandsForHistory n (history_of c).deltas x.seen) (sym named) (exact told);
+      journal = h.0;
+      is = h.1;
+      read = (journal_at (journal_of c) (λ j. OnlyRead x (on_disk j)) read h.0 h.1).seen;
+      images = journal_at (journal_of c) (λ j. LeavesJust x.seen (on_disk j)) synced h.0 h.1;
+    };
+    held = held;
+    safe = λ told. let h = held told in safe_file c h.0 h.1 h.2 (journal_at (journal_of c) (λ j. needs_repair j ≡ false) whole h.0 h.1);
+  }
+
+  pub unopened_of : (r : LoadRefused K) → ((offset : ℕ) → r.fault ≡ Damaged offset → IsTrue disk.tells → IsDamagedHistory name offset x.seen) → OnlyRead x (disk.view r.disk) → (r.fault ≡ DiskFault → HasRisen x (disk.view r.disk)) → IsOwnName name m → (IsTrue disk.tells → HasName (Some name) x.seen) → IsUnopened disk m x r
+  unopened_of r damaged read failed own header = record {
+    damaged = λ offset is told. inr (name, header told, inl (own, damaged offset is told));
+    as_before = record { seen = read.seen; images = read.images };
+    faults = read.faults;
+    failed = failed;
   }

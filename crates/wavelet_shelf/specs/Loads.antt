@@ -22,7 +22,7 @@ use Rattle.wavelet_container.specs.Records.{StandsForHistory, IsDamagedHistory}
 use Rattle.wavelet_container.specs.declared.container.Container.{Container}
 use Rattle.wavelet_container.specs.declared.fault.LoadFault.TheVariants.{Damaged, DiskFault}
 use Rattle.wavelet_container.specs.declared.load.LoadRefused.{LoadRefused}
-use Rattle.wavelet_shelf.specs.Entries.{faults_of, IsSafe}
+use Rattle.wavelet_shelf.specs.Entries.{IsSafe}
 use Rattle.wavelet_shelf.specs.FileNames.{file_name_of}
 use Rattle.wavelet_shelf.specs.Hosting.{Hosted, deltas_in}
 use Rattle.wavelet_shelf.specs.declared.opened.Opened.{Opened}
@@ -85,7 +85,6 @@ pub record IsOpenedAs {K : Type 0} {disk : Ghosts K} (m : List ℕ) (file : Disk
   pub read : IsTrue disk.tells → IsReadAs file c
   pub held : IsTrue disk.tells → IsHeld c
   pub safe : IsTrue disk.tells → IsSafe c
-  pub faults : file.faults ≤ faults_of c
 
 pub record IsPassedAs {K : Type 0} (disk : Ghosts K) (file : DiskView) (k : K) : Type 0 where
   pub none : IsTrue disk.tells → HasNoHeader file.seen

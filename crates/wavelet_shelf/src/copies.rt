@@ -19,7 +19,7 @@ fn host_at<'a, K: Disk>(
     entries: Slice<'a, WaveletName, Filed<K>>,
     place: u64,
 ) -> Option<&'a WaveletName>
-    ensures { option_copied result ≡ slice_get (names_of (hosting entries)) place }
+    ensures { option_copied result ≡ slice_get (names_of (hosting entries.entry)) place }
 {
     let mut left = place;
     let mut rest = entries;

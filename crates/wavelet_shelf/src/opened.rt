@@ -73,15 +73,15 @@ fn read<K: Disk>(alloc: Global, disk: K, name: WaveletName) -> Result<Opened<K>,
     ensures ok { IfOk result (λ o. (m : List ℕ) → IsOwnName name m → (IsTrue K.tells → HasName (Some name) (K.view disk).seen) → IsOpened m (K.view disk) o) }
     ensures err { IfErr result (λ r. (m : List ℕ) → IsOwnName name m → (IsTrue K.tells → HasName (Some name) (K.view disk).seen) → IsUnopened K.Disk m (K.view disk) r) }
 {
-    match name.copy(alloc) {
-        Ok(key) => {
-            let container = Container::load(alloc, name, disk)?;
-            Ok(Opened::Read(key, container))
-        }
-        Err(_) => Err(LoadRefused {
+    let Ok(key) = name.copy(alloc) else {
+        return Err(LoadRefused {
             disk,
             fault: LoadFault::Memory,
-        }),
+        });
+    };
+    match Container::load(alloc, name, disk) {
+        Ok(container) => Ok(Opened::Read(key, container)),
+        Err(refused) => Err(refused),
     }
 }
 

@@ -1,6 +1,6 @@
-use Rattle.std.proofs.Common.{◌≡◌, true, map, string_bytes, Err, sym, ap, subst, ◌∙◌}
+use Rattle.std.proofs.Common.{◌≡◌, true, map, string_bytes, sym, subst}
 use Rattle.wavelet_shelf.specs.Folders.{is_among}
-use Rattle.wavelet_shelf.proofs.Reading.{loaded_ok, loaded_err, unlisted}
+use Rattle.wavelet_shelf.proofs.Reading.{loaded_ok, loaded_err}
 use Rattle.wavelet_shelf.proofs.load.load_from.Goals as goal
 
 pub returns-in-Ok-load_all-clause-loaded : goal.returns-in-Ok-load_all-clause-loaded
@@ -9,12 +9,7 @@ returns-in-Ok-load_all-clause-loaded g c =
     (λ told m there. subst (λ l. is_among (map string_bytes l) m ≡ true) (sym c.as_slice.ensures.value) (c.in-Ok.ensures.all told m there))
     c.in-Ok-load_all.ensures.step
 
-pub returns-in-Err-load_all-clause-loaded : goal.returns-in-Err-load_all-clause-loaded
-returns-in-Err-load_all-clause-loaded g c =
-    loaded_err g.F.Folder g.F.Disk.Disk c.args.folder.now c.names_of.new.folder c.names_of.ensures.files c.names_of.ensures.later c.load_all.new.folder c.put_all.new.folder c.load_all.new.containers.map.entries c.put_all.new.containers.map.entries _ c.in-Err-load_all.fault c.load_all.new.containers.in_order.0
-    c.in-Err-load_all.ensures.step c.put_all.ensures.back c.put_all.ensures.empty
-
-pub returns-in-Err-clause-loaded : goal.returns-in-Err-clause-loaded
-returns-in-Err-clause-loaded g c =
-    unlisted g.F.Folder g.F.Disk.Disk c.args.folder.now c.names_of.new.folder c.names_of.ensures.files c.names_of.ensures.later c.args.containers.now.map.entries c.in-Err.fault c.requires
-    (λ is. c.names_of.ensures.failed (c.in-Err.is ∙ ap Err is)) c.in-Err.ensures.whole
+pub returns-in-Ok-clause-loaded : goal.returns-in-Ok-clause-loaded
+returns-in-Ok-clause-loaded g c =
+    loaded_err g.F.Folder g.F.Disk.Disk c.args.folder.now c.names_of.new.folder c.names_of.ensures.files c.names_of.ensures.later c.load_all.new.folder c.put_all.new.folder c.load_all.new.containers.map.entries c.put_all.new.containers.map.entries _ c.in-Err.fault c.load_all.new.containers.in_order.0
+    c.in-Err.ensures.step c.put_all.ensures.back c.put_all.ensures.empty

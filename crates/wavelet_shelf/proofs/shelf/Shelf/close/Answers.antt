@@ -12,4 +12,4 @@ returns-clause-stored g c kept settled apart n =
     stored_of g.F.Folder c.put_all.new.folder s.map.entries n s.in_order settled (c.put_all.ensures.back.back kept.told (apart_in g.F.Folder s.map.entries s.in_order.0 apart))
 
 pub returns-clause-others : goal.returns-clause-others
-returns-clause-others g c told = others_of g.F.Folder _ c.in_ok-folder.folder c.put_all.new.folder c.in_ok-folder.was (λ m apart. c.put_all.ensures.back.others told m apart)
+returns-clause-others g c told = others_of g.F.Folder c.args.self c.in_ok-folder.folder c.put_all.new.folder c.in_ok-folder.was (λ m apart. c.put_all.ensures.back.others told m apart)
