@@ -96,8 +96,8 @@ lent_name P (Some n) h = h
 
 module _ {K : Type 0} {disk : Ghosts K} where
   -- the next name that is hosted
-  pub next_host : (es : List (Key × Filed K disk)) (n : Key) (f : Filed K disk) (left : ℕ) (x : Option Key) → (length (deltas_of f) == 0) ≡ false → (left == 0) ≡ false → slice_get (names_of (hosting ((n, f) ∷ es))) left ≡ x → slice_get (names_of (hosting es)) (left - 1) ≡ x
-  next_host es n f zero x some not e = absurd (true≢false not)
+  pub next_host : (es : List (Key × Filed K disk)) (n : Key) (f : Filed K disk) (left : ℕ) (x : Option Key) → (length (deltas_of f) == 0) ≡ false → (left ≡ 0 → ⊥) → slice_get (names_of (hosting ((n, f) ∷ es))) left ≡ x → slice_get (names_of (hosting es)) (left - 1) ≡ x
+  next_host es n f zero x some not e = absurd (not refl)
   next_host es n f (suc i) x some not e =
       let less : i ≡ suc i - 1 = omega arith in
       subst (λ j. slice_get (names_of (hosting es)) j ≡ x) less (go (deltas_of f) refl e)

@@ -11,5 +11,5 @@ returns-in-Ok-load_all-clause-loaded g c =
 
 pub returns-in-Ok-clause-loaded : goal.returns-in-Ok-clause-loaded
 returns-in-Ok-clause-loaded g c =
-    loaded_err g.F.Folder g.F.Disk.Disk c.args.folder.now c.names_of.new.folder c.names_of.ensures.files c.names_of.ensures.later c.load_all.new.folder c.put_all.new.folder c.load_all.new.containers.map.entries c.put_all.new.containers.map.entries _ c.in-Err.fault c.load_all.new.containers.in_order.0
-    c.in-Err.ensures.step c.put_all.ensures.back c.put_all.ensures.empty
+    loaded_err g.F.Folder g.F.Disk.Disk c.args.folder.now c.names_of.new.folder c.names_of.ensures.files c.names_of.ensures.later c.load_all.new.folder c.put_all.new.folder c.load_all.new.containers.map.entries c.put_all.new.containers.map.entries _ c.in-Err-load_all.fault c.load_all.new.containers.in_order.0
+    c.in-Err-load_all.ensures.step c.put_all.ensures.back c.put_all.ensures.empty
