@@ -8,7 +8,7 @@ use std::process::Abort;
 use std::test::Fail;
 use wave_base::HashedVersion;
 use wave_outside::{Folder, MemoryFolder};
-use wavelet_shelf::{Shelf, shard};
+use wavelet_shelf::Shelf;
 
 // The number of the delta, the version that it was made at, its operations, and the verdict.
 const ROWS: [(u64, u64, &str, &str); 8] = [
@@ -119,26 +119,5 @@ fn a_base_far_behind(rt: HostRuntime) -> Result<(), Fail> {
     assert!(rt; version(&shelf, &name) == 131);
     let told = answer(alloc, &mut shelf, &name, 200, 2, "b+1: 2 +!")?;
     assert!(rt; told.as_str() == "ack 131 132");
-    Ok(())
-}
-
-// Each shelf has the wavelets of its shard.
-#[test]
-fn shelves_are_divided(rt: HostRuntime) -> Result<(), Fail> {
-    let alloc = rt.alloc();
-    let mut shelf = Shelf::over(alloc, folder(alloc));
-    for text in &NAMES {
-        submit_rows(&rt, alloc, &mut shelf, *text)?;
-    }
-    let parts = shelf.divide(alloc)?;
-    assert!(rt; parts.len() == 16);
-    for text in &NAMES {
-        let name = name(alloc, *text)?;
-        let own = shard(&name) as usize;
-        for place in 0..parts.len() {
-            let there = parts[place].copy_of(&name).is_some();
-            assert!(rt; there == (place == own));
-        }
-    }
     Ok(())
 }
