@@ -95,13 +95,16 @@ lent_name P None h = tt
 lent_name P (Some n) h = h
 
 module _ {K : Type 0} {disk : Ghosts K} where
-  -- the next name that is hosted
-  pub next_host : (es : List (Key × Filed K disk)) (n : Key) (f : Filed K disk) (left : ℕ) (x : Option Key) → (length (deltas_of f) == 0) ≡ false → (left ≡ 0 → ⊥) → slice_get (names_of (hosting ((n, f) ∷ es))) left ≡ x → slice_get (names_of (hosting es)) (left - 1) ≡ x
-  next_host es n f zero x some not e = absurd (not refl)
-  next_host es n f (suc i) x some not e =
+  next_of : (es : List (Key × Filed K disk)) (n : Key) (f : Filed K disk) (left : ℕ) (x : Option Key) → (length (deltas_of f) == 0) ≡ false → (left ≡ 0 → ⊥) → slice_get (names_of (hosting ((n, f) ∷ es))) left ≡ x → slice_get (names_of (hosting es)) (left - 1) ≡ x
+  next_of es n f zero x some not e = absurd (not refl)
+  next_of es n f (suc i) x some not e =
       let less : i ≡ suc i - 1 = omega arith in
       subst (λ j. slice_get (names_of (hosting es)) j ≡ x) less (go (deltas_of f) refl e)
     where
       go : (ds : List DeltaOf) → deltas_of f ≡ ds → slice_get (names_of (shown_by (record { name = n; deltas = deltas_of f }) ds (hosting es))) (suc i) ≡ x → slice_get (names_of (hosting es)) i ≡ x
       go [] is e = absurd (true≢false (sym (ap (λ (l : List DeltaOf). length l == 0) is) ∙ some))
       go (d ∷ ds) is e = e
+
+  -- the next name that is hosted
+  pub next_host : (es rest : List (Key × Filed K disk)) (n : Key) (f : Filed K disk) (left : ℕ) {x : Option Key} → rest ≡ (n, f) ∷ es → (length (deltas_of f) == 0) ≡ false → (left ≡ 0 → ⊥) → slice_get (names_of (hosting rest)) left ≡ x → slice_get (names_of (hosting es)) (left - 1) ≡ x
+  next_host es rest n f left {x = x} is some not e = next_of es n f left x some not (subst (λ l. slice_get (names_of (hosting l)) left ≡ x) is e)
