@@ -37,7 +37,7 @@ impl From<crate::Failed> for FolderFault {
     }
 }
 
-/// A folder of files. A disk is handed out for a file, with a count of faults of its own that begins at 0, and is put back under the
+/// A folder of files. One whose disks tell what a read gives tells its files (`told`). A disk is handed out for a file, with a count of faults of its own that begins at 0, and is put back under the
 /// same name; the folder then counts its faults too.
 pub trait Folder {
     type Disk: Disk + Drop;
@@ -63,6 +63,7 @@ pub trait Folder {
 
     /// The names of all files, in any order.
     fn names(&mut self, alloc: Global) -> Result<Vec<String>, FolderFault>
+        ensures told { IsTrue Self.Disk.tells → IsTrue tells }
         ensures names { IfOk result (λ v. IsTrue tells → AreNames (files self.old) (map string_bytes v.items)) }
         ensures files { IsTrue tells → IsSame (files self.old) (files self.new) }
         ensures room { IsSame (room self.old) (room self.new) }
@@ -71,28 +72,33 @@ pub trait Folder {
 
     /// The disk of the file of this name, which is made, empty, where it isn't there.
     fn file(&mut self, alloc: Global, name: &str) -> Result<Self::Disk, FolderFault>
+        ensures told { IsTrue Self.Disk.tells → IsTrue tells }
         ensures given { IfOk result (λ d. IsTrue tells → IsHanded Self.Disk.view (files self.old name.now) (Self.Disk.view d)) }
         ensures uncounted { IfOk result (λ d. (Self.Disk.view d).faults ≡ 0) }
         ensures out { OnOk result (room self.new name.now ≡ true) }
         ensures others { IsTrue tells → IsElsewhere name.now (files self.old) (files self.new) }
         ensures other_room { IsElsewhere name.now (room self.old) (room self.new) }
+        ensures room_stays { room self.old name.now ≡ true → room self.new name.now ≡ true }
         ensures kept { OnErr result (IsTrue tells → IsSame (files self.old) (files self.new)) }
         ensures later { faults self.old ≤ faults self.new }
         ensures failed { IfErr result (λ e. e ≡ Failed → Rose (faults self.old) (faults self.new)) };
 
     /// The disk of the file of this name, which reads as empty, and which a crash leaves empty, whatever stood there.
     fn fresh(&mut self, alloc: Global, name: &str) -> Result<Self::Disk, FolderFault>
+        ensures told { IsTrue Self.Disk.tells → IsTrue tells }
         ensures empty { IfOk result (λ d. IsTrue tells → IsEmptyFile (Self.Disk.view d)) }
         ensures uncounted { IfOk result (λ d. (Self.Disk.view d).faults ≡ 0) }
         ensures out { OnOk result (room self.new name.now ≡ true) }
         ensures others { IsTrue tells → IsElsewhere name.now (files self.old) (files self.new) }
         ensures other_room { IsElsewhere name.now (room self.old) (room self.new) }
+        ensures room_stays { room self.old name.now ≡ true → room self.new name.now ≡ true }
         ensures later { faults self.old ≤ faults self.new }
         ensures failed { IfErr result (λ e. e ≡ Failed → Rose (faults self.old) (faults self.new)) };
 
     /// Takes back a disk that was handed out under this name. Its faults count as the folder's.
     fn put(&mut self, name: &str, disk: Self::Disk)
         requires { room self.old name.now ≡ true }
+        ensures told { IsTrue Self.Disk.tells → IsTrue tells }
         ensures there { IsTrue tells → IsPutBack Self.Disk.view (Self.Disk.view disk) (files self.new name.now) }
         ensures others { IsTrue tells → IsElsewhere name.now (files self.old) (files self.new) }
         ensures room { IsSame (room self.old) (room self.new) }

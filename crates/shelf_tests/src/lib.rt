@@ -1,0 +1,11 @@
+//! Tests of shelves: submissions to several wavelets, what is in the folder, and what is read from it again.
+#![tactic(auto)]
+
+#[cfg(test)]
+mod crashes;
+#[cfg(test)]
+mod damage;
+#[cfg(test)]
+mod wavelets;
+#[cfg(test)]
+mod words;

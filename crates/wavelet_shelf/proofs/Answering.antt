@@ -1,0 +1,75 @@
+-- Containers that answered a submission.
+--     held_after            the history stands in the journal as before
+--     safe_file             where no repair is pending it stands in the file as that reads, and in each image
+--     safe_after            so it does after a call that answered
+--     faults_later, faults_rose     the disk's count
+--     name_after            the name stays
+use Rattle.std.proofs.Common.{◌≡◌, ℕ, ◌≤◌, false, List, Option, Some, None, IsSome, refl, sym, ap, subst, ◌∙◌, le_refl, true≢false}
+use Rattle.wavelet_op.specs.Deltas.{DeltaOf}
+use Rattle.delta_history.specs.Histories.{HistoryOf}
+use Rattle.disk_model.specs.Disk.{Rose as HasRisen}
+use Rattle.disk_model.specs.declared.disk.Disk.{Ghosts}
+use Rattle.delta_journal.specs.Journal.{on_disk, needs_repair}
+use Rattle.delta_journal.specs.declared.journal.Journal.{Journal}
+use Rattle.delta_journal.proofs.Stages.{sure_stands}
+use Rattle.wave_outside.specs.Counts.{Rose}
+use Rattle.wavelet_container.specs.Containers.{history_of, journal_of, OfBoth, IsHeld}
+use Rattle.wavelet_container.specs.Records.{records_of, StandsForHistory}
+use Rattle.wavelet_container.specs.Stores.{IsStored, IsGrownBy}
+use Rattle.wavelet_container.specs.declared.container.Container.{Container}
+use Rattle.wavelet_container.proofs.Journals.{sure_images}
+use Rattle.wavelet_shelf.specs.Entries.{faults_on, IsSafe}
+
+no_value : {X T : Type 0} {x : X} → None ≡ Some x → T
+no_value e = absurd (cc)
+
+same_Some : {X : Type 0} {x y : X} → Some x ≡ Some y → x ≡ y
+same_Some e = cc
+
+module _ {K : Type 0} {disk : Ghosts K} where
+  held_from : (g h : HistoryOf) (o p : Option (Journal K disk)) → OfBoth o p (λ i j. IsStored g i → IsStored h j) → (j : Journal K disk) → o ≡ Some j → IsStored g j → (k : Journal K disk) × (p ≡ Some k) × IsStored h k
+  held_from g h None p both j e s = no_value e
+  held_from g h (Some i) None both j e s = absurd both
+  held_from g h (Some i) (Some k) both j e s = (k, refl, both (subst (IsStored g) (sym (same_Some e)) s))
+
+  pub held_after : (c after : Container K disk) → OfBoth (journal_of c) (journal_of after) (λ i j. IsStored (history_of c) i → IsStored (history_of after) j) → IsHeld c → IsHeld after
+  held_after c after both held = held_from (history_of c) (history_of after) (journal_of c) (journal_of after) both held.0 held.1 held.2
+
+  sure_from : (o p : Option (Journal K disk)) → OfBoth o p (λ i j. needs_repair j ≡ false) → (k : Journal K disk) → p ≡ Some k → needs_repair k ≡ false
+  sure_from None None both k e = no_value e
+  sure_from None (Some j) both k e = absurd both
+  sure_from (Some i) None both k e = absurd both
+  sure_from (Some i) (Some j) both k e = subst (λ l. needs_repair l ≡ false) (same_Some e) both
+
+  pub safe_file : (c : Container K disk) (j : Journal K disk) → journal_of c ≡ Some j → IsStored (history_of c) j → needs_repair j ≡ false → IsSafe c
+  safe_file c j is s sure = record {
+    journal = j;
+    is = is;
+    whole = sure;
+    read = record {
+      stands = sure_stands j.stage (history_of c).name (records_of (history_of c).deltas) (on_disk j).seen sure s.held.empty s.held.file.now;
+      legal = s.legal;
+      spelled = s.spelled;
+    };
+    images = sure_images (history_of c) j s sure;
+  }
+
+  pub safe_after : (c after : Container K disk) → OfBoth (journal_of c) (journal_of after) (λ i j. IsStored (history_of c) i → IsStored (history_of after) j) → OfBoth (journal_of c) (journal_of after) (λ i j. needs_repair j ≡ false) → IsHeld c → IsSafe after
+  safe_after c after both sure held =
+      let now = held_after c after both held in
+      safe_file after now.0 now.1 now.2 (sure_from (journal_of c) (journal_of after) sure now.0 now.1)
+
+  pub faults_later : (o p : Option (Journal K disk)) → OfBoth o p (λ i j. (on_disk i).faults ≤ (on_disk j).faults) → faults_on o ≤ faults_on p
+  faults_later None None both = le_refl 0
+  faults_later None (Some j) both = absurd both
+  faults_later (Some i) None both = absurd both
+  faults_later (Some i) (Some j) both = both
+
+  pub faults_rose : (o p : Option (Journal K disk)) → IsSome o → OfBoth o p (λ i j. HasRisen (on_disk i) (on_disk j)) → Rose (faults_on o) (faults_on p)
+  faults_rose None p some both = absurd (true≢false (sym some))
+  faults_rose (Some i) None some both = absurd both
+  faults_rose (Some i) (Some j) some both = both
+
+pub name_after : (g h : HistoryOf) (added : Option DeltaOf) → IsGrownBy g added h → h.name ≡ g.name
+name_after g h None same = same.name
+name_after g h (Some d) grown = grown.name

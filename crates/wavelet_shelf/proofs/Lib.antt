@@ -1,0 +1,17 @@
+pub mod Names
+pub mod Growing
+pub mod Placing
+pub mod Sums
+pub mod Among
+pub mod Ascii
+pub mod Headers
+pub mod FileName
+pub mod Answering
+pub mod Shelving
+pub mod Sharing
+pub mod Returning
+pub mod Loading
+pub mod Refusing
+pub mod Sorting
+pub mod Opening
+pub mod Reading

@@ -1,0 +1,18 @@
+use Rattle.std.proofs.lemmas.Result.{on_ok_weaker}
+use Rattle.wavelet_shelf.proofs.Answering.{held_after, safe_after, faults_later, faults_rose}
+use Rattle.wavelet_shelf.proofs.taking.taken.Goals as goal
+
+pub returns : goal.returns
+returns g c =
+    let old = c.args.container.now in
+    let new = c.submit.new.self in
+    record {
+      verdict = c.submit.ensures.verdict;
+      grown = c.submit.ensures.grown;
+      same = c.submit.ensures.same;
+      held = held_after old new c.submit.ensures.stored;
+      safe = on_ok_weaker c.submit.result (λ sure. safe_after old new c.submit.ensures.stored sure) c.submit.ensures.done;
+      later = faults_later _ _ c.submit.ensures.later;
+      failed = λ e. faults_rose _ _ (c.submit.ensures.disk e) (c.submit.ensures.failed e);
+      filed = c.submit.ensures.disk;
+    }

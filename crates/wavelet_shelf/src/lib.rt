@@ -1,0 +1,23 @@
+//! The histories of wavelets at their host, by name, each with its journal in a folder.
+#![tactic(auto)]
+
+mod close;
+mod containers;
+mod copies;
+mod fault;
+mod filed;
+mod journal_name;
+mod keeping;
+mod laws;
+mod load;
+mod made;
+mod opened;
+mod shelf;
+mod submit;
+mod taking;
+mod telling;
+
+pub use fault::ShelfFault;
+pub use journal_name::{file_name, shard};
+pub use laws::hosting_grows_alone;
+pub use shelf::Shelf;

@@ -1,0 +1,35 @@
+// Shelves that are new.
+ghost use Rattle.std.specs.Prelude.{◌≡◌, [], Some, None, IsTrue, option_copied};
+ghost use Rattle.wavelet_shelf.specs.Shelves.{in_folder, entries_of, container_in, IsKept};
+
+use crate::Shelf;
+use crate::containers::Containers;
+use std::alloc::Global;
+use wave_base::WaveletName;
+use wave_outside::Folder;
+use wavelet_container::Container;
+
+impl<F: Folder + Drop> Shelf<F> {
+    /// No history, and no folder.
+    pub fn new(alloc: Global) -> Shelf<F>
+        ensures plain { in_folder result ≡ None }
+        ensures empty { entries_of result ≡ [] }
+    {
+        Shelf {
+            folder: None,
+            containers: Containers::new(alloc),
+        }
+    }
+
+    /// No history, over a folder.
+    pub fn over(alloc: Global, folder: F) -> Shelf<F>
+        ensures folder { in_folder result ≡ Some folder }
+        ensures empty { entries_of result ≡ [] }
+        ensures kept { IsTrue F.Disk.tells → IsKept result }
+    {
+        Shelf {
+            folder: Some(folder),
+            containers: Containers::new(alloc),
+        }
+    }
+}

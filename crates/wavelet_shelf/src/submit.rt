@@ -1,0 +1,222 @@
+// Submissions to a shelf.
+ghost use Rattle.std.specs.Prelude.{◌≡◌, ◌≢◌, ◌==◌, ◌≤◌, ◌<◌, ℕ, List, [], true, false, None, is_some, IsTrue, IsSome, IfOk, IfSome, OnOk, OnErr, IsErrOf, string_bytes};
+ghost use Rattle.std.specs.Cmp.Lexicographic.{pointwise};
+ghost use Rattle.std.specs.Map.{lookup};
+ghost use Rattle.doc_items.specs.Maps.{Key};
+ghost use Rattle.indexmap.specs.IndexMap.{spare};
+ghost use Rattle.wave_outside.specs.Counts.{Rose};
+ghost use Rattle.wavelet_container.specs.Containers.{history_of, journal_of};
+ghost use Rattle.wavelet_shelf.specs.Entries.{IsSafe};
+ghost use Rattle.wavelet_shelf.specs.FileNames.{file_name_of};
+ghost use Rattle.wavelet_shelf.specs.Hosting.{judged_in, after_submission};
+ghost use Rattle.wavelet_shelf.specs.Shelves.{entries_of, in_folder, folder_faults, hosted_of, container_in, fault_count, IsKept, IsSettled};
+ghost use Rattle.wavelet_shelf.specs.Steps.{IsHosted, IsStarted, IsTakenFirst};
+
+use crate::Shelf;
+use crate::filed::Filed;
+use crate::journal_name::file_name;
+use crate::taking::taken;
+use disk_model::Disk;
+use doc_items::Memory;
+use std::alloc::Global;
+use wave_base::WaveletName;
+use wave_outside::{Folder, FolderFault};
+use wavelet_container::{Container, SubmitFault};
+use wavelet_op::{Submission, Verdict};
+
+impl<F: Folder + Drop> Shelf<F> {
+    /// The verdict on a submission to the wavelet of this name at the time, in milliseconds; a name that isn't there counts as an
+    /// empty history. The history of the name grows by just the delta that is accepted, and that of every other name stays as it
+    /// is. Over a folder the delta is in the wavelet's file before the history has it. `DiskFault` where the folder or the disk
+    /// failed.
+    pub fn submit(
+        &mut self,
+        alloc: Global,
+        name: &WaveletName,
+        submission: &Submission,
+        time: u64,
+    ) -> Result<Verdict, SubmitFault>
+        ensures verdict { IfOk result (λ v. v ≡ (judged_in (hosted_of self.old) name.now submission.now time).0) }
+        ensures grown { OnOk result (hosted_of self.new ≡ after_submission (hosted_of self.old) name.now submission.now time) }
+        ensures same { OnErr result (hosted_of self.new ≡ hosted_of self.old) }
+        ensures others { (m : Key) → m ≢ name.now → container_in self.new m ≡ container_in self.old m }
+
+        ensures kept { IsKept self.old → IsKept self.new }
+        ensures stored { OnOk result (IsKept self.old → IfSome (container_in self.new name.now) IsSafe) }
+        ensures settled { OnOk result (IsKept self.old → IsSettled self.old → IsSettled self.new) }
+
+        ensures later { fault_count self.old ≤ fault_count self.new }
+        ensures failed { IsErrOf result SubmitFault.DiskFault → Rose (fault_count self.old) (fault_count self.new) }
+    {
+        self.answer(alloc, name, submission, time)
+    }
+
+    // So it is, in one fact.
+    fn answer(
+        &mut self,
+        alloc: Global,
+        name: &WaveletName,
+        submission: &Submission,
+        time: u64,
+    ) -> Result<Verdict, SubmitFault>
+        ensures { IsHosted name.now submission.now time self.old self.new result }
+    {
+        if self.containers.has(name) {
+            self.containers.submit(alloc, name, submission, time)
+        } else {
+            self.submit_first(alloc, name, submission, time)
+        }
+    }
+
+    // So it is, where the name isn't there.
+    fn submit_first(
+        &mut self,
+        alloc: Global,
+        name: &WaveletName,
+        submission: &Submission,
+        time: u64,
+    ) -> Result<Verdict, SubmitFault>
+        requires absent { is_some (lookup (pointwise ◌==◌ name.now) (entries_of self.old)) ≡ false }
+        ensures { IsHosted name.now submission.now time self.old self.new result }
+    {
+        let mut plain = empty(alloc, name)?;
+        match taken(alloc, &mut plain, submission, time) {
+            Ok(verdict) => self.host(alloc, name, submission, time, plain, verdict),
+            Err(fault) => Err(fault),
+        }
+    }
+
+    // So it is, where a container without a journal answered.
+    fn host(
+        &mut self,
+        alloc: Global,
+        name: &WaveletName,
+        submission: &Submission,
+        time: u64,
+        plain: Container<F::Disk>,
+        verdict: Verdict,
+    ) -> Result<Verdict, SubmitFault>
+        requires absent { is_some (lookup (pointwise ◌==◌ name.now) (entries_of self.old)) ≡ false }
+        requires taken { IsTakenFirst name.now submission.now time plain verdict }
+        ensures { IsHosted name.now submission.now time self.old self.new result }
+    {
+        if plain.history().deltas().is_empty() {
+            Ok(verdict)
+        } else if self.folder.is_none() {
+            self.keep(alloc, name, submission, time, plain, verdict)
+        } else {
+            self.store(alloc, name, submission, time)
+        }
+    }
+
+    // So it is, where there is no folder, and a delta is accepted.
+    fn keep(
+        &mut self,
+        alloc: Global,
+        name: &WaveletName,
+        submission: &Submission,
+        time: u64,
+        plain: Container<F::Disk>,
+        verdict: Verdict,
+    ) -> Result<Verdict, SubmitFault>
+        requires absent { is_some (lookup (pointwise ◌==◌ name.now) (entries_of self.old)) ≡ false }
+        requires plain { in_folder self.old ≡ None }
+        requires taken { IsTakenFirst name.now submission.now time plain verdict }
+        ensures { IsHosted name.now submission.now time self.old self.new result }
+    {
+        let (key, file) = self.place(alloc, name)?;
+        self.containers.put(
+            key,
+            Filed {
+                file,
+                container: plain,
+            },
+        );
+        Ok(verdict)
+    }
+
+    // So it is, where there is a folder.
+    fn store(
+        &mut self,
+        alloc: Global,
+        name: &WaveletName,
+        submission: &Submission,
+        time: u64,
+    ) -> Result<Verdict, SubmitFault>
+        requires absent { is_some (lookup (pointwise ◌==◌ name.now) (entries_of self.old)) ≡ false }
+        requires filed { IsSome (in_folder self.old) }
+        ensures { IsHosted name.now submission.now time self.old self.new result }
+    {
+        let (key, file) = self.place(alloc, name)?;
+        let mut container = self.start(alloc, name, file.as_str())?;
+        let answer = taken(alloc, &mut container, submission, time);
+        self.containers.put(key, Filed { file, container });
+        answer
+    }
+
+    // The name and the file of one more container, for which there is room. The error is want of memory.
+    fn place(&mut self, alloc: Global, name: &WaveletName) -> Result<(WaveletName, String), Memory>
+        ensures key { IfOk result (λ p. p.0 ≡ name.now) }
+        ensures file { IfOk result (λ p. string_bytes p.1 ≡ file_name_of name.now) }
+        ensures room { OnOk result (0 < spare self.new.containers.map) }
+        ensures same { entries_of self.new ≡ entries_of self.old }
+        ensures folder { in_folder self.new ≡ in_folder self.old }
+    {
+        let key = name.copy(alloc)?;
+        let file = file_name(alloc, name)?;
+        self.containers.reserve()?;
+        Ok((key, file))
+    }
+
+    // The empty history over a new file of the folder.
+    fn start(
+        &mut self,
+        alloc: Global,
+        name: &WaveletName,
+        file: &str,
+    ) -> Result<Container<F::Disk>, SubmitFault>
+        requires filed { IsSome (in_folder self.old) }
+        requires file { file.now ≡ file_name_of name.now }
+        ensures started { IfOk result (λ c. IsStarted name.now c) }
+        ensures room { OnOk result (IfSome (in_folder self.new) (λ f. F.room f file.now ≡ true)) }
+        ensures map { self.new.containers.map ≡ self.old.containers.map }
+        ensures filed { IsSome (in_folder self.new) }
+        ensures later { folder_faults F.faults (in_folder self.old) ≤ folder_faults F.faults (in_folder self.new) }
+        ensures failed { IsErrOf result SubmitFault.DiskFault → Rose (folder_faults F.faults (in_folder self.old)) (folder_faults F.faults (in_folder self.new)) }
+    {
+        match &mut self.folder {
+            Some(folder) => started(alloc, folder, file, name),
+            None => Err(SubmitFault::Memory),
+        }
+    }
+}
+
+// The empty history, without a journal. The error is want of memory.
+fn empty<K: Disk>(alloc: Global, name: &WaveletName) -> Result<Container<K>, Memory>
+    ensures name { IfOk result (λ c. (history_of c).name ≡ name.now) }
+    ensures empty { IfOk result (λ c. (history_of c).deltas ≡ []) }
+    ensures plain { IfOk result (λ c. journal_of c ≡ None) }
+{
+    Ok(Container::new(alloc, name.copy(alloc)?))
+}
+
+// The empty history over a new file of the folder.
+fn started<F: Folder>(
+    alloc: Global,
+    folder: &mut F,
+    file: &str,
+    name: &WaveletName,
+) -> Result<Container<F::Disk>, SubmitFault>
+    ensures started { IfOk result (λ c. IsStarted name.now c) }
+    ensures out { OnOk result (F.room folder.new file.now ≡ true) }
+    ensures room { (m : List ℕ) → F.room folder.old m ≡ true → F.room folder.new m ≡ true }
+    ensures later { F.faults folder.old ≤ F.faults folder.new }
+    ensures failed { IsErrOf result SubmitFault.DiskFault → Rose (F.faults folder.old) (F.faults folder.new) }
+{
+    let name = name.copy(alloc)?;
+    match folder.fresh(alloc, file) {
+        Ok(disk) => Ok(Container::start(alloc, name, disk)?),
+        Err(FolderFault::Failed) => Err(SubmitFault::DiskFault),
+        Err(FolderFault::Memory) => Err(SubmitFault::Memory),
+    }
+}
