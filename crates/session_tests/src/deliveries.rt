@@ -1,16 +1,14 @@
 // What sessions are answered and sent, over the copies of one wavelet at moments in turn.
+use crate::held::{NAME, copies, empty, held, push};
+use crate::shown::{word, words};
 use delta_history::History;
-use doc_items::Memory;
-use memory_copies::{Held, MemoryCopies, Noted, Notes};
+use memory_copies::{MemoryCopies, Noted, Notes};
 use session_core::{Session, SubmitAnswer};
 use std::alloc::Global;
 use std::test::Fail;
 use wave_base::{Domain, HashedVersion, WaveletName};
-use wave_messages::{ClosedReason, Message, UnopenedReason};
 use wavelet_op::Verdict;
-use wavelet_words::{delta_at, id};
-
-const NAME: &str = "a.com/w1/a.com/conv+root";
+use wavelet_words::id;
 
 // A version with a hash that no history has there.
 const WRONG: HashedVersion = HashedVersion {
@@ -65,25 +63,9 @@ const PEER: [(usize, &str, &str); 10] = [
     (5, "deliver", "applied 3;applied 4;applied 5;"),
 ];
 
-// The delta of these words behind the others.
-fn push(
-    alloc: Global,
-    history: &mut History,
-    number: u64,
-    author: &str,
-    words: &str,
-) -> Result<(), Fail> {
-    if number > 1000 {
-        return Ok(());
-    }
-    let delta = delta_at(alloc, author, number, history.head(), words)?;
-    history.push_applied(alloc, delta)?;
-    Ok(())
-}
-
 // The history of the first deltas.
 fn history(alloc: Global, count: usize) -> Result<History, Fail> {
-    let mut history = History::new(alloc, WaveletName::parse(alloc, NAME)?);
+    let mut history = empty(alloc, NAME)?;
     let mut number = 0u64;
     for (author, words) in DELTAS.iter().take(count) {
         push(alloc, &mut history, number, author, words)?;
@@ -103,115 +85,10 @@ fn noted(alloc: Global) -> Result<Notes, Fail> {
 }
 
 // The copies with the first deltas.
-fn copies(alloc: Global, count: usize, dropped: bool) -> Result<MemoryCopies, Fail> {
-    let history = history(alloc, count)?;
-    let noted = noted(alloc)?;
+fn moment(alloc: Global, count: usize, dropped: bool) -> Result<MemoryCopies, Fail> {
     let mut list = Vec::new(alloc);
-    list.push(Held {
-        history,
-        hosted: true,
-        dropped,
-        noted,
-    })?;
-    match MemoryCopies::new(list) {
-        Some(copies) => Ok(copies),
-        None => Err(Fail::new("copies in another order")),
-    }
-}
-
-// What a message is called.
-fn label(message: &Message) -> &'static str {
-    match message {
-        Message::Opened { .. } => "opened",
-        Message::Snapshot(_) => "snapshot",
-        Message::Unopened { reason, .. } => unopened_label(reason),
-        Message::Update { .. } => "update",
-        Message::Applied { .. } => "applied",
-        Message::Closed { reason, .. } => closed_label(reason),
-        Message::Dropped { .. } => "dropped",
-        Message::Queued { .. } => "queued",
-        Message::Refused { .. } => "refused",
-        Message::Ack { .. } => "ack",
-        _ => "another",
-    }
-}
-
-fn unopened_label(reason: &UnopenedReason) -> &'static str {
-    match reason {
-        UnopenedReason::NotParticipant => "unopened absent",
-        UnopenedReason::UnknownVersion { .. } => "unopened unknown",
-        UnopenedReason::WrongHash { .. } => "unopened wrong",
-        UnopenedReason::TooLarge => "unopened large",
-    }
-}
-
-fn closed_label(reason: &ClosedReason) -> &'static str {
-    match reason {
-        ClosedReason::Access => "closed",
-        ClosedReason::Asked => "another",
-    }
-}
-
-// The version in a message that is shown.
-fn shown_version(message: &Message) -> Option<u64> {
-    match message {
-        Message::Opened { version, .. } => Some(*version),
-        Message::Snapshot(snapshot) => Some(snapshot.at().version),
-        Message::Unopened { reason, .. } => head_version(reason),
-        Message::Update { delta, .. } => Some(delta.from.version),
-        Message::Applied { delta, .. } => Some(delta.from.version),
-        Message::Ack { at, .. } => Some(*at),
-        _ => None,
-    }
-}
-
-fn head_version(reason: &UnopenedReason) -> Option<u64> {
-    match reason {
-        UnopenedReason::UnknownVersion { head } => Some(head.version),
-        _ => None,
-    }
-}
-
-fn shown_count(message: &Message) -> Option<u64> {
-    match message {
-        Message::Snapshot(snapshot) => Some(snapshot.inserted()),
-        _ => None,
-    }
-}
-
-// A label with the numbers that there are.
-fn numbered(
-    alloc: Global,
-    label: &str,
-    version: Option<u64>,
-    count: Option<u64>,
-) -> Result<String, Memory> {
-    match version {
-        Some(version) => match count {
-            Some(count) => format!(in alloc; "{label} {version} of {count};"),
-            None => format!(in alloc; "{label} {version};"),
-        },
-        None => format!(in alloc; "{label};"),
-    }
-}
-
-// A message in a word or two.
-fn word(alloc: Global, message: &Message) -> Result<String, Memory> {
-    numbered(
-        alloc,
-        label(message),
-        shown_version(message),
-        shown_count(message),
-    )
-}
-
-fn words(alloc: Global, messages: &[Message]) -> Result<String, Memory> {
-    let mut all = String::new(alloc);
-    for message in messages {
-        let word = word(alloc, message)?;
-        all.push_str(word.as_str())?;
-    }
-    Ok(all)
+    list.push(held(history(alloc, count)?, dropped, noted(alloc)?))?;
+    copies(list)
 }
 
 // The version with the hash that the whole history has there.
@@ -221,7 +98,8 @@ fn version(alloc: Global, version: u64) -> Result<HashedVersion, Fail> {
     Ok(HashedVersion { version, hash })
 }
 
-fn attach(
+/// What a user's session answers to an `open`.
+pub fn attach(
     alloc: Global,
     session: &mut Session,
     copies: &MemoryCopies,
@@ -260,7 +138,8 @@ fn have_at(
     Ok(String::new(alloc))
 }
 
-fn deliver(alloc: Global, session: &mut Session, copies: &MemoryCopies) -> Result<String, Fail> {
+/// What a session is sent.
+pub fn deliver(alloc: Global, session: &mut Session, copies: &MemoryCopies) -> Result<String, Fail> {
     let messages = session.deliver(alloc, copies)?;
     Ok(words(alloc, messages.as_slice())?)
 }
@@ -291,8 +170,8 @@ fn is_answered(
     act: &str,
     wanted: &str,
 ) -> Result<bool, Fail> {
-    let held = copies(alloc, count, act == "drop")?;
-    let found = answered(alloc, session, &held, act)?;
+    let moment = moment(alloc, count, act == "drop")?;
+    let found = answered(alloc, session, &moment, act)?;
     Ok(found.as_str() == wanted)
 }
 
@@ -318,8 +197,8 @@ fn is_delivered(
     Ok(found.as_str() == wanted)
 }
 
-// The session of a user.
-fn user(alloc: Global) -> Result<Session, Fail> {
+/// The session of bob.
+pub fn user(alloc: Global) -> Result<Session, Fail> {
     let mut session = Session::new(alloc, None, Vec::new(alloc));
     let _request = session.take_message(alloc, b"{\"type\":\"hello\",\"user\":\"bob@b.com\"}")?;
     Ok(session)
@@ -327,9 +206,9 @@ fn user(alloc: Global) -> Result<Session, Fail> {
 
 // Whether the two outcomes are delivered, and whether nothing is delivered the second time.
 fn outcomes(alloc: Global, session: &mut Session) -> Result<(bool, bool), Fail> {
-    let held = copies(alloc, 5, false)?;
-    let told = is_delivered(alloc, session, &held, "ack 3;refused;")?;
-    let again = is_delivered(alloc, session, &held, "")?;
+    let moment = moment(alloc, 5, false)?;
+    let told = is_delivered(alloc, session, &moment, "ack 3;refused;")?;
+    let again = is_delivered(alloc, session, &moment, "")?;
     Ok((told, again))
 }
 
