@@ -10,7 +10,7 @@ use wave_base::Domain;
 use wave_messages::{Message, write};
 
 // A session of a pipe.
-const PIPE: [(&str, &str); 23] = [
+const PIPE: [(&str, &str); 24] = [
     ("", r#"{"reason":"NotJson","type":"bad"}"#),
     ("[", r#"{"reason":"NotJson","type":"bad"}"#),
     (
@@ -87,6 +87,10 @@ const PIPE: [(&str, &str); 23] = [
     ),
     (
         r#"{"hash":"eYTheTdCZGp0Bp8vDI5vHWkA/zj+heZDeOT2uSFhOqs=","type":"have","version":0,"wavelet":"a.com/w1/a.com/conv+root"}"#,
+        r#"{"reason":"NotMessage","type":"bad"}"#,
+    ),
+    (
+        r#"{"hash":"AAAAAAAAAAAAAAAAAAAAAAAAAAAAAAAAAAAAAAAAAA==","type":"open","version":0,"wavelet":"a.com/w1/a.com/conv+root"}"#,
         r#"{"reason":"NotMessage","type":"bad"}"#,
     ),
     (
@@ -207,6 +211,17 @@ const PEER: [(&str, &str); 13] = [
     ),
 ];
 
+// How many operations, up to which length the message is filled with blanks, and what it asks for.
+const LENGTHS: [(usize, usize, &str); 5] = [
+    (1, 1_048_576, "submit"),
+    (1, 1_048_577, r#"{"reason":"TooLong","type":"bad"}"#),
+    (1_000, 0, "submit"),
+    (1_001, 0, r#"{"reason":"TooMany","type":"bad"}"#),
+    (0, 0, r#"{"reason":"NotMessage","type":"bad"}"#),
+];
+
+const FRONT: &str = r#"{"client":1,"hash":"eYTheTdCZGp0Bp8vDI5vHWkA/zj+heZDeOT2uSFhOqs=","number":1,"type":"submit","version":0,"wavelet":"a.com/w1/a.com/conv+root","operations":["#;
+
 // Whether a reply is one that sessions give by themselves: a welcome, or that something is bad.
 fn is_plain(message: &Message) -> bool
     ensures { IsTrue result → IsShort message.now }
@@ -241,6 +256,22 @@ fn is_request(alloc: Global, request: &Request, wanted: &str) -> Result<bool, Me
 fn asks(alloc: Global, session: &mut Session, bytes: &str, wanted: &str) -> Result<bool, Memory> {
     let request = session.take_message(alloc, bytes.as_bytes())?;
     is_request(alloc, &request, wanted)
+}
+
+// A submission of this many operations, with blanks behind it up to a length.
+fn submission(alloc: Global, operations: usize, length: usize) -> Result<String, Memory> {
+    let mut text = String::from_str(alloc, FRONT)?;
+    for index in 0..operations {
+        if index > 0 {
+            text.push(',')?;
+        }
+        text.push_str(r#"{"type":"noop"}"#)?;
+    }
+    text.push_str("]}")?;
+    for _ in text.len()..length {
+        text.push(' ')?;
+    }
+    Ok(text)
 }
 
 fn domain(alloc: Global, text: &str) -> Result<Domain, Fail> {
@@ -280,6 +311,18 @@ fn a_server_takes_its_peers(rt: HostRuntime) -> Result<(), Fail> {
     let mut session = Session::new(alloc, Some(domain(alloc, "a.com")?), peers);
     for (bytes, wanted) in PEER {
         assert!(rt; asks(alloc, &mut session, bytes, wanted)?, "{bytes}");
+    }
+    Ok(())
+}
+
+#[test]
+fn a_session_has_its_limits(rt: HostRuntime) -> Result<(), Fail> {
+    let alloc = rt.alloc();
+    let mut session = Session::new(alloc, None, Vec::new(alloc));
+    let _request = session.take_message(alloc, br#"{"type":"hello","user":"alice@a.com"}"#)?;
+    for (operations, length, wanted) in LENGTHS {
+        let text = submission(alloc, operations, length)?;
+        assert!(rt; asks(alloc, &mut session, text.as_str(), wanted)?, "{operations} {length}");
     }
     Ok(())
 }
