@@ -100,7 +100,6 @@ impl WaveletState {
 
     /// The name at a place in byte order, of the documents that aren't empty; None exactly where the place isn't below their
     /// number.
-    #[tactic(auto, using(crate::proofs::Names::named_there))]
     pub fn document_name(&self, place: u64) -> Option<&DocumentName>
         ensures value { option_copied result ≡ slice_get (finite.keys self.now.documents) place }
         ensures some { IfSome result (λ name. IsSome (kept (document_of self.now name.now))) }
