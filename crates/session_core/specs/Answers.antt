@@ -88,7 +88,7 @@ with_sent s name v = with_openings s (sent_at name v s.openings)
 abbrev pub snapshot_of : Key → HistoryOf → SnapshotOf
 snapshot_of name h = record { name = name; at = (head_of h).at; inserted = (head_of h).count; state = (head_of h).state }
 
-abbrev pub written_len : SnapshotOf → ℕ
+unfoldable pub written_len : SnapshotOf → ℕ
 written_len s = length (compact_text (message_data (Snapshot s)))
 
 abbrev pub is_sendable : SnapshotOf → Bool

@@ -215,6 +215,7 @@ fn snapshot_of(
 }
 
 // The message with the snapshot, where it may be sent.
+#[tactic(auto, unfolding(crate::specs::Answers::written_len))]
 fn sendable(alloc: Global, name: &WaveletName, history: &History) -> Result<Option<Message>, Memory>
     ensures { IfOk result (λ m. m ≡ cond (is_sendable (snapshot_of name.now history.now)) (Some (Message.Snapshot (snapshot_of name.now history.now))) None) }
 {
