@@ -86,10 +86,6 @@ module _ {X : Type 0} where
   Below : Option Key → Map X → Type 0
   Below last m = (q : Key) → is_next last q ≡ true → get m q ≡ None
 
-  below_none : Below None empty
-  unfolding Below
-  below_none q h = get-empty (slice_cmp nat_cmp) q
-
   below_here : (last : Option Key) (m : Map X) (k : Key) → Below last m → is_next last k ≡ true → get m k ≡ None
   unfolding Below
   below_here last m k b h = b k h
@@ -132,6 +128,10 @@ module _ {X : Type 0} where
   with_entries : (v : Key → X) (m : Map X) → ((k : Key) (x : X) → get m k ≡ Some x → v k ≡ x) → with_all v empty (entries m) ≡ m
   with_entries v m h = with_own v m empty (entries m) h (own_entries m) ∙ all_inserted m
 
+below_none : (X : Type 0) → Below {X = X} None empty
+unfolding Below
+below_none X q h = get-empty (slice_cmp nat_cmp) q
+
 -- ---- participants
 
 abbrev whole : Map Role → Map (List Item) → State
@@ -159,7 +159,7 @@ module _ (s : State) where
 
   pub members_back : All (IsMemberBack s) (keys s.roles) → AreMembersBack s
   members_back h =
-      members_from empty empty None (entries s.roles) (rising_follow (entries s.roles) (entries_rise s.roles)) below_none h
+      members_from empty empty None (entries s.roles) (rising_follow (entries s.roles) (entries_rise s.roles)) (below_none Role) h
       ∙ ap (λ x. Some (whole x empty)) (with_entries (role_at s) s.roles (λ k r e. ap (λ o. unwrap_or o Full) e))
 
   -- ---- documents
@@ -196,7 +196,7 @@ module _ (s : State) where
 
   pub documents_back : All (IsDocumentBack s) (keys s.documents) → AreDocumentsBack s
   documents_back h r =
-      documents_from r empty None (entries s.documents) (rising_follow (entries s.documents) (entries_rise s.documents)) below_none h
+      documents_from r empty None (entries s.documents) (rising_follow (entries s.documents) (entries_rise s.documents)) (below_none (List Item)) h
       ∙ ap (λ x. Some (whole r x)) (with_entries items s.documents own_items)
 
 -- ---- lists
