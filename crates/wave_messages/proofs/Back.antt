@@ -1,8 +1,9 @@
 -- What is written is read.
 --     few_of             a value that is a message hands in no more than 1,000 operations
+--     if_ok_to           one fact of what is given, for another
 --     message_read       what is written of a message is read as the message
 --     line_read_back     so of a line
-use Rattle.std.proofs.Common.{◌≡◌, ◌≤◌, ℕ, ◌+◌, Bool, true, false, cond, ◌&&◌, ◌||◌, nat_lt, if◌then◌else◌, List, [], ◌∷◌, ◌++◌, length, Option, Some, None, Ok, Err, refl, sym, ap, subst, ◌∙◌, arith, option_and_then, nat_le, length-append, codes}
+use Rattle.std.proofs.Common.{◌≡◌, ◌≤◌, ℕ, ◌+◌, Bool, true, false, cond, ◌&&◌, ◌||◌, nat_lt, if◌then◌else◌, List, [], ◌∷◌, ◌++◌, length, Option, Some, None, Ok, Err, refl, sym, ap, subst, ◌∙◌, arith, option_and_then, nat_le, length-append, Result, IfOk, codes}
 use Rattle.std.specs.Option.{option_map, option_map_or, ok_or}
 use Rattle.std.specs.Str.{bytes_eq}
 use Rattle.std.specs.Cmp.Lexicographic.{bytes_decides}
@@ -93,6 +94,10 @@ pub judged_as : (d : Data) (m : Message) → message_of d ≡ Some m → judged 
 judged_as d m e = ap (λ b. if b then Err TooMany else ok_or (message_of d) NotMessage) (few_of d m e) ∙ ap (λ o. ok_or o NotMessage) e
 
 -- ---- bytes
+
+pub if_ok_to : {A E : Type 0} (r : Result A E) (P Q : A → Type 0) → ((a : A) → P a → Q a) → IfOk r P → IfOk r Q
+if_ok_to (Ok a) P Q f h = f a h
+if_ok_to (Err e) P Q f h = tt
 
 pub message_read : (b : List ℕ) (d : Data) (m : Message) (limit : ℕ) → data_of b ≡ Some d → message_of d ≡ Some m → length b ≤ limit → read_of b limit ≡ Ok m
 message_read b d m limit h e l =

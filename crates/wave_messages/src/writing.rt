@@ -29,7 +29,7 @@ fn compact(alloc: Global, value: &Value) -> Result<Vec<u8>, Memory>
 
 /// The bytes of a message; those of the delta of an `applied` are fewer than 4,294,967,296. They are read as the same message under
 /// each limit that they keep, where the numbers that the types don't bound are in range. The error is want of memory.
-#[tactic(auto, using(crate::proofs::Floats::message_clear, crate::proofs::Depths::message_depth, crate::proofs::Back::message_read))]
+#[tactic(auto, using(crate::proofs::Floats::message_clear, crate::proofs::Depths::message_depth))]
 pub fn write(alloc: Global, message: &Message) -> Result<Vec<u8>, Memory>
     requires { IsShort message.now }
     ensures value { IfOk result (λ bytes. bytes.items ≡ compact_text (message_data message.now)) }
@@ -51,7 +51,6 @@ fn line_value(alloc: Global, session: &str, message: Value) -> Result<Value, Mem
 /// The bytes of a line for a session, without the line feed; those of the delta of an `applied` are fewer than 4,294,967,296. They
 /// are read as the same line, where they keep its limit, the session is an id, and the message's numbers are in range. The error is
 /// want of memory.
-#[tactic(auto, using(crate::proofs::Floats::line_clear, crate::proofs::Depths::line_depth, crate::proofs::Back::line_read_back))]
 pub fn write_line(alloc: Global, session: &str, message: &Message) -> Result<Vec<u8>, Memory>
     requires { IsShort message.now }
     ensures value { IfOk result (λ bytes. bytes.items ≡ compact_text (line_data session.now (message_data message.now))) }
