@@ -26,29 +26,26 @@ beyond a b h = grind (arith, nat_tests)
 abbrev IsTooLarge : Key → Session × Message → Type 0
 IsTooLarge name r = r.1 ≡ Unopened name unopened.TooLarge
 
+abbrev answer : Session → Key → SnapshotOf → Bool → Session × Message
+answer s name x b = if b then (with_sent s name x.at.version, Snapshot x) else (s, Unopened name unopened.TooLarge)
+
+large_at : (s : Session) (name : Key) (x : SnapshotOf) (b : Bool) → nat_le (written_len x) max_peer ≡ b → IsTooLarge name (answer s name x b) ↔ (max_peer < written_len x)
+large_at s name x true e = (λ h. absurd (cc), λ l. let k = within (written_len x) max_peer e in absurd (omega (arith, k, l)))
+large_at s name x false e = (λ h. beyond (written_len x) max_peer e, λ l. refl)
+
 large_head : (s : Session) (name : Key) (x : SnapshotOf) → is_snapshot x.inserted x.state ≡ true → IsTooLarge name (attached_head s name x) ↔ (max_peer < written_len x)
-large_head s name x fits = subst (λ r. IsTooLarge name r ↔ (max_peer < written_len x)) (sym is) (at (nat_le (written_len x) max_peer) refl)
-  where
-    answer : Bool → Session × Message
-    answer b = if b then (with_sent s name x.at.version, Snapshot x) else (s, Unopened name unopened.TooLarge)
-
-    is : attached_head s name x ≡ answer (nat_le (written_len x) max_peer)
-    unfolding answer
-    is = ap (λ b. if b && nat_le (written_len x) max_peer then (with_sent s name x.at.version, Snapshot x) else (s, Unopened name unopened.TooLarge)) fits
-
-    at : (b : Bool) → nat_le (written_len x) max_peer ≡ b → IsTooLarge name (answer b) ↔ (max_peer < written_len x)
-    unfolding answer
-    at true e = (λ h. absurd (cc), λ l. let k = within (written_len x) max_peer e in absurd (omega (arith, k, l)))
-    at false e = (λ h. beyond (written_len x) max_peer e, λ l. refl)
+large_head s name x fits =
+    subst (λ r. IsTooLarge name r ↔ (max_peer < written_len x)) (sym (ap (λ b. answer s name x (b && nat_le (written_len x) max_peer)) fits))
+    (large_at s name x (nat_le (written_len x) max_peer) refl)
 
 -- with a version no answer speaks of length
 short : (s : Session) (name : Key) (from head : VersionAt) (o : Option (List ℕ)) → IsTooLarge name (attached_hash s name from head o) → ⊥
 short s name from head None h = cc
-short s name from head (Some hash) h = at (pointwise ◌==◌ hash from.hash) h
+short s name from head (Some hash) h = go (pointwise ◌==◌ hash from.hash) h
   where
-    at : (b : Bool) → IsTooLarge name (if b then (with_sent s name from.version, Opened name from.version) else (s, Unopened name (unopened.WrongHash hash))) → ⊥
-    at true h = cc
-    at false h = cc
+    go : (b : Bool) → IsTooLarge name (if b then (with_sent s name from.version, Opened name from.version) else (s, Unopened name (unopened.WrongHash hash))) → ⊥
+    go true h = cc
+    go false h = cc
 
 abbrev pub IsFit : HistoryOf → Type 0
 IsFit h = is_snapshot (head_of h).count (head_of h).state ≡ true
