@@ -311,11 +311,7 @@ impl Session {
     }
 
     // The history that may be shown to whoever it is.
-    fn seen_history<'a, C: Copies>(
-        &self,
-        copies: &'a C,
-        name: &WaveletName,
-    ) -> Option<&'a History>
+    fn seen_history<'a, C: Copies>(&self, copies: &'a C, name: &WaveletName) -> Option<&'a History>
         ensures { option_copied result ≡ seen_for (shown (C.copies copies.entry.now) (C.hosts copies.entry.now) (C.drops copies.entry.now) (C.outcomes copies.entry.now)) self.now.party name.now }
     {
         match &self.party {

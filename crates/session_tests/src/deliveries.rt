@@ -139,7 +139,11 @@ fn have_at(
 }
 
 /// What a session is sent.
-pub fn deliver(alloc: Global, session: &mut Session, copies: &MemoryCopies) -> Result<String, Fail> {
+pub fn deliver(
+    alloc: Global,
+    session: &mut Session,
+    copies: &MemoryCopies,
+) -> Result<String, Fail> {
     let messages = session.deliver(alloc, copies)?;
     Ok(words(alloc, messages.as_slice())?)
 }

@@ -220,7 +220,8 @@ const LENGTHS: [(usize, usize, &str); 5] = [
     (0, 0, r#"{"reason":"NotMessage","type":"bad"}"#),
 ];
 
-const FRONT: &str = r#"{"client":1,"hash":"eYTheTdCZGp0Bp8vDI5vHWkA/zj+heZDeOT2uSFhOqs=","number":1,"type":"submit","version":0,"wavelet":"a.com/w1/a.com/conv+root","operations":["#;
+const FRONT: &str =
+    r#"{"client":1,"hash":"eYTheTdCZGp0Bp8vDI5vHWkA/zj+heZDeOT2uSFhOqs=","number":1,"type":"submit","version":0,"wavelet":"a.com/w1/a.com/conv+root","operations":["#;
 
 // Whether a reply is one that sessions give by themselves: a welcome, or that something is bad.
 fn is_plain(message: &Message) -> bool
@@ -322,7 +323,10 @@ fn a_session_has_its_limits(rt: HostRuntime) -> Result<(), Fail> {
     let _request = session.take_message(alloc, br#"{"type":"hello","user":"alice@a.com"}"#)?;
     for (operations, length, wanted) in LENGTHS {
         let text = submission(alloc, operations, length)?;
-        assert!(rt; asks(alloc, &mut session, text.as_str(), wanted)?, "{operations} {length}");
+        assert!(rt;
+            asks(alloc, &mut session, text.as_str(), wanted)?,
+            "{operations} {length}"
+        );
     }
     Ok(())
 }

@@ -245,10 +245,18 @@ fn two_users_are_told_what_they_may_see(rt: HostRuntime) -> Result<(), Fail> {
     let alloc = rt.alloc();
     let mut first = Session::new(alloc, None, Vec::new(alloc));
     let mut second = Session::new(alloc, None, Vec::new(alloc));
-    let mut container: Container<MemoryDisk> =
-        Container::new(alloc, WaveletName::parse(alloc, NAME)?);
+    let mut container: Container<MemoryDisk> = Container::new(
+        alloc,
+        WaveletName::parse(alloc, NAME)?,
+    );
     for (who, text, wanted) in TALK {
-        let out = told(alloc, (&mut first, &mut second), &mut container, who == 1, text)?;
+        let out = told(
+            alloc,
+            (&mut first, &mut second),
+            &mut container,
+            who == 1,
+            text,
+        )?;
         assert!(rt; out.as_slice() == wanted.as_bytes(), "{text}");
     }
     Ok(())
