@@ -5,4 +5,5 @@ pub mod Keeping
 pub mod Judges
 pub mod Indexes
 pub mod Finding
+pub mod Items
 pub mod Pushes

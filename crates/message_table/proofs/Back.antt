@@ -1,7 +1,7 @@
 -- What is written is read back.
 --     IsGoodName n, IsGoodVersion v     a name in its grammar; a version in range whose hash is read back
 --     hello_back .. dropped_back        messages of each kind
-use Rattle.std.proofs.Common.{◌≡◌, ◌≤◌, ◌==◌, ℕ, true, List, refl, ap, None, Some, eq-eqb, arith}
+use Rattle.std.proofs.Common.{◌≡◌, ◌≤◌, ◌==◌, ℕ, true, List, map, refl, ap, subst, ◌∙◌, None, Some, option_and_then, eq-eqb, arith}
 use Rattle.std.specs.Option.{option_map}
 use Rattle.std.proofs.lemmas.Bool.{le-leb}
 use Rattle.wavelet_op.specs.States.{State}
@@ -32,7 +32,11 @@ use Rattle.message_parts.specs.declared.reason.UnopenedReason.{UnopenedReason}
 use Rattle.message_parts.specs.declared.reason.UnopenedReason.TheVariants as unopened
 use Rattle.message_parts.specs.Good.{is_count, IsGoodVersion, IsGoodVerdict, IsGoodReason}
 use Rattle.wavelet_state.specs.Snapshots.{SnapshotOf, is_snapshot, max_inserted}
-use Rattle.snapshot_json.specs.Read.{state_of}
+use Rattle.std.specs.FinMap.{keys}
+use Rattle.serde_json.specs.View.{items_of}
+use Rattle.snapshot_json.specs.Back.{AreMembersBack, AreDocumentsBack}
+use Rattle.snapshot_json.specs.Read.{with_documents, state_of}
+use Rattle.snapshot_json.specs.Write.{document_data}
 use Rattle.message_table.specs.Back.{is_told, is_refusal, IsGoodName, IsGoodId, IsReadBack, InRange}
 use Rattle.message_table.specs.Read.{message_of}
 use Rattle.message_table.specs.Write.{hello_data, snapshot_data, open_data, submit_data, close_data, welcome_data, opened_data, unopened_data, ack_data, verdict_data, queued_data, update_data, closed_data, bad_data, peer_data, have_data, relay_data, applied_data, relayed_data, dropped_data}
@@ -77,8 +81,21 @@ few_inserted n h = le-leb n max_count (omega (arith, h))
 pub is_one : (n : ℕ) (s : State) → n ≤ max_inserted → item_count s.documents ≤ n → is_snapshot n s ≡ true
 is_one n s h k = rw (le-leb n max_inserted h, le-leb (item_count s.documents) n k) refl
 
-pub snapshot_back : (s : SnapshotOf) → IsGoodName s.name → IsGoodVersion s.at → is_count s.inserted ≡ true → is_snapshot s.inserted s.state ≡ true → InRange (Snapshot s) → IsReadBack (Snapshot s)
-snapshot_back s h k c l r = rw (h, k.0, k.1, c, r, l) refl
+-- the participants and the documents are read one after the other
+pub state_back : (s : SnapshotOf) → AreMembersBack s.state → AreDocumentsBack s.state → state_of (snapshot_data s) ≡ Some s.state
+state_back s m d = ap (option_and_then (λ t. with_documents t (items_of (map (document_data s.state) (keys s.state.documents))))) m ∙ d s.state.roles
+
+pub snapshot_back : (s : SnapshotOf) → IsGoodName s.name → IsGoodVersion s.at → is_count s.inserted ≡ true → is_snapshot s.inserted s.state ≡ true → state_of (snapshot_data s) ≡ Some s.state → IsReadBack (Snapshot s)
+snapshot_back s h k c r l = rw (h, k.0, k.1, c, l, r) refl
+
+-- so of its parts
+pub parts_back : (s : SnapshotOf) (n : List ℕ) (v : VersionAt) (k : ℕ) (m d : State) → n ≡ s.name → v ≡ s.at → k ≡ s.inserted → m ≡ s.state → d ≡ s.state
+    → IsGoodName n → IsGoodVersion v → k ≤ max_inserted → item_count s.state.documents ≤ k → AreMembersBack m → AreDocumentsBack d → IsReadBack (Snapshot s)
+parts_back s n v k m d is_name is_at is_count is_m is_d name at bound items members documents =
+    let b : s.inserted ≤ max_inserted = subst (λ z. z ≤ max_inserted) is_count bound in
+    let i : item_count s.state.documents ≤ s.inserted = subst (λ z. item_count s.state.documents ≤ z) is_count items in
+    snapshot_back s (subst IsGoodName is_name name) (subst IsGoodVersion is_at at) (few_inserted s.inserted b) (is_one s.inserted s.state b i)
+    (state_back s (subst AreMembersBack is_m members) (subst AreDocumentsBack is_d documents))
 
 pub unopened_back : (n : List ℕ) (r : UnopenedReason) → IsGoodName n → IsGoodReason r → IsReadBack (Unopened n r)
 unopened_back n unopened.NotParticipant h k = rw h refl

@@ -4,17 +4,15 @@
 --     IsGoodName n          the wavelet's name is in its grammar
 --     IsGoodId i            the author is an address, and the numbers are in range
 --     IsReadBack m          what is written of the message is read as the same message
---     InRange m             what the types don't bound: numbers are in range, what was refused is no acknowledgement, and the state of
---                           a snapshot is read as it is written
+--     InRange m             what the types don't bound: numbers are in range, and what was refused is no acknowledgement
 use Rattle.std.specs.Prelude.{◌≡◌, ℕ, Bool, true, false, nat_le, List, Some}
 use Rattle.wave_base.specs.Grammar.{is_wavelet_name, is_address}
 use Rattle.wave_base.specs.Versions.{IdOf}
 use Rattle.wavelet_op.specs.declared.verdict.Verdict.{Verdict}
 use Rattle.wavelet_op.specs.declared.verdict.Verdict.TheVariants as verdict
 use Rattle.message_parts.specs.Good.{is_count}
-use Rattle.snapshot_json.specs.Read.{state_of}
 use Rattle.message_table.specs.Read.{message_of}
-use Rattle.message_table.specs.Write.{message_data, snapshot_data}
+use Rattle.message_table.specs.Write.{message_data}
 use Rattle.message_table.specs.declared.message.Message.{Message}
 use Rattle.message_table.specs.declared.message.Message.TheVariants.{Hello, OpenWavelet, Submit, CloseWavelet, Welcome, Opened, Snapshot, Unopened, Ack, Refused, Queued, Update, Closed, Bad, Peer, Have, Relay, Applied, Relayed, Dropped}
 
@@ -52,7 +50,7 @@ InRange (Submit name client number from ops) = (is_count client ≡ true) × (is
 InRange (CloseWavelet name) = Unit {0}
 InRange (Welcome user) = Unit {0}
 InRange (Opened name version) = is_count version ≡ true
-InRange (Snapshot s) = state_of (snapshot_data s) ≡ Some s.state
+InRange (Snapshot s) = Unit {0}
 InRange (Unopened name reason) = Unit {0}
 InRange (Ack name client number place to) = (is_count client ≡ true) × (is_count number ≡ true) × (is_count place ≡ true)
 InRange (Refused name client number v) = (is_count client ≡ true) × (is_count number ≡ true) × (is_refusal v ≡ true) × (is_told v ≡ true)

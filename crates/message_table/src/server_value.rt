@@ -32,10 +32,9 @@ pub fn opened_value(alloc: Global, name: &WaveletName, version: u64) -> Result<V
 }
 
 /// A `snapshot`.
-#[tactic(auto, using(crate::proofs::Back::snapshot_back, crate::proofs::Back::few_inserted, crate::proofs::Back::is_one))]
 pub fn snapshot_value(alloc: Global, snapshot: &Snapshot) -> Result<Value, Memory>
     ensures value { IfOk result (λ v. view v ≡ snapshot_data snapshot.now) }
-    ensures back { IfOk result (λ _. InRange (Message.Snapshot snapshot.now) → IsReadBack (Message.Snapshot snapshot.now)) }
+    ensures back { IfOk result (λ _. IsReadBack (Message.Snapshot snapshot.now)) }
 {
     let name = name_value(alloc, snapshot.name())?;
     let from = snapshot.at();

@@ -24,7 +24,7 @@ use Rattle.session_core.specs.declared.session.Telling.{Telling}
 use Rattle.session_core.specs.declared.session.Waiting.{Waiting}
 use Rattle.session_core.specs.declared.session.Session.{Session}
 use Rattle.session_core.specs.Access.{Shown, seen_by, seen_from, IsDeltaOf, IsStateOf, UserMaySee, DomainMaySee, MaySee}
-use Rattle.session_core.specs.Answers.{with_sent, verdict_message, snapshot_of, is_sendable, attached_head, attached_hash, attached_seen, attached_as, attached}
+use Rattle.session_core.specs.Answers.{with_sent, verdict_message, snapshot_of, is_sendable, attached_head, attached_hash, attached_seen, seen_for, attached}
 use Rattle.session_core.specs.Deliveries.{since, updates, applieds, outcome_sent, outcomes_sent, opening_news, opening_sent, openings_sent, telling_of, host_news, after_host, hosts_sent, delivered_to, delivered}
 
 -- ---- deltas
@@ -121,7 +121,7 @@ to_may c s (Domain own) = hosts_may c own s.tellings c.hosts
 pub all_may_see : (c : Shown) (s : Session) (ms : List Message) → ms ≡ delivered c s → All (MaySee c s.party) ms
 all_may_see c s ms e = subst (All (MaySee c s.party)) (sym e) (to_may c s s.party)
 
-as_may : (c : Shown) (s : Session) (name : Key) (from : Option VersionAt) (p : Party) → MaySee c p (attached_as c s name from p).1
+as_may : (c : Shown) (s : Session) (name : Key) (from : Option VersionAt) (p : Party) → MaySee c p (attached_seen s name from (seen_for c p name)).1
 as_may c s name from Nobody = tt
 as_may c s name from (User user) = seen_may c user s name from (seen_by c name user) refl
 as_may c s name from (Domain own) = tt

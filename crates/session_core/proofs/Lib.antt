@@ -1,3 +1,4 @@
 pub mod Access
 pub mod Settling
 pub mod Gathering
+pub mod Large

@@ -5,11 +5,14 @@
 --     answered s n i a          the answer to a submission
 --     sent_at n v os            the wavelet is open, its deltas sent up to a version: where it was open before, else behind the others
 --     snapshot_of n h           the snapshot of a history's head
+--     written_len s             how many bytes are written for the message of a snapshot
 --     is_sendable s             it is one, and is written with at most max_peer bytes
+--     seen_for c p n            the history that may be shown to whoever may open wavelets
 --     attached c s n v          the answer to an `open`
+--     HasLongHead c p n         the snapshot of the head of that history is written with more than max_peer bytes
 --     told_at n v ts            a peer counts as told of a wavelet, its deltas sent up to a version
 --     had c s n v               after a `have`
-use Rattle.std.specs.Prelude.{ℕ, ◌+◌, slice_set, slice_index_or, option_map, Bool, true, false, ◌&&◌, ◌||◌, ◌==◌, nat_le, cond, if◌then◌else◌, List, [], ◌∷◌, ◌++◌, length, Option, Some, None}
+use Rattle.std.specs.Prelude.{ℕ, ◌+◌, ◌<◌, slice_set, slice_index_or, option_map, Bool, true, false, ◌&&◌, ◌||◌, ◌==◌, nat_le, cond, if◌then◌else◌, List, [], ◌∷◌, ◌++◌, length, Option, Some, None}
 use Rattle.std.specs.Cmp.Lexicographic.{pointwise}
 use Rattle.serde_json.specs.Written.{compact_text}
 use Rattle.doc_items.specs.Maps.{Key, same_text}
@@ -85,8 +88,11 @@ with_sent s name v = with_openings s (sent_at name v s.openings)
 abbrev pub snapshot_of : Key → HistoryOf → SnapshotOf
 snapshot_of name h = record { name = name; at = (head_of h).at; inserted = (head_of h).count; state = (head_of h).state }
 
+unfoldable pub written_len : SnapshotOf → ℕ
+written_len s = length (compact_text (message_data (Snapshot s)))
+
 abbrev pub is_sendable : SnapshotOf → Bool
-is_sendable s = is_snapshot s.inserted s.state && nat_le (length (compact_text (message_data (Snapshot s)))) max_peer
+is_sendable s = is_snapshot s.inserted s.state && nat_le (written_len s) max_peer
 
 abbrev pub attached_head : Session → Key → SnapshotOf → Session × Message
 attached_head s name snapshot = if is_sendable snapshot then (with_sent s name snapshot.at.version, Snapshot snapshot) else (s, Unopened name unopened.TooLarge)
@@ -100,13 +106,20 @@ attached_seen s name from None = (s, Unopened name unopened.NotParticipant)
 attached_seen s name None (Some h) = attached_head s name (snapshot_of name h)
 attached_seen s name (Some from) (Some h) = attached_hash s name from (head_of h).at (hash_found h from.version)
 
-abbrev pub attached_as : Shown → Session → Key → Option VersionAt → Party → Session × Message
-attached_as c s name from Nobody = attached_seen s name from None
-attached_as c s name from (User user) = attached_seen s name from (seen_by c name user)
-attached_as c s name from (Domain domain) = attached_seen s name from None
+abbrev pub seen_for : Shown → Party → Key → Option HistoryOf
+seen_for c Nobody name = None
+seen_for c (User user) name = seen_by c name user
+seen_for c (Domain domain) name = None
 
 abbrev pub attached : Shown → Session → Key → Option VersionAt → Session × Message
-attached c s name from = attached_as c s name from s.party
+attached c s name from = attached_seen s name from (seen_for c s.party name)
+
+abbrev pub IsLongHead : Key → Option HistoryOf → Type 0
+IsLongHead name None = ⊥
+IsLongHead name (Some h) = max_peer < written_len (snapshot_of name h)
+
+abbrev pub HasLongHead : Shown → Party → Key → Type 0
+HasLongHead c party name = IsLongHead name (seen_for c party name)
 
 -- ---- peers
 

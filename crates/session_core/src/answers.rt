@@ -1,11 +1,12 @@
 // What is answered to what a message asked for.
-ghost use Rattle.std.specs.Prelude.{◌≡◌, true, cond, Some, None, IfOk, OnOk, OnErr};
+ghost use Rattle.std.specs.Prelude.{◌≡◌, ◌↔◌, true, cond, Some, None, IfOk, OnOk, OnErr};
 ghost use Rattle.std.specs.Option.{option_copied};
 ghost use Rattle.delta_history.specs.Histories.{head_of, hash_found};
 ghost use Rattle.wavelet_state.specs.Snapshots.{is_snapshot};
 ghost use Rattle.session_core.specs.Rules.{has_user, has_peer};
 ghost use Rattle.session_core.specs.Access.{shown, seen_by, MaySee};
-ghost use Rattle.session_core.specs.Answers.{verdict_message, told_verdict, is_waiting, with_waiting, answered, sent_at, with_sent, snapshot_of, is_sendable, attached_head, attached_hash, attached_seen, attached, told_at, had_hash, had_copy, had};
+ghost use Rattle.session_core.specs.Answers.{verdict_message, told_verdict, is_waiting, with_waiting, answered, sent_at, with_sent, snapshot_of, is_sendable, attached_head, attached_hash, attached_seen, seen_for, attached, HasLongHead, told_at, had_hash, had_copy, had};
+ghost use Rattle.message_parts.specs.declared.reason.UnopenedReason.TheVariants.{TooLarge};
 ghost use Rattle.session_core.specs.declared.request.SubmitAnswer.TheVariants as answer;
 
 use crate::SubmitAnswer;
@@ -214,6 +215,7 @@ fn snapshot_of(
 }
 
 // The message with the snapshot, where it may be sent.
+#[tactic(auto, unfolding(crate::specs::Answers::written_len))]
 fn sendable(alloc: Global, name: &WaveletName, history: &History) -> Result<Option<Message>, Memory>
     ensures { IfOk result (λ m. m ≡ cond (is_sendable (snapshot_of name.now history.now)) (Some (Message.Snapshot (snapshot_of name.now history.now))) None) }
 {
@@ -288,6 +290,8 @@ impl Session {
         Ok(reply)
     }
 
+    // What a history that may be shown is answered with. It is legal, so its state makes a snapshot.
+    #[tactic(auto, using(delta_history::proofs::Items::head_fits))]
     fn attach_seen(
         &mut self,
         alloc: Global,
@@ -296,19 +300,32 @@ impl Session {
         history: &History,
     ) -> Result<Message, Memory>
         ensures ok { IfOk result (λ m. (self.new, m) ≡ attached_seen self.old name.now (option_copied from.entry) (Some history.now)) }
+        ensures fits { is_snapshot (head_of history.now).count (head_of history.now).state ≡ true }
         ensures same { OnErr result (self.new ≡ self.old) }
     {
+        let _deltas = history.deltas();
         match from {
             Some(from) => self.attach_hash(alloc, name, from, history),
             None => self.attach_head(alloc, name, history),
         }
     }
 
+    // The history that may be shown to whoever it is.
+    fn seen_history<'a, C: Copies>(&self, copies: &'a C, name: &WaveletName) -> Option<&'a History>
+        ensures { option_copied result ≡ seen_for (shown (C.copies copies.entry.now) (C.hosts copies.entry.now) (C.drops copies.entry.now) (C.outcomes copies.entry.now)) self.now.party name.now }
+    {
+        match &self.party {
+            Party::Nobody => None,
+            Party::User(user) => seen_by(copies, name, user),
+            Party::Domain(_) => None,
+        }
+    }
+
     /// The reply to an `open`, with a version or without one. `NotParticipant` exactly where there is no copy, it is dropped, or the
     /// user isn't a participant at its head. With a version there comes next `UnknownVersion`, then `WrongHash`, else the wavelet is open
-    /// from there; without one `TooLarge`, else it is open from the head, whose state is sent. A wavelet that was open keeps its place.
-    /// After want of memory the session is as it was.
-    #[tactic(auto, using(crate::proofs::Access::attached_may_see))]
+    /// from there; without one `TooLarge` exactly where the snapshot would be written with more than `MAX_PEER` bytes, else it is open
+    /// from the head, whose state is sent. A wavelet that was open keeps its place. After want of memory the session is as it was.
+    #[tactic(auto, using(crate::proofs::Access::attached_may_see, crate::proofs::Large::large_is))]
     pub fn answer_attach<C: Copies>(
         &mut self,
         alloc: Global,
@@ -319,14 +336,10 @@ impl Session {
         requires { has_user self.old ≡ true }
         ensures ok { IfOk result (λ m. (self.new, m) ≡ attached (shown (C.copies copies.now) (C.hosts copies.now) (C.drops copies.now) (C.outcomes copies.now)) self.old name.now (option_copied from.entry)) }
         ensures access { IfOk result (λ m. MaySee (shown (C.copies copies.now) (C.hosts copies.now) (C.drops copies.now) (C.outcomes copies.now)) self.old.party m) }
+        ensures large { IfOk result (λ m. (m ≡ Message.Unopened name.now TooLarge) ↔ ((option_copied from.entry ≡ None) × HasLongHead (shown (C.copies copies.now) (C.hosts copies.now) (C.drops copies.now) (C.outcomes copies.now)) self.old.party name.now)) }
         ensures same { OnErr result (self.new ≡ self.old) }
     {
-        let seen = match &self.party {
-            Party::Nobody => None,
-            Party::User(user) => seen_by(copies, name, user),
-            Party::Domain(_) => None,
-        };
-        match seen {
+        match self.seen_history(copies, name) {
             Some(history) => self.attach_seen(alloc, name, from, history),
             None => unopened(alloc, name, UnopenedReason::NotParticipant),
         }

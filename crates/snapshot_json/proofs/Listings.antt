@@ -5,19 +5,19 @@ use Rattle.serde_json.specs.Data.{Data}
 use Rattle.serde_json.specs.View.{view}
 use Rattle.serde_json.specs.declared.value.Value.{Value}
 
-one_more : (vs : List Value) (v : Value) → length (vs ++ v ∷ []) ≡ suc (length vs)
+pub one_more : (vs : List Value) (v : Value) → length (vs ++ v ∷ []) ≡ suc (length vs)
 one_more vs v = omega (arith, length-append vs (v ∷ []))
 
 module _ {K : Type 0} where
   some_same : (x y : K) → Some x ≡ Some y → x ≡ y
   some_same x y e = cc
 
-  take_next : (ks : List K) (n : ℕ) (k : K) → Some k ≡ slice_get ks n → take (suc n) ks ≡ take n ks ++ k ∷ []
+  pub take_next : (ks : List K) (n : ℕ) (k : K) → Some k ≡ slice_get ks n → take (suc n) ks ≡ take n ks ++ k ∷ []
   take_next [] n k e = absurd cc
   take_next (x ∷ ks) zero k e = ap (λ z. z ∷ []) (sym (some_same k x e))
   take_next (x ∷ ks) (suc n) k e = ap (λ l. x ∷ l) (take_next ks n k e)
 
-  take_whole : (ks : List K) (n : ℕ) → None ≡ slice_get ks n → take n ks ≡ ks
+  pub take_whole : (ks : List K) (n : ℕ) → None ≡ slice_get ks n → take n ks ≡ ks
   take_whole [] zero e = refl
   take_whole [] (suc n) e = refl
   take_whole (x ∷ ks) zero e = absurd cc

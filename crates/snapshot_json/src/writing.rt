@@ -1,11 +1,14 @@
 // A state, written.
-ghost use Rattle.std.specs.Prelude.{◌≡◌, ◌≤◌, ◌+◌, ◌++◌, ◌∷◌, [], map, length, IfOk, OnOk};
+ghost use Rattle.std.specs.Prelude.{◌≡◌, ◌≤◌, ◌+◌, ◌++◌, ◌∷◌, [], map, length, IfOk, OnOk, IsSome};
+ghost use Rattle.std.specs.List.{All};
 ghost use Rattle.std.specs.FinMap.{keys};
 ghost use Rattle.serde_json.specs.View.{view};
 ghost use Rattle.doc_items.specs.Limits.{max_count};
-ghost use Rattle.doc_op.specs.Actions.{Ins};
+ghost use Rattle.doc_items.specs.Balance.{Balanced};
+ghost use Rattle.doc_op.specs.Actions.{Ins, actions};
 ghost use Rattle.doc_op.specs.Lengths.{output_len};
-ghost use Rattle.wavelet_op.specs.States.{document_of};
+ghost use Rattle.wavelet_op.specs.States.{document_of, kept};
+ghost use Rattle.snapshot_json.specs.Back.{IsMemberBack, IsDocumentBack, AreMembersBack, AreDocumentsBack};
 ghost use Rattle.snapshot_json.specs.Write.{insertion_of, member_data, document_data, members_data, documents_data};
 
 use change_view::ChangeView;
@@ -66,7 +69,8 @@ fn insert_all(alloc: Global, out: &mut NormalBuilder, rope: &Rope) -> Result<(),
 
 // The operation that makes the document of the empty one.
 fn insertion_of(alloc: Global, rope: &Rope) -> Result<DocOp, Memory>
-    ensures { IfOk result (λ op. op ≡ insertion_of rope.now) }
+    ensures value { IfOk result (λ op. op ≡ insertion_of rope.now) }
+    ensures actions { IfOk result (λ op. actions op ≡ map Ins rope.now) }
 {
     let mut out = NormalBuilder::new(alloc);
     insert_all(alloc, &mut out, rope)?;
@@ -75,8 +79,10 @@ fn insertion_of(alloc: Global, rope: &Rope) -> Result<DocOp, Memory>
 
 // ---- participants
 
+#[tactic(auto, using(crate::proofs::Back::member_back))]
 fn member_value(alloc: Global, state: &WaveletState, address: &Address) -> Result<Value, Memory>
-    ensures { IfOk result (λ v. view v ≡ member_data state.now address.now) }
+    ensures value { IfOk result (λ v. view v ≡ member_data state.now address.now) }
+    ensures back { IfOk result (λ _. IsMemberBack state.now address.now) }
 {
     let role = state.role(address).unwrap_or(Role::Full);
     let role = role_value(alloc, role)?;
@@ -85,7 +91,8 @@ fn member_value(alloc: Global, state: &WaveletState, address: &Address) -> Resul
 }
 
 fn member_list(alloc: Global, state: &WaveletState) -> Result<Vec<Value>, Memory>
-    ensures { IfOk result (λ list. map view list.items ≡ map (member_data state.now) (keys state.now.roles)) }
+    ensures value { IfOk result (λ list. map view list.items ≡ map (member_data state.now) (keys state.now.roles)) }
+    ensures back { IfOk result (λ _. All (IsMemberBack state.now) (keys state.now.roles)) }
 {
     let mut list = Vec::new(alloc);
     while let Some(address) = state.participant(list.len() as u64) {
@@ -94,9 +101,11 @@ fn member_list(alloc: Global, state: &WaveletState) -> Result<Vec<Value>, Memory
     Ok(list)
 }
 
-/// The participants in byte order, each with its role. The error is want of memory, here and below.
+/// The participants in byte order, each with its role; they are read back. The error is want of memory, here and below.
+#[tactic(auto, using(crate::proofs::Back::members_back))]
 pub fn members_value(alloc: Global, state: &WaveletState) -> Result<Value, Memory>
-    ensures { IfOk result (λ v. view v ≡ members_data state.now) }
+    ensures value { IfOk result (λ v. view v ≡ members_data state.now) }
+    ensures back { IfOk result (λ _. AreMembersBack state.now) }
 {
     Ok(Value::Array(member_list(alloc, state)?))
 }
@@ -105,7 +114,9 @@ pub fn members_value(alloc: Global, state: &WaveletState) -> Result<Value, Memor
 
 // The operation that makes a document; one that isn't there is empty.
 fn document_op(alloc: Global, state: &WaveletState, name: &DocumentName) -> Result<DocOp, Memory>
-    ensures { IfOk result (λ op. op ≡ insertion_of (document_of state.now name.now)) }
+    ensures value { IfOk result (λ op. op ≡ insertion_of (document_of state.now name.now)) }
+    ensures actions { IfOk result (λ op. actions op ≡ map Ins (document_of state.now name.now)) }
+    ensures balanced { Balanced (document_of state.now name.now) }
 {
     match state.rope(name) {
         Some(rope) => insertion_of(alloc, rope),
@@ -113,8 +124,11 @@ fn document_op(alloc: Global, state: &WaveletState, name: &DocumentName) -> Resu
     }
 }
 
+#[tactic(auto, using(crate::proofs::Back::document_back))]
 fn document_value(alloc: Global, state: &WaveletState, name: &DocumentName) -> Result<Value, Memory>
-    ensures { IfOk result (λ v. view v ≡ document_data state.now name.now) }
+    requires { IsSome (kept (document_of state.now name.now)) }
+    ensures value { IfOk result (λ v. view v ≡ document_data state.now name.now) }
+    ensures back { IfOk result (λ _. IsDocumentBack state.now name.now) }
 {
     let operation = document_op(alloc, state, name)?;
     let operation = to_value(alloc, &operation)?;
@@ -123,7 +137,8 @@ fn document_value(alloc: Global, state: &WaveletState, name: &DocumentName) -> R
 }
 
 fn document_list(alloc: Global, state: &WaveletState) -> Result<Vec<Value>, Memory>
-    ensures { IfOk result (λ list. map view list.items ≡ map (document_data state.now) (keys state.now.documents)) }
+    ensures value { IfOk result (λ list. map view list.items ≡ map (document_data state.now) (keys state.now.documents)) }
+    ensures back { IfOk result (λ _. All (IsDocumentBack state.now) (keys state.now.documents)) }
 {
     let mut list = Vec::new(alloc);
     while let Some(name) = state.document_name(list.len() as u64) {
@@ -132,9 +147,12 @@ fn document_list(alloc: Global, state: &WaveletState) -> Result<Vec<Value>, Memo
     Ok(list)
 }
 
-/// The documents that aren't empty in byte order of their names, each with the operation in normal form that makes it.
+/// The documents that aren't empty in byte order of their names, each with the operation in normal form that makes it; they are read
+/// back.
+#[tactic(auto, using(crate::proofs::Back::documents_back))]
 pub fn documents_value(alloc: Global, state: &WaveletState) -> Result<Value, Memory>
-    ensures { IfOk result (λ v. view v ≡ documents_data state.now) }
+    ensures value { IfOk result (λ v. view v ≡ documents_data state.now) }
+    ensures back { IfOk result (λ _. AreDocumentsBack state.now) }
 {
     Ok(Value::Array(document_list(alloc, state)?))
 }

@@ -1,3 +1,5 @@
 pub mod Lengths
 pub mod Texts
 pub mod Floats
+pub mod Depths
+pub mod Back

@@ -1,4 +1,5 @@
 mod Drafts
 mod Entries
+mod Names
 mod Parts
 mod Stretches

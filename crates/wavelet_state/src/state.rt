@@ -1,5 +1,5 @@
 // The state of a wavelet.
-ghost use Rattle.std.specs.Prelude.{◌≡◌, ◌↔◌, ◌≤◌, IsTrue, is_some, Some, IfSome, IfOk, IfErr, OnOk, OnErr, slice_get, length};
+ghost use Rattle.std.specs.Prelude.{◌≡◌, ◌↔◌, ◌≤◌, IsTrue, IsSome, is_some, Some, IfSome, IfOk, IfErr, OnOk, OnErr, slice_get, length};
 ghost use Rattle.std.specs.Option.{option_copied};
 ghost use Rattle.std.specs.FinMap as finite;
 ghost use Rattle.doc_items.specs.Balance.{Balanced};
@@ -101,7 +101,8 @@ impl WaveletState {
     /// The name at a place in byte order, of the documents that aren't empty; None exactly where the place isn't below their
     /// number.
     pub fn document_name(&self, place: u64) -> Option<&DocumentName>
-        ensures { option_copied result ≡ slice_get (finite.keys self.now.documents) place }
+        ensures value { option_copied result ≡ slice_get (finite.keys self.now.documents) place }
+        ensures some { IfSome result (λ name. IsSome (kept (document_of self.now name.now))) }
     {
         self.draft.documents.at(place as usize)
     }
