@@ -37,8 +37,8 @@ impl From<crate::Failed> for FolderFault {
     }
 }
 
-/// A folder of files. One whose disks tell what a read gives tells its files (`told`). A disk is handed out for a file, with a count of faults of its own that begins at 0, and is put back under the
-/// same name; the folder then counts its faults too.
+/// A folder of files. A disk is handed out for a file, with a count of faults of its own that begins at 0, and is put back under the
+/// same name; the folder then counts its faults too. A folder whose disks tell what a read gives tells its files.
 pub trait Folder {
     type Disk: Disk + Drop;
 
