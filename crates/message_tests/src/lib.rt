@@ -4,8 +4,6 @@
 #[cfg(test)]
 mod lines;
 #[cfg(test)]
-mod members;
-#[cfg(test)]
 mod refused;
 #[cfg(test)]
 mod short;
