@@ -278,11 +278,8 @@ const ELEMENTS: [(&str, &str); 2] = [
     ),
 ];
 
-/// The usage text.
-pub(crate) const USAGE: &str = "usage: wave pipe\n       wave load N\n";
-
-/// The status, and what was written.
-pub(crate) fn outcome(
+// The status, and what was written.
+fn outcome(
     alloc: Global,
     words: &[&str],
     input: &[u8],
@@ -391,7 +388,7 @@ fn each_status_has_its_cause(rt: HostRuntime) -> Result<(), Fail> {
     for words in [[].as_slice(), &["serve"], &["pipe", "pipe"], &["Pipe"]] {
         let (status, sink) = outcome(alloc, words, input, &[0], &[])?;
         assert_eq!(rt; status, 2);
-        assert_eq!(rt; sink.bytes(), USAGE.as_bytes());
+        assert_eq!(rt; sink.bytes(), b"usage: wave pipe\n".as_slice());
     }
     let (status, sink) = outcome(alloc, &[], input, &[], &[0])?;
     assert_eq!(rt; status, 2);

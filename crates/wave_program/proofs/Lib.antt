@@ -1,6 +1,6 @@
 pub mod Booleans
 pub mod Cuts
-pub mod LoadWords
 pub mod Told
+pub mod PipeWords
 pub mod Slices
 pub mod Steps

@@ -5,7 +5,6 @@
 #![tactic(auto)]
 
 mod cut;
-mod load;
 mod machine;
 mod message;
 mod output;
