@@ -388,7 +388,10 @@ fn each_status_has_its_cause(rt: HostRuntime) -> Result<(), Fail> {
     for words in [[].as_slice(), &["serve"], &["pipe", "pipe"], &["Pipe"]] {
         let (status, sink) = outcome(alloc, words, input, &[0], &[])?;
         assert_eq!(rt; status, 2);
-        assert_eq!(rt; sink.bytes(), b"usage: wave pipe\n".as_slice());
+        assert_eq!(rt;
+            sink.bytes(),
+            b"usage: wave pipe\n       wave load N\n".as_slice()
+        );
     }
     let (status, sink) = outcome(alloc, &[], input, &[], &[0])?;
     assert_eq!(rt; status, 2);

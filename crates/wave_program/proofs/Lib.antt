@@ -1,6 +1,7 @@
 pub mod Booleans
 pub mod Cuts
+pub mod LoadWords
 pub mod Told
-pub mod PipeWords
+pub mod Unserved
 pub mod Slices
 pub mod Steps

@@ -1,6 +1,7 @@
 pub mod Cut
 pub mod Edit
 pub mod Lines
+pub mod Load
 pub mod Machine
 pub mod Message
 pub mod Output

@@ -1,10 +1,14 @@
--- The words of a run: `IsPipe`, those that are served, and `usage`, what is written for all others.
-use Rattle.std.specs.Prelude.{◌≡◌, ℕ, List, [], ◌∷◌, map, String, string_bytes, codes}
-use Rattle.std.specs.declared.alloc.Global.{Global}
-
--- the words are `pipe` alone
-abbrev pub IsPipe : List (String Global) → Type 0
-IsPipe words = map string_bytes words ≡ codes "pipe" ∷ []
+-- The words of a run.
+--     usage        the usage text
+--     IsOther c    a command that this program doesn't have: none, or one of a store
+use Rattle.std.specs.Prelude.{◌≡◌, ℕ, List, Option, Some, None, codes}
+use Rattle.command_words.specs.Commands.{CommandOf, Pipe, Load}
 
 abbrev pub usage : List ℕ
-usage = codes "usage: wave pipe\n"
+usage = codes "usage: wave pipe\n       wave load N\n"
+
+abbrev pub IsOther : Option CommandOf → Type 0
+IsOther None = Unit {0}
+IsOther (Some (Pipe None)) = ⊥
+IsOther (Some (Pipe (Some folder))) = Unit {0}
+IsOther (Some (Load n)) = ⊥

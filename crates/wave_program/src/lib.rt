@@ -5,6 +5,7 @@
 #![tactic(auto)]
 
 mod cut;
+mod load;
 mod machine;
 mod message;
 mod output;

@@ -1,0 +1,64 @@
+-- A load that the words name has a number that is not above the limit.
+use Rattle.std.proofs.Common.{◌≡◌, ℕ, ◌+◌, ◌-◌, ◌*◌, ◌≤◌, ◌==◌, ◌&&◌, Bool, true, false, cond, nat_le, List, [], ◌∷◌, Option, Some, None, refl, subst, arith, option_and_then, option_map, codes}
+use Rattle.std.proofs.lemmas.Bool.Decides.{nat_tests}
+use Rattle.std.specs.Cmp.Lexicographic.{pointwise}
+use Rattle.clap.specs.Words.{Text, first_of, subcommand_of}
+use Rattle.clap.specs.Walk.{Row, is_empty}
+use Rattle.clap.specs.Faults.{fault_of}
+use Rattle.command_words.specs.Commands.{digits, number, is_digit, is_value, max_load, loaded, stored, named, wave, is_cut, accepted, command_of, CommandOf, Pipe, Load}
+
+abbrev IsUpTo : ℕ → Option ℕ → Type 0
+IsUpTo limit None = Unit {0}
+IsUpTo limit (Some n) = n ≤ limit
+
+within : (a b : ℕ) → nat_le a b ≡ true → a ≤ b
+within a b h = grind (arith, nat_tests)
+
+tested : (limit m : ℕ) (x : Option ℕ) (d b : Bool) → nat_le m limit ≡ b → (m ≤ limit → IsUpTo limit x) → IsUpTo limit (cond (d && b) x None)
+tested limit m x true true e f = f (within m limit e)
+tested limit m x true false e f = tt
+tested limit m x false b e f = tt
+
+digits_up : (limit n : ℕ) (cs : List ℕ) → n ≤ limit → IsUpTo limit (digits limit n cs)
+digits_up limit n [] h = h
+digits_up limit n (c ∷ cs) h = tested limit (n * 10 + (c - 48)) (digits limit (n * 10 + (c - 48)) cs) (is_digit c) (nat_le (n * 10 + (c - 48)) limit) refl (λ k. digits_up limit (n * 10 + (c - 48)) cs k)
+
+unless : (limit : ℕ) (x : Option ℕ) (b : Bool) → IsUpTo limit x → IsUpTo limit (cond b None x)
+unless limit x true h = tt
+unless limit x false h = h
+
+number_up : (limit : ℕ) (text : List ℕ) → IsUpTo limit (number limit text)
+number_up limit [] = tt
+number_up limit (c ∷ []) = digits_up limit 0 (c ∷ []) (omega (arith))
+number_up limit (c ∷ d ∷ cs) = unless limit (digits limit 0 (c ∷ d ∷ cs)) (c == 48) (digits_up limit 0 (c ∷ d ∷ cs) (omega (arith)))
+
+abbrev IsCapped : Option CommandOf → Type 0
+IsCapped None = Unit {0}
+IsCapped (Some (Pipe folder)) = Unit {0}
+IsCapped (Some (Load n)) = n ≤ 100000
+
+either : (x y : Option CommandOf) (b : Bool) → IsCapped x → IsCapped y → IsCapped (cond b x y)
+either x y true h k = h
+either x y false h k = k
+
+counted : (x : Option ℕ) → IsUpTo max_load x → IsCapped (option_map Load x)
+counted None h = tt
+counted (Some n) h = h
+
+loaded_capped : (text : Option (List ℕ)) → IsCapped (loaded text)
+loaded_capped None = tt
+loaded_capped (Some text) = counted (number max_load text) (number_up max_load text)
+
+stored_capped : (folder : Option (List ℕ)) → IsCapped (stored folder)
+stored_capped None = tt
+stored_capped (Some folder) = either (Some (Pipe (Some folder))) None (is_value folder) tt tt
+
+named_capped : (x : Option (Text × List Row)) → IsCapped (option_and_then named x)
+named_capped None = tt
+named_capped (Some p) = either (stored (first_of (codes "store") p.1)) (loaded (first_of (codes "count") p.1)) (pointwise ◌==◌ p.0 (codes "pipe")) (stored_capped (first_of (codes "store") p.1)) (loaded_capped (first_of (codes "count") p.1))
+
+command_capped : (words : List Text) → IsCapped (command_of words)
+command_capped words = either None (accepted words) (is_cut words) tt (either (option_and_then named (subcommand_of wave words)) None (is_empty (fault_of wave words)) (named_capped (subcommand_of wave words)) tt)
+
+pub load_bound : (words : List Text) (n : ℕ) → command_of words ≡ Some (Load n) → n ≤ 100000
+load_bound words n e = subst (λ (x : Option CommandOf). IsCapped x) e (command_capped words)
