@@ -1,7 +1,7 @@
 //! The program's top call: edits of one document in, one JSON line each, and their answers out.
 //!
 //! A byte goes from the source through `pipe` (a chunk at a time), `cut` (lines), `message` (JSON),
-//! `machine` (the document) and `reply` (JSON) to `output` and the sink.
+//! `machine` (the document) and `reply` (JSON) to `output` and the sink. `load` is the command of that name.
 #![tactic(auto)]
 
 mod cut;
