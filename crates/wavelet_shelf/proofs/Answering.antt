@@ -5,7 +5,7 @@
 --     safe_after            so it does after a call that answered
 --     faults_later, faults_rose     the disk's count
 --     name_after            the name stays
-use Rattle.std.proofs.Common.{◌≡◌, ℕ, ◌≤◌, false, List, Option, Some, None, IsSome, is_some, refl, sym, ap, subst, ◌∙◌, le_refl, true≢false}
+use Rattle.std.proofs.Common.{◌≡◌, ◌≤◌, false, Option, Some, None, IsSome, is_some, refl, sym, subst, le_refl, true≢false}
 use Rattle.wavelet_op.specs.Deltas.{DeltaOf}
 use Rattle.delta_history.specs.Histories.{HistoryOf}
 use Rattle.disk_model.specs.Disk.{Rose as HasRisen}
@@ -15,7 +15,7 @@ use Rattle.delta_journal.specs.declared.journal.Journal.{Journal}
 use Rattle.delta_journal.proofs.Stages.{sure_stands}
 use Rattle.wave_outside.specs.Counts.{Rose}
 use Rattle.wavelet_container.specs.Containers.{history_of, journal_of, OfBoth, IsHeld}
-use Rattle.wavelet_container.specs.Records.{records_of, StandsForHistory}
+use Rattle.wavelet_container.specs.Records.{records_of}
 use Rattle.wavelet_container.specs.Stores.{IsStored, IsGrownBy}
 use Rattle.wavelet_container.specs.declared.container.Container.{Container}
 use Rattle.wavelet_container.proofs.Journals.{sure_images}

@@ -4,9 +4,9 @@
 --     after_nothing       nothing was accepted where the name isn't there
 --     after_fault         nothing was answered, and the folder may have failed
 --     apart_after         where no name has the file of the new one, no two names have one file
-use Rattle.std.proofs.Common.{◌≡◌, ◌≢◌, ◌==◌, ◌⊎◌, ⊎_elim, ◌↔◌, ℕ, ◌+◌, ◌-◌, ◌^◌, ◌≤◌, min, Bool, true, false, List, [], ◌∷◌, ◌++◌, length, insert, Option, Some, None, Ok, Err, IsSome, IfSome, is_some, IfOk, OnOk, Result, string_bytes, refl, sym, ap, subst, ◌∙◌, arith, le_refl, append-nil, true≢false}
+use Rattle.std.proofs.Common.{◌≡◌, ◌≢◌, ◌==◌, ⊎_elim, ◌↔◌, ℕ, ◌+◌, ◌-◌, ◌^◌, ◌≤◌, min, Bool, true, false, List, [], ◌∷◌, ◌++◌, length, insert, Option, Some, None, Ok, Err, IsSome, IfSome, is_some, IfOk, Result, string_bytes, refl, sym, ap, subst, ◌∙◌, arith, le_refl, append-nil, true≢false}
 use Rattle.std.specs.Result.{IsErrOf, IsOk}
-use Rattle.std.specs.List.{AllByRecursion, position_or_len}
+use Rattle.std.specs.List.{position_or_len}
 use Rattle.std.specs.Map.{lookup, keys_of, set_value}
 use Rattle.std.specs.Option.{option_map, option_map_or, option_to_list}
 use Rattle.std.specs.Cmp.Lexicographic.{slice_cmp}
@@ -15,13 +15,12 @@ use Rattle.indexmap.specs.Calls.{IsSearchIndex}
 use Rattle.indexmap.specs.IndexMap.{move_index, insert_entry, index_before}
 use Rattle.std.proofs.lemmas.Bool.{eqb-true}
 use Rattle.std.proofs.lemmas.Map.{keys-set_value}
-use Rattle.std.proofs.lemmas.Result.{IfOk-weaker, on_ok_weaker, on_err_weaker}
+use Rattle.std.proofs.lemmas.Result.{on_ok_weaker, on_err_weaker}
 use Rattle.doc_items.specs.Maps.{Key, same_text}
 use Rattle.wavelet_op.specs.Deltas.{DeltaOf}
 use Rattle.wavelet_op.specs.declared.delta.Submission.{Submission}
 use Rattle.wavelet_op.specs.declared.verdict.Verdict.{Verdict}
 use Rattle.delta_history.specs.Copying.{AreAscending}
-use Rattle.delta_history.specs.Histories.{HistoryOf, IsSameHistory}
 use Rattle.delta_history.specs.Verdicts.{Judged, judge}
 use Rattle.disk_model.specs.declared.disk.Disk as disk_of
 use Rattle.wave_outside.specs.Counts.{Rose}
@@ -34,14 +33,14 @@ use Rattle.wavelet_container.specs.declared.fault.SubmitFault.{SubmitFault}
 use Rattle.wavelet_container.specs.declared.fault.SubmitFault.TheVariants.{DiskFault}
 use Rattle.wavelet_shelf.specs.Entries.{found, shown, hosting, IsNamed, AreInOrder, IsPut, faults_of, faults_in, AreHeld, AreSafe, IsSafe, HaveRoom, FitsFolder, FitFolder}
 use Rattle.wavelet_shelf.specs.FileNames.{file_name_of}
-use Rattle.wavelet_shelf.specs.Hosting.{Hosted, deltas_in, grown_in, with_added, judged_in, after_submission}
-use Rattle.wavelet_shelf.specs.Shelves.{entries_of, in_folder, container_in, hosted_of, folder_faults, fault_count, IsKept, IsSettled, AreApart}
+use Rattle.wavelet_shelf.specs.Hosting.{deltas_in, with_added, judged_in}
+use Rattle.wavelet_shelf.specs.Shelves.{entries_of, in_folder, container_in, hosted_of, folder_faults, fault_count, IsKept, AreApart}
 use Rattle.wavelet_shelf.specs.Steps.{IsTaken, IsAnswered, IsHosted}
 use Rattle.wavelet_shelf.specs.declared.filed.Filed.{Filed}
 use Rattle.wavelet_shelf.specs.declared.shelf.Shelf.{Shelf}
 use Rattle.wavelet_shelf.proofs.Answering.{name_after}
 use Rattle.wavelet_shelf.proofs.Names.{same_or_not}
-use Rattle.wavelet_shelf.proofs.Placing.{hist, deltas_hosting, after_set, same_set, after_put, none_put, all_set, all_put, all_found, found_set, others_set, found_put, others_put, length_keys, keys_ascend, front_ascends, all_front, place, put_at}
+use Rattle.wavelet_shelf.proofs.Placing.{deltas_hosting, after_set, same_set, after_put, none_put, all_set, all_put, all_found, found_set, others_set, found_put, others_put, length_keys, keys_ascend, front_ascends, all_front, place, put_at}
 use Rattle.wavelet_shelf.proofs.Sums.{total, sum_set, sum_has, sum_put, sum_later, sum_rose}
 
 no_cons : {X T : Type 0} {x : X} {xs : List X} → [] ≡ x ∷ xs → T

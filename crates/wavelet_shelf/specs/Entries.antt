@@ -23,7 +23,6 @@ use Rattle.std.specs.declared.cmp.Ordering.TheVariants.{Less, Greater}
 use Rattle.doc_items.specs.Maps.{Key}
 use Rattle.wavelet_op.specs.Deltas.{DeltaOf}
 use Rattle.delta_history.specs.Copying.{AscendFrom, AreAscending}
-use Rattle.delta_history.specs.Histories.{HistoryOf}
 use Rattle.disk_model.specs.declared.disk.Disk.{Ghosts}
 use Rattle.delta_journal.specs.Journal.{on_disk, needs_repair, EachImage}
 use Rattle.delta_journal.specs.declared.journal.Journal.{Journal}

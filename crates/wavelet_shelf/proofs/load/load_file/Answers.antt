@@ -1,7 +1,6 @@
-use Rattle.std.proofs.Common.{◌≡◌, ℕ, List, true, Some, Err, refl, sym, ap, subst, ◌∙◌}
+use Rattle.std.proofs.Common.{◌≡◌, Some, Err, refl, sym, ap, subst, ◌∙◌}
 use Rattle.wavelet_container.specs.declared.fault.LoadFault.TheVariants.{Damaged}
 use Rattle.wavelet_shelf.specs.Entries.{HaveRoom}
-use Rattle.wavelet_shelf.specs.FileNames.{file_name_of}
 use Rattle.wavelet_shelf.specs.Folders.{IsFileStep}
 use Rattle.wavelet_shelf.specs.Loads.{IsOpened, IsOpenedAs}
 use Rattle.wavelet_shelf.specs.declared.filed.Filed.{Filed}

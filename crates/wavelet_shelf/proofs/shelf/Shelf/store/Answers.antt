@@ -1,5 +1,4 @@
 use Rattle.std.proofs.Common.{◌≡◌, ◌≤◌, true, IfSome, sym, ap, subst, ◌∙◌}
-use Rattle.indexmap.specs.IndexMap.{IndexMap}
 use Rattle.wavelet_shelf.specs.FileNames.{file_name_of}
 use Rattle.wavelet_shelf.specs.Shelves.{folder_faults}
 use Rattle.wavelet_shelf.specs.declared.filed.Filed.{Filed}
