@@ -1,0 +1,6 @@
+pub mod Answering
+pub mod Cutting
+pub mod Serving
+pub mod Slices
+pub mod Telling
+pub mod Whole

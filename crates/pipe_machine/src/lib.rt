@@ -1,0 +1,14 @@
+//! The machine of a pipe: any number of sessions over the histories of a shelf. A line in is answered to its session, and then every
+//! session is sent what is new to it.
+#![tactic(auto)]
+
+mod deliver;
+mod laws;
+mod lines;
+mod machine;
+mod pipe;
+mod reply;
+mod seats;
+
+pub use laws::sent_is_held;
+pub use pipe::PipeMachine;
