@@ -1,0 +1,75 @@
+-- What a turn does to the shelf, whatever its answer.
+--     Begins ds es        the deltas are the first of those
+--     submits m n         the message is a submission to the wavelet of the name
+--     asks_for r n        the request is one
+--     submits_to l n      the line is one
+--     IsMoved may a b     the shelf before and behind a step that may submit to the names of which this holds
+--     IsEnded a b r       that no repair waits behind it, or why it failed
+use Rattle.std.specs.Prelude.{◌≡◌, ◌≤◌, ℕ, List, ◌++◌, Bool, true, false, Result, Ok, Err, IsSome, OnOk, IsErrOf}
+use Rattle.doc_items.specs.Maps.{Key, same_text}
+use Rattle.wavelet_op.specs.Deltas.{DeltaOf}
+use Rattle.disk_model.specs.declared.disk.Disk as disk_of
+use Rattle.message_table.specs.declared.message.Message.{Message}
+use Rattle.message_table.specs.declared.message.Message.TheVariants.{Hello, OpenWavelet, Submit, CloseWavelet, Welcome, Opened, Snapshot, Unopened, Ack, Refused, Queued, Update, Closed, Bad, Peer, Have, Relay, Applied, Relayed, Dropped}
+use Rattle.wave_messages.specs.Read as reading
+use Rattle.wave_outside.specs.Counts.{Rose}
+use Rattle.wave_outside.specs.declared.folder.Folder as folder_of
+use Rattle.wavelet_shelf.specs.Hosting.{deltas_in}
+use Rattle.wavelet_shelf.specs.Shelves.{hosted_of, in_folder, container_in, fault_count, IsKept, IsSettled}
+use Rattle.wavelet_shelf.specs.declared.shelf.Shelf.{Shelf}
+use Rattle.session_core.specs.declared.request.Request.{Request}
+use Rattle.session_core.specs.declared.request.Request.TheVariants as ask
+use Rattle.pipe_machine.specs.declared.fault.PipeFault.{PipeFault}
+use Rattle.pipe_machine.specs.declared.fault.PipeFault.TheVariants.{Store}
+
+abbrev pub Begins : List DeltaOf → List DeltaOf → Type 0
+Begins ds es = (rest : List DeltaOf) × (ds ++ rest ≡ es)
+
+abbrev pub submits : Message → Key → Bool
+submits (Submit name client number from ops) n = same_text name n
+submits (Hello user) n = false
+submits (OpenWavelet name from) n = false
+submits (CloseWavelet name) n = false
+submits (Welcome user) n = false
+submits (Opened name version) n = false
+submits (Snapshot s) n = false
+submits (Unopened name reason) n = false
+submits (Ack name client number place to) n = false
+submits (Refused name client number v) n = false
+submits (Queued name client number) n = false
+submits (Update name d) n = false
+submits (Closed name reason) n = false
+submits (Bad reason) n = false
+submits (Peer domain) n = false
+submits (Have name from) n = false
+submits (Relay name s) n = same_text name n
+submits (Applied name d) n = false
+submits (Relayed name id v) n = false
+submits (Dropped name) n = false
+
+abbrev pub asks_for : Request → Key → Bool
+asks_for (ask.Reply m) n = false
+asks_for (ask.Attach name from) n = false
+asks_for (ask.Submit name s) n = same_text name n
+asks_for (ask.Have name from) n = false
+
+abbrev pub submits_read : Result (Key × Message) reading.Refused → Key → Bool
+submits_read (Ok line) n = submits line.1 n
+submits_read (Err r) n = false
+
+abbrev pub submits_to : List ℕ → Key → Bool
+submits_to line n = submits_read (reading.line_read line) n
+
+module _ {F D : Type 0} {folder : folder_of.Ghosts F D} {disk : disk_of.Ghosts D} where
+  pub record IsMoved (may : Key → Bool) (a b : Shelf F D folder disk) : Type 0 where
+    pub grown : (n : Key) → Begins (deltas_in (hosted_of a) n) (deltas_in (hosted_of b) n)
+    pub others : (n : Key) → may n ≡ false → container_in b n ≡ container_in a n
+    pub kept : IsKept a → IsKept b
+    pub folder : IsSome (in_folder a) → IsSome (in_folder b)
+    pub was_folder : IsSome (in_folder b) → IsSome (in_folder a)
+    pub later : fault_count a ≤ fault_count b
+
+  pub record IsEnded {A : Type 0} (a b : Shelf F D folder disk) (r : Result A PipeFault) : Type 0 where
+    pub settled : OnOk r (IsKept a → IsSettled a → IsSettled b)
+    pub failed : IsErrOf r Store → Rose (fault_count a) (fault_count b)
+    pub disk : IsErrOf r Store → IsSome (in_folder a)

@@ -1,0 +1,5 @@
+pub mod Lines
+pub mod Seats
+pub mod Machine
+pub mod Keeping
+pub mod Pipes

@@ -1,0 +1,13 @@
+//! The machine of a pipe: any number of sessions over the histories of a shelf. A line in is answered to its session, and then every
+//! session is sent what is new to it.
+#![tactic(auto)]
+
+mod deliver;
+mod fault;
+mod lines;
+mod machine;
+mod reply;
+mod seats;
+
+pub use fault::PipeFault;
+pub use machine::PipeMachine;

@@ -1,0 +1,128 @@
+// Turns: a line, its reply, and what is new to each session.
+ghost use Rattle.std.specs.Prelude.{◌≡◌, ◌++◌, IfOk, OnOk};
+ghost use Rattle.std.specs.List.{All};
+ghost use Rattle.wave_messages.specs.declared.fault.Kind.{Kind};
+ghost use Rattle.wavelet_shelf.specs.Shelves.{hosted_of};
+ghost use Rattle.pipe_machine.specs.Keeping.{IsMoved, IsEnded, submits, submits_to};
+ghost use Rattle.pipe_machine.specs.Lines.{lines_of};
+ghost use Rattle.pipe_machine.specs.Machine.{start, served, refusal, answered, turn};
+ghost use Rattle.pipe_machine.specs.Pipes.{pipe_of};
+ghost use Rattle.pipe_machine.specs.Seats.{IsPlain};
+
+use crate::PipeFault;
+use crate::deliver::deliver;
+use crate::lines::push_line;
+use crate::reply::reply;
+use crate::seats::{Seat, seat_of};
+use doc_items::Memory;
+use session_core::reason_of;
+use std::alloc::Global;
+use wave_base::SessionName;
+use wave_messages::{Kind, Line, LineFault, Message, read_line};
+use wave_outside::Folder;
+use wavelet_shelf::Shelf;
+
+/// Many sessions over the histories of a shelf, each of which is hosted here.
+#[derive(Drop)]
+pub struct PipeMachine<F: Folder> {
+    shelf: Shelf<F>,
+    seats: Vec<Seat>,
+    ghost plain: { All (λ s. IsPlain s.session) seats.items } ,
+}
+
+// Appends the line that tells a session, or none, why its line was none.
+fn refuse(
+    alloc: Global,
+    session: Option<SessionName>,
+    kind: Kind,
+    out: &mut Vec<u8>,
+) -> Result<(), Memory>
+    ensures { OnOk result (out.new.items ≡ out.old.items ++ lines_of (refusal session kind)) }
+{
+    let message = Message::Bad(reason_of(kind));
+    match &session {
+        Some(name) => push_line(alloc, name.text(), &message, out),
+        None => push_line(alloc, "", &message, out),
+    }
+}
+
+impl<F: Folder + Drop> PipeMachine<F> {
+    /// No session yet, over the histories of this shelf.
+    pub fn new(alloc: Global, shelf: Shelf<F>) -> PipeMachine<F>
+        ensures pipe { pipe_of result ≡ start (hosted_of shelf) }
+        ensures shelf { result.shelf ≡ shelf }
+    {
+        PipeMachine {
+            shelf,
+            seats: Vec::new(alloc),
+        }
+    }
+
+    /// The shelf.
+    pub fn into_shelf(self) -> Shelf<F>
+        ensures { result ≡ self.shelf }
+    {
+        let PipeMachine { shelf, .. } = self;
+        shelf
+    }
+
+    // Answers a message of a session, which is new where it wasn't there.
+    fn serve(
+        &mut self,
+        alloc: Global,
+        name: SessionName,
+        message: Message,
+        time: u64,
+        out: &mut Vec<u8>,
+    ) -> Result<(), PipeFault>
+        ensures pipe { OnOk result (pipe_of self.new ≡ (served (pipe_of self.old) time name message).pipe) }
+        ensures sent { OnOk result (out.new.items ≡ out.old.items ++ lines_of (served (pipe_of self.old) time name message).sent) }
+        ensures moved { IsMoved (submits message) self.old.shelf self.new.shelf }
+        ensures ended { IsEnded self.old.shelf self.new.shelf result }
+    {
+        let place = seat_of(alloc, &mut self.seats, name)?;
+        let seat = &mut self.seats[place];
+        let message = reply(alloc, &mut self.shelf, &mut seat.session, message, time)?;
+        push_line(alloc, seat.name.text(), &message, out)?;
+        Ok(())
+    }
+
+    // Answers a line.
+    fn answer(
+        &mut self,
+        alloc: Global,
+        line: &[u8],
+        time: u64,
+        out: &mut Vec<u8>,
+    ) -> Result<(), PipeFault>
+        ensures pipe { OnOk result (pipe_of self.new ≡ (answered (pipe_of self.old) time line.now).pipe) }
+        ensures sent { OnOk result (out.new.items ≡ out.old.items ++ lines_of (answered (pipe_of self.old) time line.now).sent) }
+        ensures moved { IsMoved (submits_to line.now) self.old.shelf self.new.shelf }
+        ensures ended { IsEnded self.old.shelf self.new.shelf result }
+    {
+        match read_line(alloc, line) {
+            Ok(Line { session, message }) => self.serve(alloc, session, message, time, out),
+            Err(LineFault::Bad { session, kind }) => Ok(refuse(alloc, session, kind, out)?),
+            Err(LineFault::Memory) => Err(PipeFault::Memory),
+        }
+    }
+
+    /// Takes a line that has bytes, at the time, in milliseconds, and appends the reply to it and what is new to each session, in byte
+    /// order of their names. `Store` where the folder or a disk failed; after a refusal some of these lines may stand there.
+    pub fn turn(
+        &mut self,
+        alloc: Global,
+        line: &[u8],
+        time: u64,
+        out: &mut Vec<u8>,
+    ) -> Result<(), PipeFault>
+        ensures pipe { OnOk result (pipe_of self.new ≡ (turn (pipe_of self.old) time line.now).0) }
+        ensures sent { OnOk result (out.new.items ≡ out.old.items ++ (turn (pipe_of self.old) time line.now).1) }
+        ensures moved { IsMoved (submits_to line.now) self.old.shelf self.new.shelf }
+        ensures ended { IsEnded self.old.shelf self.new.shelf result }
+    {
+        self.answer(alloc, line, time, out)?;
+        deliver(alloc, &self.shelf, self.seats.as_mut_slice(), out)?;
+        Ok(())
+    }
+}

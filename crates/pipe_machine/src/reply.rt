@@ -1,0 +1,104 @@
+// The reply to a session's message.
+ghost use Rattle.std.specs.Prelude.{◌≡◌, true, IfOk, OnOk, option_copied};
+ghost use Rattle.message_table.specs.Write.{IsShort};
+ghost use Rattle.session_core.specs.Answers.{attached, answered};
+ghost use Rattle.session_core.specs.Rules.{has_user};
+ghost use Rattle.session_core.specs.declared.request.SubmitAnswer.TheVariants as answer;
+ghost use Rattle.wavelet_shelf.specs.Hosting.{judged_in, after_submission};
+ghost use Rattle.wavelet_shelf.specs.Shelves.{hosted_of};
+ghost use Rattle.doc_items.specs.Maps.{same_text};
+ghost use Rattle.pipe_machine.specs.Keeping.{IsMoved, IsEnded, submits, asks_for};
+ghost use Rattle.pipe_machine.specs.Machine.{shown_in, reply_of, asked, replied};
+ghost use Rattle.pipe_machine.specs.Seats.{IsPlain, AsksAsUser};
+
+use crate::PipeFault;
+use doc_items::Memory;
+use session_core::{Request, Session, SubmitAnswer};
+use std::alloc::Global;
+use wave_base::{HashedVersion, WaveletName};
+use wave_messages::{BadReason, Message};
+use wave_outside::Folder;
+use wavelet_container::SubmitFault;
+use wavelet_op::Submission;
+use wavelet_shelf::Shelf;
+
+// The reply to an `open`. The error is want of memory.
+fn attach<F: Folder>(
+    alloc: Global,
+    shelf: &Shelf<F>,
+    session: &mut Session,
+    name: &WaveletName,
+    from: Option<&HashedVersion>,
+) -> Result<Message, Memory>
+    requires { has_user session.old ≡ true }
+    ensures { IfOk result (λ m. (session.new, m) ≡ attached (shown_in (hosted_of shelf.now)) session.old name.now (option_copied from.entry)) }
+{
+    shelf.copies_are_hosted();
+    session.answer_attach(alloc, shelf, name, from)
+}
+
+// The reply to a submission, which is judged at the time, in milliseconds. `Store` where the folder or a disk failed.
+fn submit<F: Folder + Drop>(
+    alloc: Global,
+    shelf: &mut Shelf<F>,
+    session: &mut Session,
+    name: &WaveletName,
+    submission: &Submission,
+    time: u64,
+) -> Result<Message, PipeFault>
+    ensures hosted { OnOk result (hosted_of shelf.new ≡ after_submission (hosted_of shelf.old) name.now submission.now time) }
+    ensures reply { IfOk result (λ m. (session.new, m) ≡ answered session.old name.now submission.now.id (answer.Verdict (judged_in (hosted_of shelf.old) name.now submission.now time).0)) }
+    ensures moved { IsMoved (same_text name.now) shelf.old shelf.new }
+    ensures ended { IsEnded shelf.old shelf.new result }
+{
+    match shelf.submit(alloc, name, submission, time) {
+        Ok(verdict) => {
+            let answer = SubmitAnswer::Verdict(verdict);
+            Ok(session.answer_submit(alloc, name, &submission.id, &answer)?)
+        }
+        Err(SubmitFault::DiskFault) => Err(PipeFault::Store),
+        Err(SubmitFault::Memory) => Err(PipeFault::Memory),
+    }
+}
+
+// The reply to what a session asks for. A session of a pipe has no peers, so it asks for the last of these never.
+fn answer<F: Folder + Drop>(
+    alloc: Global,
+    shelf: &mut Shelf<F>,
+    session: &mut Session,
+    request: Request,
+    time: u64,
+) -> Result<Message, PipeFault>
+    requires user { AsksAsUser session.old request }
+    ensures reply { IfOk result (λ m. reply_of (hosted_of shelf.new) (session.new, m) ≡ asked (hosted_of shelf.old) time session.old request) }
+    ensures moved { IsMoved (asks_for request) shelf.old shelf.new }
+    ensures ended { IsEnded shelf.old shelf.new result }
+{
+    match request {
+        Request::Reply(message) => Ok(message),
+        Request::Attach { name, at } => Ok(attach(alloc, shelf, session, &name, at.as_ref())?),
+        Request::Submit { name, submission } => {
+            submit(alloc, shelf, session, &name, &submission, time)
+        }
+        Request::Have { .. } => Ok(Message::Bad(BadReason::NotMessage)),
+    }
+}
+
+/// The reply to a message of a session, at the time, in milliseconds. `Store` where the folder or a disk failed.
+pub fn reply<F: Folder + Drop>(
+    alloc: Global,
+    shelf: &mut Shelf<F>,
+    session: &mut Session,
+    message: Message,
+    time: u64,
+) -> Result<Message, PipeFault>
+    requires { IsPlain session.old }
+    ensures reply { IfOk result (λ m. reply_of (hosted_of shelf.new) (session.new, m) ≡ replied (hosted_of shelf.old) session.old message time) }
+    ensures plain { OnOk result (IsPlain session.new) }
+    ensures short { IfOk result IsShort }
+    ensures moved { IsMoved (submits message) shelf.old shelf.new }
+    ensures ended { IsEnded shelf.old shelf.new result }
+{
+    let request = session.take(alloc, message)?;
+    answer(alloc, shelf, session, request, time)
+}

@@ -1,0 +1,65 @@
+// The sessions of a pipe, by name.
+ghost use Rattle.std.specs.Prelude.{◌≡◌, ◌≤◌, ◌<◌, [], length, IfOk, OnOk};
+ghost use Rattle.std.specs.List.{All};
+ghost use Rattle.pipe_machine.specs.Seats.{begun, place_in, is_at, seated, IsPlain};
+
+use doc_items::Memory;
+use session_core::Session;
+use std::alloc::Global;
+use wave_base::SessionName;
+
+/// A session with its name.
+#[derive(Drop)]
+pub struct Seat {
+    pub name: SessionName,
+    pub session: Session,
+}
+
+// The place of the first seat whose name isn't before this one.
+fn place_in(seats: &[Seat], name: &SessionName) -> usize
+    ensures value { result ≡ place_in name.now 0 seats.now }
+    ensures within { result ≤ length seats.now }
+{
+    let mut place = 0usize;
+    while place < seats.len() {
+        if name.text() <= seats[place].name.text() {
+            return place;
+        }
+        place += 1;
+    }
+    place
+}
+
+// Whether the seat at the place has the name.
+fn is_at(seats: &[Seat], name: &SessionName, place: usize) -> bool
+    ensures { result ≡ is_at name.now place seats.now }
+{
+    match seats.get(place) {
+        Some(seat) => seat.name.text() == name.text(),
+        None => false,
+    }
+}
+
+// The seat of a new session of a pipe.
+fn begun(alloc: Global, name: SessionName) -> Seat
+    ensures { result ≡ begun name }
+{
+    Seat {
+        name,
+        session: Session::new(alloc, None, Vec::new(alloc)),
+    }
+}
+
+/// The place of the seat of this name, which is a new session's where there was none. The error is want of memory.
+pub fn seat_of(alloc: Global, seats: &mut Vec<Seat>, name: SessionName) -> Result<usize, Memory>
+    ensures place { IfOk result (λ i. i ≡ place_in name 0 seats.old.items) }
+    ensures seats { OnOk result (seats.new.items ≡ seated name seats.old.items) }
+    ensures within { IfOk result (λ i. i < length seats.new.items) }
+    ensures named { IfOk result (λ i. is_at name i seats.new.items ≡ true) }
+{
+    let place = place_in(seats.as_slice(), &name);
+    if !is_at(seats.as_slice(), &name, place) {
+        seats.insert(place, begun(alloc, name))?;
+    }
+    Ok(place)
+}
