@@ -1,11 +1,12 @@
 // Runs of the loop over objects in memory, by a clock that reads 0, 1, 2 and so on. An echo is a line behind its time.
 use crate::echo::Echo;
-use line_run::{LineMachine, Stop, run_lines};
+use line_run::{Stop, run_lines};
 use std::alloc::{AllocError, Global};
 use std::test::Fail;
 use wave_outside::{MemorySink, MemorySource, TickClock};
 
 // What stands at the end of a run.
+#[derive(Drop)]
 struct Ends {
     status: Result<(), Stop>,
     written: MemorySink,
@@ -72,7 +73,12 @@ fn each_end_has_its_status(rt: HostRuntime) -> Result<(), Fail> {
 #[test]
 fn a_long_line_is_cut(rt: HostRuntime) -> Result<(), Fail> {
     let alloc = rt.alloc();
-    for (len, kept) in [(65535, 65535), (1048576, 1048576), (1048577, 1048577), (1200000, 1048577)] {
+    for (len, kept) in [
+        (65535, 65535),
+        (1048576, 1048576),
+        (1048577, 1048577),
+        (1200000, 1048577),
+    ] {
         let mut bytes = Vec::new(alloc);
         for _ in 0..len {
             bytes.push(b'x')?;
