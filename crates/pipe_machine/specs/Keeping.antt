@@ -5,7 +5,7 @@
 --     submits_to l n      the line is one
 --     IsMoved may a b     the shelf before and behind a step that may submit to the names of which this holds
 --     IsEnded a b r       that no repair waits behind it, or why it failed
-use Rattle.std.specs.Prelude.{◌≡◌, ◌≤◌, ℕ, List, ◌++◌, Bool, true, false, Result, Ok, Err, IsSome, OnOk, IsErrOf}
+use Rattle.std.specs.Prelude.{◌≡◌, ◌↔◌, ◌≤◌, ℕ, List, ◌++◌, Bool, true, false, Result, Ok, Err, IsSome, OnOk, IsErrOf}
 use Rattle.doc_items.specs.Maps.{Key, same_text}
 use Rattle.wavelet_op.specs.Deltas.{DeltaOf}
 use Rattle.disk_model.specs.declared.disk.Disk as disk_of
@@ -65,8 +65,7 @@ module _ {F D : Type 0} {folder : folder_of.Ghosts F D} {disk : disk_of.Ghosts D
     pub grown : (n : Key) → Begins (deltas_in (hosted_of a) n) (deltas_in (hosted_of b) n)
     pub others : (n : Key) → may n ≡ false → container_in b n ≡ container_in a n
     pub kept : IsKept a → IsKept b
-    pub folder : IsSome (in_folder a) → IsSome (in_folder b)
-    pub was_folder : IsSome (in_folder b) → IsSome (in_folder a)
+    pub folder : IsSome (in_folder a) ↔ IsSome (in_folder b)
     pub later : fault_count a ≤ fault_count b
 
   pub record IsEnded {A : Type 0} (a b : Shelf F D folder disk) (r : Result A PipeFault) : Type 0 where

@@ -3,3 +3,4 @@ pub mod Seats
 pub mod Machine
 pub mod Keeping
 pub mod Pipes
+pub mod Shows

@@ -51,6 +51,7 @@ fn submit<F: Folder + Drop>(
     ensures moved { IsMoved (same_text name.now) shelf.old shelf.new }
     ensures ended { IsEnded shelf.old shelf.new result }
 {
+    shelf.copies_are_hosted();
     match shelf.submit(alloc, name, submission, time) {
         Ok(verdict) => {
             let answer = SubmitAnswer::Verdict(verdict);

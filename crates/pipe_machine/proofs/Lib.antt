@@ -1,0 +1,5 @@
+pub mod Alike
+pub mod Plain
+pub mod Moving
+pub mod Gathering
+pub mod Telling
