@@ -3,3 +3,4 @@ pub mod Plain
 pub mod Moving
 pub mod Gathering
 pub mod Telling
+pub mod Turning

@@ -4,3 +4,4 @@ pub mod Machine
 pub mod Keeping
 pub mod Pipes
 pub mod Shows
+pub mod Laws

@@ -8,9 +8,8 @@
 --     answered p t l      a line, and its reply
 --     delivered p         what is new to each session, and the seats then
 --     turn p t l          a line, its reply and the deliveries, as bytes
---     fed p clock ls      lines, one after the other: what is written; one of no bytes is passed over
---     after p clock ls    the machine then
---     readings_in ls      how many readings they take
+--     fed p ts            what is written for turns, one after the other
+--     after p ts          the machine then
 use Rattle.std.specs.Prelude.{ℕ, ◌+◌, List, [], ◌∷◌, ◌++◌, Bool, false, Option, Some, None, Result, Ok, Err}
 use Rattle.std.specs.Option.{option_map}
 use Rattle.doc_items.specs.Maps.{Key}
@@ -31,6 +30,7 @@ use Rattle.session_core.specs.Answers.{attached, answered as told}
 use Rattle.session_core.specs.Rules.{Taken, taken, reason_of}
 use Rattle.wavelet_shelf.specs.Hosting.{Hosted, names_of, copy_in, judged_in, after_submission}
 use Rattle.wavelet_shelf.specs.Shelves.{acknowledged}
+use Rattle.line_run.specs.Turns.{Turn}
 use Rattle.pipe_machine.specs.declared.seats.Seat.{Seat}
 use Rattle.pipe_machine.specs.Lines.{Sent, sent_to, lines_of}
 use Rattle.pipe_machine.specs.Seats.{place_in, seated, seat_in, with_session, seats_sent, seats_after}
@@ -122,22 +122,12 @@ turned a = ((delivered a.pipe).pipe, lines_of a.sent ++ lines_of (delivered a.pi
 abbrev pub turn : Pipe → ℕ → List ℕ → Pipe × List ℕ
 turn p t line = turned (answered p t line)
 
--- ---- lines, one after the other
+-- ---- turns, one after the other
 
-abbrev pub later : (ℕ → ℕ) → ℕ → ℕ
-later clock k = clock (k + 1)
+abbrev pub fed : Pipe → List Turn → List ℕ
+fed p [] = []
+fed p (t ∷ ts) = (turn p t.time t.line).1 ++ fed (turn p t.time t.line).0 ts
 
-abbrev pub fed : Pipe → (ℕ → ℕ) → List (List ℕ) → List ℕ
-fed p clock [] = []
-fed p clock ([] ∷ ls) = fed p clock ls
-fed p clock ((b ∷ line) ∷ ls) = (turn p (clock 0) (b ∷ line)).1 ++ fed (turn p (clock 0) (b ∷ line)).0 (later clock) ls
-
-abbrev pub after : Pipe → (ℕ → ℕ) → List (List ℕ) → Pipe
-after p clock [] = p
-after p clock ([] ∷ ls) = after p clock ls
-after p clock ((b ∷ line) ∷ ls) = after (turn p (clock 0) (b ∷ line)).0 (later clock) ls
-
-abbrev pub readings_in : List (List ℕ) → ℕ
-readings_in [] = 0
-readings_in ([] ∷ ls) = readings_in ls
-readings_in ((b ∷ line) ∷ ls) = 1 + readings_in ls
+abbrev pub after : Pipe → List Turn → Pipe
+after p [] = p
+after p (t ∷ ts) = after (turn p t.time t.line).0 ts

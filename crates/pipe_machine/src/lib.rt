@@ -3,13 +3,11 @@
 #![tactic(auto)]
 
 mod deliver;
-mod fault;
 mod lines;
 mod machine;
 mod reply;
 mod seats;
 
-pub use fault::PipeFault;
 pub use machine::PipeMachine;
 
 #[cfg(test)]
@@ -17,6 +15,7 @@ mod tests {
     use crate::PipeMachine;
     use std::process::Abort;
     use std::test::Fail;
+    use line_run::LineMachine;
     use wave_outside::MemoryFolder;
     use wavelet_shelf::Shelf;
 

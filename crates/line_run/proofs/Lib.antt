@@ -1,0 +1,5 @@
+pub mod Answering
+pub mod Cutting
+pub mod Serving
+pub mod Slices
+pub mod Telling

@@ -1,0 +1,2 @@
+-- A run, step by step.
+use Rattle.std.proofs.Common.{}

@@ -1,0 +1,19 @@
+use Rattle.std.proofs.Common.{◌≡◌, length, arith, sym}
+use Rattle.std.proofs.lemmas.Bool.{eqb-true}
+use Rattle.line_run.proofs.Answering.{chunk_last, chunk_untaken}
+use Rattle.line_run.proofs.run.answer.Goals as goal
+
+pub returns-then-is_empty-clause-ok : goal.returns-then-is_empty-clause-ok
+returns-then-is_empty-clause-ok g c =
+    let none : length c.args.bytes.now ≡ 0 = eqb-true (length c.args.bytes.now) 0 (sym c.if-is_empty.ensures) in
+    chunk_last g.M.LineMachine g.C.Clock c.give.result c.args.machine.now c.give.new.machine c.args.clock.now c.give.new.clock c.args.out.now.items c.give.new.out.items c.args.begun.now.bytes.items c.args.bytes.now c.args.begun.now.bytes.items
+    none c.args.begun.now.unended (rw (← c.as_slice.ensures.value) c.give.ensures.ok)
+
+pub returns-then-is_empty-clause-err : goal.returns-then-is_empty-clause-err
+returns-then-is_empty-clause-err g c = ?
+
+pub returns-clause-ok : goal.returns-clause-ok
+returns-clause-ok g c = ?
+
+pub returns-clause-err : goal.returns-clause-err
+returns-clause-err g c = ?

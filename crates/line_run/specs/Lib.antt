@@ -1,0 +1,5 @@
+pub mod Lines
+pub mod Output
+pub mod Run
+pub mod Steps
+pub mod Turns
