@@ -4,3 +4,4 @@ pub mod Moving
 pub mod Gathering
 pub mod Telling
 pub mod Turning
+pub mod Holding

@@ -31,14 +31,14 @@ kept_alike (Some g) (Some h) i e = (λ k. kept i (start (e.0 k)) (e.1 k))
 
 -- ---- histories
 
-begins_itself : (ds : List DeltaOf) → Begins ds ds
+pub begins_itself : (ds : List DeltaOf) → Begins ds ds
 begins_itself ds = ([], append-nil ds)
 
 begins_grown : (hs : List Hosted) (n : Key) (d : DeltaOf) (m : Key) → AreAscending (names_of hs) → (m ≡ n) ⊎ (m ≢ n) → Begins (deltas_in hs m) (deltas_in (with_added hs n (Some d)) m)
 begins_grown hs n d m up (inl e) = (d ∷ [], subst (λ k. deltas_in hs k ++ d ∷ [] ≡ deltas_in (with_added hs n (Some d)) k) (sym e) (sym (grows_alone.there hs n d up)))
 begins_grown hs n d m up (inr o) = ([], append-nil (deltas_in hs m) ∙ sym (grows_alone.others hs n d m o))
 
-begins_added : (hs : List Hosted) (n : Key) (o : Option DeltaOf) (m : Key) → AreAscending (names_of hs) → Begins (deltas_in hs m) (deltas_in (with_added hs n o) m)
+pub begins_added : (hs : List Hosted) (n : Key) (o : Option DeltaOf) (m : Key) → AreAscending (names_of hs) → Begins (deltas_in hs m) (deltas_in (with_added hs n o) m)
 begins_added hs n None m up = begins_itself (deltas_in hs m)
 begins_added hs n (Some d) m up = begins_grown hs n d m up (same_or_not m n)
 

@@ -14,9 +14,9 @@ use Rattle.line_run.specs.Turns.{Turn, turn_at}
 use Rattle.pipe_machine.specs.Keeping.{Begins, submits_to, submitted_in, IsMoved}
 use Rattle.pipe_machine.specs.Machine.{Pipe, turn, after}
 
-pub after_more : (p : Pipe) (ts : List Turn) (time : ℕ) (line : List ℕ) → after p (ts ++ turn_at time line ∷ []) ≡ (turn (after p ts) time line).0
+pub after_more : (p : Pipe) (ts : List Turn) (time : ℕ) (line : List ℕ) → after p (ts ++ turn_at time line ∷ []) ≡ (turn (after p ts) time line).pipe
 after_more p [] time line = refl
-after_more p (t ∷ ts) time line = after_more (turn p t.time t.line).0 ts time line
+after_more p (t ∷ ts) time line = after_more (turn p t.time t.line).pipe ts time line
 
 begins_on : (ds es fs : List DeltaOf) → Begins ds es → Begins es fs → Begins ds fs
 begins_on ds es fs (a, e) (b, f) = (a ++ b, sym (append_assoc ds a b) ∙ ap (λ l. l ++ b) e ∙ f)

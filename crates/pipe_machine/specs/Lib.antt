@@ -5,3 +5,4 @@ pub mod Keeping
 pub mod Pipes
 pub mod Shows
 pub mod Laws
+pub mod Held

@@ -109,6 +109,7 @@ impl<F: Folder + Drop> PipeMachine<F> {
 
     /// Takes a line that has bytes, at the time, in milliseconds, and appends the reply to it and what is new to each session, in byte
     /// order of their names. `Store` where the folder or a disk failed; after a refusal some of these lines may stand there.
+    #[tactic(auto, using(crate::proofs::Gathering::lines_append))]
     pub fn take_line(
         &mut self,
         alloc: Global,
@@ -129,12 +130,13 @@ impl<F: Folder + Drop> PipeMachine<F> {
 
 impl<F: Folder + Drop> LineMachine for PipeMachine<F> {
     ghost use Rattle.wavelet_shelf.specs.Shelves.{fault_count};
-    ghost use Rattle.pipe_machine.specs.Machine.{fed};
+    ghost use Rattle.pipe_machine.specs.Lines.{lines_of};
+    ghost use Rattle.pipe_machine.specs.Machine.{sent};
     ghost use Rattle.pipe_machine.specs.Pipes.{pipe_of, IsReached, IsSince, IsCalm};
     ghost use Rattle.pipe_machine.specs.Laws.{unmoved};
     ghost use Rattle.std.specs.Prelude.{refl};
 
-    ghost answers = { λ m ts. fed (pipe_of m) ts };
+    ghost answers = { λ m ts. lines_of (sent (pipe_of m) ts) };
 
     ghost reached = { λ a ts b. IsReached a ts b };
 
@@ -150,7 +152,7 @@ impl<F: Folder + Drop> LineMachine for PipeMachine<F> {
 
     ghost unmoved = { λ m. unmoved m };
 
-    #[tactic(auto, using(crate::proofs::Turning::after_more, crate::proofs::Turning::since_more))]
+    #[tactic(auto, using(crate::proofs::Turning::after_more, crate::proofs::Turning::since_more, crate::proofs::Gathering::lines_append))]
     fn turn(
         &mut self,
         alloc: Global,
