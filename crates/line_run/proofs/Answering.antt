@@ -4,7 +4,7 @@ use Rattle.std.proofs.lemmas.List.{map-append, length-map}
 use Rattle.wave_outside.specs.declared.clock.Clock as clock_of
 use Rattle.line_run.specs.declared.line_machine.LineMachine as machine_of
 use Rattle.line_run.specs.Lines.{IsPrefix, IsCutInto, Begins, given, turned, has_line_feed}
-use Rattle.line_run.specs.Steps.{IsAnswered, IsStopped, IsTakenLine, IsTriedLine, IsTaken, IsTakenChunk, IsTakenInPart}
+use Rattle.line_run.specs.Steps.{IsAnswered, IsTakenLine, IsTriedLine, IsTaken, IsTakenChunk, IsTakenInPart}
 use Rattle.line_run.specs.Turns.{Turn, turn_at, lines_in, later, timed}
 use Rattle.line_run.proofs.Cutting.{begins_nothing, begins_cut, begins_longer, begins_then, cut_line, turned-last}
 

@@ -8,7 +8,7 @@ use Rattle.std.proofs.lemmas.List.Elements.{All-from_get_or}
 use Rattle.std.proofs.lemmas.List.Sums.{fails_before_first}
 use Rattle.std.proofs.lemmas.List.Quantifiers.{position-Some}
 use Rattle.std.proofs.Math.Seq.{drop-cons, take-add, take-append-add}
-use Rattle.line_run.specs.Lines.{is_line_feed, has_line_feed, lines, but_last, some_lines, max_line, kept, given, turned, IsPrefix, IsCutInto, Begins}
+use Rattle.line_run.specs.Lines.{is_line_feed, has_line_feed, lines, but_last, some_lines, max_line, kept, given, turned, IsCutInto, Begins}
 
 pub has_line_feed-append : (xs ys : List ℕ) → has_line_feed xs ≡ false → has_line_feed ys ≡ false → has_line_feed (xs ++ ys) ≡ false
 has_line_feed-append xs ys h k = list_any-append is_line_feed xs ys ∙ rw (h, k) refl
@@ -172,12 +172,12 @@ begins_cut a bytes b ls h = λ rest. (turned true (b ++ rest), sym (h true rest)
 pub begins_longer : (bytes more : List ℕ) (ls : List (List ℕ)) → Begins bytes ls → Begins (bytes ++ more) ls
 begins_longer bytes more ls h = λ rest. let m = h (more ++ rest) in (m.0, m.1 ∙ ap (turned true) (sym (append_assoc bytes more rest)))
 
-pub begins_then : (a bytes b more : List ℕ) (ls ms : List (List ℕ)) → IsCutInto a bytes b ls → Begins (b ++ more) ms → Begins (ls ++ ms) (a ++ (bytes ++ more))
+pub begins_then : (a bytes b more : List ℕ) (ls ms : List (List ℕ)) → IsCutInto a bytes b ls → Begins (b ++ more) ms → Begins (a ++ (bytes ++ more)) (ls ++ ms)
 begins_then a bytes b more ls ms h k = λ rest.
     let m = k rest in (
       m.0,
       append_assoc ls ms m.0 ∙ ap (λ t. ls ++ t) (m.1 ∙ ap (turned true) (append_assoc b more rest)) ∙ sym (h true (more ++ rest))
-      ∙ ap (turned true) (ap (λ t. a ++ t) (sym (append_assoc bytes more rest)) ∙ sym (append_assoc a (bytes ++ more) rest)),
+          ∙ ap (turned true) (ap (λ t. a ++ t) (sym (append_assoc bytes more rest)) ∙ sym (append_assoc a (bytes ++ more) rest)),
     )
 
 -- the last line, at the end of the input

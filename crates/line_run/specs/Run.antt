@@ -5,7 +5,7 @@
 --     IsUnderWay        what holds between two of its steps
 --     IsPumped          a step
 --     IsCut             a step that failed
-use Rattle.std.specs.Prelude.{◌≡◌, ℕ, ◌<◌, ◌≤◌, ◌^◌, ◌⊎◌, List, [], ◌++◌, length, Option, Result, Ok, Err, ⊤, Bool, true, false, IsTrue}
+use Rattle.std.specs.Prelude.{◌≡◌, ℕ, ◌<◌, ◌≤◌, ◌^◌, ◌⊎◌, List, [], ◌++◌, length, Option, Result, Ok, Err, ⊤, true, false, IsTrue}
 use Rattle.std.specs.Io.KnownBytes.{Appends, Consumes, IsAtEnd}
 use Rattle.wave_outside.specs.declared.clock.Clock as clock_of
 use Rattle.line_run.specs.declared.line_machine.LineMachine as machine_of
@@ -94,6 +94,6 @@ module _ {M K : Type 0} (machine : machine_of.Ghosts M) (clock : clock_of.Ghosts
     pub front : IsPrefix (lines_in turns ++ lines_in tried) (turned true (begun ++ read))
     pub stopped : IsStopped machine clock old new was [] turns tried
     pub prefix : IsPrefix written stopped.after
-    pub unread : e ≡ Source → (read ≡ []) × (turns ≡ [])
+    pub unread : e ≡ Source → (read ≡ []) × (turns ≡ []) × (written ≡ stopped.after)
     pub all : (e ≡ Source) ⊎ (e ≡ Sink) → (new ≡ stopped.mid) × (tried ≡ [])
     pub short : e ≡ Sink → length written < length stopped.after

@@ -55,7 +55,15 @@ pub fn run_lines<M: LineMachine, S: Source, W: Sink, C: Clock>(
     let mut buffer = [0u8; CHUNK];
     while taken < BYTE_LIMIT {
         let room = (BYTE_LIMIT - taken).min(CHUNK as u64) as usize;
-        let count = pump(alloc, &mut begun, machine, source, sink, clock, &mut buffer[..room])?;
+        let count = pump(
+            alloc,
+            &mut begun,
+            machine,
+            source,
+            sink,
+            clock,
+            &mut buffer[..room],
+        )?;
         if count == 0 {
             return Ok(());
         }

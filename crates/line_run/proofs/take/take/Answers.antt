@@ -26,7 +26,7 @@ returns-in_err-end_line-clause-err g c =
     append_assoc c.args.begun.now.bytes.items (take (from + (c.in-Some.len + 1)) bytes) (drop (from + (c.in-Some.len + 1)) bytes)
     ∙ ap (λ t. c.args.begun.now.bytes.items ++ t) (take-append-drop (from + (c.in-Some.len + 1)) bytes) in
     on_err c.from_residual.result
-    (rw (← all) (in_part_longer g.M.LineMachine g.C.Clock c.args.machine.now c.end_line.new.machine c.args.clock.now c.args.out.now.items _ (drop (from + (c.in-Some.len + 1)) bytes) some))
+    (rw (← all) (in_part_longer g.M.LineMachine g.C.Clock c.args.machine.now c.end_line.new.machine c.args.clock.now c.args.out.now.items (c.args.begun.now.bytes.items ++ take (from + (c.in-Some.len + 1)) bytes) (drop (from + (c.in-Some.len + 1)) bytes) some))
 
 pub loop-len-preserved : goal.loop-len-preserved
 loop-len-preserved g c =
@@ -37,9 +37,9 @@ loop-len-preserved g c =
     record {
       within = omega (arith, low, length-drop c.loop-len.from c.args.bytes.now);
       taken = taken_then g.M.LineMachine g.C.Clock c.args.machine.now c.loop-len.machine c.end_line.new.machine c.args.clock.now c.loop-len.clock c.end_line.new.clock
-      c.args.out.now.items c.loop-len.out.items c.end_line.new.out.items c.args.begun.now.bytes.items (take c.loop-len.from c.args.bytes.now) c.loop-len.begun.bytes.items _ c.end_line.new.begun.bytes.items _
-      (ap (λ t. take c.loop-len.from c.args.bytes.now ++ (t ++ 10 ∷ [])) (slice_until c.loop-len.from c.in-Some.len left) ∙ next_front c.args.bytes.now c.loop-len.from c.in-Some.len place)
-      c.loop-len.invariant.taken c.in_ok-end_line.ensures.ok;
+          c.args.out.now.items c.loop-len.out.items c.end_line.new.out.items c.args.begun.now.bytes.items (take c.loop-len.from c.args.bytes.now) c.loop-len.begun.bytes.items _ c.end_line.new.begun.bytes.items _
+          (ap (λ t. take c.loop-len.from c.args.bytes.now ++ (t ++ 10 ∷ [])) (slice_until c.loop-len.from c.in-Some.len left) ∙ next_front c.args.bytes.now c.loop-len.from c.in-Some.len place)
+          c.loop-len.invariant.taken c.in_ok-end_line.ensures.ok;
       later = omega (arith, c.loop-len.invariant.later, c.in_ok-end_line.ensures.later);
     }
 
@@ -50,8 +50,8 @@ pub returns-in_err-keep-clause-err : goal.returns-in_err-keep-clause-err
 returns-in_err-keep-clause-err g c =
     on_err _
     (in_part_then g.M.LineMachine g.C.Clock c.args.machine.now c.loop-len.machine c.loop-len.machine c.args.clock.now c.loop-len.clock c.args.out.now.items c.loop-len.out.items
-        c.args.begun.now.bytes.items (take c.loop-len.from c.args.bytes.now) c.loop-len.begun.bytes.items (drop c.loop-len.from c.args.bytes.now) _ (take-append-drop c.loop-len.from c.args.bytes.now)
-        c.loop-len.invariant.taken (nothing_in_part g.M.LineMachine g.C.Clock c.loop-len.machine c.loop-len.clock c.loop-len.out.items _))
+    c.args.begun.now.bytes.items (take c.loop-len.from c.args.bytes.now) c.loop-len.begun.bytes.items (drop c.loop-len.from c.args.bytes.now) _ (take-append-drop c.loop-len.from c.args.bytes.now)
+    c.loop-len.invariant.taken (nothing_in_part g.M.LineMachine g.C.Clock c.loop-len.machine c.loop-len.clock c.loop-len.out.items (c.loop-len.begun.bytes.items ++ drop c.loop-len.from c.args.bytes.now)))
 
 pub returns-clause-ok : goal.returns-clause-ok
 returns-clause-ok g c =
@@ -60,4 +60,4 @@ returns-clause-ok g c =
     (take-append-drop c.loop-len.from c.args.bytes.now)
     c.loop-len.invariant.taken
     (taken_open g.M.LineMachine g.C.Clock c.loop-len.machine c.loop-len.clock c.loop-len.out.items c.loop-len.begun.bytes.items (drop c.loop-len.from c.args.bytes.now) c.keep.new.self.bytes.items
-        (rw (← slice_end c.loop-len.from c.args.bytes.now) c.in_ok-keep.ensures))
+    (rw (← slice_end c.loop-len.from c.args.bytes.now) c.in_ok-keep.ensures))
