@@ -3,9 +3,11 @@
 --     submits m n         the message is a submission to the wavelet of the name
 --     asks_for r n        the request is one
 --     submits_to l n      the line is one
+--     submitted_in ts n   one of the turns is one
 --     IsMoved may a b     the shelf before and behind a step that may submit to the names of which this holds
 --     IsEnded a b r       that no repair waits behind it, or why it failed
-use Rattle.std.specs.Prelude.{◌≡◌, ◌≤◌, ℕ, List, ◌++◌, Bool, true, false, Result, Ok, Err, IsSome, OnOk, IsErrOf}
+use Rattle.std.specs.Prelude.{◌≡◌, ◌↔◌, ◌≤◌, ℕ, List, ◌++◌, Bool, true, false, Result, Ok, Err, IsSome, OnOk, IsErrOf}
+use Rattle.std.specs.List.{list_any}
 use Rattle.doc_items.specs.Maps.{Key, same_text}
 use Rattle.wavelet_op.specs.Deltas.{DeltaOf}
 use Rattle.disk_model.specs.declared.disk.Disk as disk_of
@@ -19,8 +21,9 @@ use Rattle.wavelet_shelf.specs.Shelves.{hosted_of, in_folder, container_in, faul
 use Rattle.wavelet_shelf.specs.declared.shelf.Shelf.{Shelf}
 use Rattle.session_core.specs.declared.request.Request.{Request}
 use Rattle.session_core.specs.declared.request.Request.TheVariants as ask
-use Rattle.pipe_machine.specs.declared.fault.PipeFault.{PipeFault}
-use Rattle.pipe_machine.specs.declared.fault.PipeFault.TheVariants.{Store}
+use Rattle.line_run.specs.Turns.{Turn}
+use Rattle.line_run.specs.declared.line_machine.TurnFault.{TurnFault}
+use Rattle.line_run.specs.declared.line_machine.TurnFault.TheVariants.{Store}
 
 abbrev pub Begins : List DeltaOf → List DeltaOf → Type 0
 Begins ds es = (rest : List DeltaOf) × (ds ++ rest ≡ es)
@@ -60,16 +63,18 @@ submits_read (Err r) n = false
 abbrev pub submits_to : List ℕ → Key → Bool
 submits_to line n = submits_read (reading.line_read line) n
 
+abbrev pub submitted_in : List Turn → Key → Bool
+submitted_in ts n = list_any (λ t. submits_to t.line n) ts
+
 module _ {F D : Type 0} {folder : folder_of.Ghosts F D} {disk : disk_of.Ghosts D} where
   pub record IsMoved (may : Key → Bool) (a b : Shelf F D folder disk) : Type 0 where
     pub grown : (n : Key) → Begins (deltas_in (hosted_of a) n) (deltas_in (hosted_of b) n)
     pub others : (n : Key) → may n ≡ false → container_in b n ≡ container_in a n
     pub kept : IsKept a → IsKept b
-    pub folder : IsSome (in_folder a) → IsSome (in_folder b)
-    pub was_folder : IsSome (in_folder b) → IsSome (in_folder a)
+    pub folder : IsSome (in_folder a) ↔ IsSome (in_folder b)
     pub later : fault_count a ≤ fault_count b
 
-  pub record IsEnded {A : Type 0} (a b : Shelf F D folder disk) (r : Result A PipeFault) : Type 0 where
+  pub record IsEnded {A : Type 0} (a b : Shelf F D folder disk) (r : Result A TurnFault) : Type 0 where
     pub settled : OnOk r (IsKept a → IsSettled a → IsSettled b)
     pub failed : IsErrOf r Store → Rose (fault_count a) (fault_count b)
     pub disk : IsErrOf r Store → IsSome (in_folder a)

@@ -3,3 +3,6 @@ pub mod Seats
 pub mod Machine
 pub mod Keeping
 pub mod Pipes
+pub mod Shows
+pub mod Laws
+pub mod Held

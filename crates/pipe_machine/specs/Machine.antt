@@ -7,10 +7,9 @@
 --     replied hs s m t    a message to a session
 --     answered p t l      a line, and its reply
 --     delivered p         what is new to each session, and the seats then
---     turn p t l          a line, its reply and the deliveries, as bytes
---     fed p clock ls      lines, one after the other: what is written; one of no bytes is passed over
---     after p clock ls    the machine then
---     readings_in ls      how many readings they take
+--     turn p t l          a line, its reply and the deliveries
+--     sent p ts           what is sent for turns, one after the other
+--     after p ts          the machine then
 use Rattle.std.specs.Prelude.{ℕ, ◌+◌, List, [], ◌∷◌, ◌++◌, Bool, false, Option, Some, None, Result, Ok, Err}
 use Rattle.std.specs.Option.{option_map}
 use Rattle.doc_items.specs.Maps.{Key}
@@ -31,8 +30,9 @@ use Rattle.session_core.specs.Answers.{attached, answered as told}
 use Rattle.session_core.specs.Rules.{Taken, taken, reason_of}
 use Rattle.wavelet_shelf.specs.Hosting.{Hosted, names_of, copy_in, judged_in, after_submission}
 use Rattle.wavelet_shelf.specs.Shelves.{acknowledged}
+use Rattle.line_run.specs.Turns.{Turn}
 use Rattle.pipe_machine.specs.declared.seats.Seat.{Seat}
-use Rattle.pipe_machine.specs.Lines.{Sent, sent_to, lines_of}
+use Rattle.pipe_machine.specs.Lines.{Sent, sent_to}
 use Rattle.pipe_machine.specs.Seats.{place_in, seated, seat_in, with_session, seats_sent, seats_after}
 
 pub record Pipe : Type 0 where
@@ -114,30 +114,18 @@ answered p t line = answered_read p t (line_read line)
 abbrev pub delivered : Pipe → Answer
 delivered p = record { pipe = record { hosted = p.hosted; seats = seats_after (shown_in p.hosted) p.seats }; sent = seats_sent (shown_in p.hosted) p.seats }
 
--- ---- a turn
+-- ---- turns
 
-abbrev pub turned : Answer → Pipe × List ℕ
-turned a = ((delivered a.pipe).pipe, lines_of a.sent ++ lines_of (delivered a.pipe).sent)
+abbrev pub turned : Answer → Answer
+turned a = record { pipe = (delivered a.pipe).pipe; sent = a.sent ++ (delivered a.pipe).sent }
 
-abbrev pub turn : Pipe → ℕ → List ℕ → Pipe × List ℕ
+abbrev pub turn : Pipe → ℕ → List ℕ → Answer
 turn p t line = turned (answered p t line)
 
--- ---- lines, one after the other
+abbrev pub sent : Pipe → List Turn → List Sent
+sent p [] = []
+sent p (t ∷ ts) = (turn p t.time t.line).sent ++ sent (turn p t.time t.line).pipe ts
 
-abbrev pub later : (ℕ → ℕ) → ℕ → ℕ
-later clock k = clock (k + 1)
-
-abbrev pub fed : Pipe → (ℕ → ℕ) → List (List ℕ) → List ℕ
-fed p clock [] = []
-fed p clock ([] ∷ ls) = fed p clock ls
-fed p clock ((b ∷ line) ∷ ls) = (turn p (clock 0) (b ∷ line)).1 ++ fed (turn p (clock 0) (b ∷ line)).0 (later clock) ls
-
-abbrev pub after : Pipe → (ℕ → ℕ) → List (List ℕ) → Pipe
-after p clock [] = p
-after p clock ([] ∷ ls) = after p clock ls
-after p clock ((b ∷ line) ∷ ls) = after (turn p (clock 0) (b ∷ line)).0 (later clock) ls
-
-abbrev pub readings_in : List (List ℕ) → ℕ
-readings_in [] = 0
-readings_in ([] ∷ ls) = readings_in ls
-readings_in ((b ∷ line) ∷ ls) = 1 + readings_in ls
+abbrev pub after : Pipe → List Turn → Pipe
+after p [] = p
+after p (t ∷ ts) = after (turn p t.time t.line).pipe ts

@@ -9,12 +9,12 @@ ghost use Rattle.pipe_machine.specs.Machine.{start, served, refusal, answered, t
 ghost use Rattle.pipe_machine.specs.Pipes.{pipe_of};
 ghost use Rattle.pipe_machine.specs.Seats.{IsPlain};
 
-use crate::PipeFault;
 use crate::deliver::deliver;
 use crate::lines::push_line;
 use crate::reply::reply;
 use crate::seats::{Seat, seat_of};
 use doc_items::Memory;
+use line_run::{LineMachine, TurnFault};
 use session_core::reason_of;
 use std::alloc::Global;
 use wave_base::SessionName;
@@ -74,7 +74,7 @@ impl<F: Folder + Drop> PipeMachine<F> {
         message: Message,
         time: u64,
         out: &mut Vec<u8>,
-    ) -> Result<(), PipeFault>
+    ) -> Result<(), TurnFault>
         ensures pipe { OnOk result (pipe_of self.new ≡ (served (pipe_of self.old) time name message).pipe) }
         ensures sent { OnOk result (out.new.items ≡ out.old.items ++ lines_of (served (pipe_of self.old) time name message).sent) }
         ensures moved { IsMoved (submits message) self.old.shelf self.new.shelf }
@@ -94,7 +94,7 @@ impl<F: Folder + Drop> PipeMachine<F> {
         line: &[u8],
         time: u64,
         out: &mut Vec<u8>,
-    ) -> Result<(), PipeFault>
+    ) -> Result<(), TurnFault>
         ensures pipe { OnOk result (pipe_of self.new ≡ (answered (pipe_of self.old) time line.now).pipe) }
         ensures sent { OnOk result (out.new.items ≡ out.old.items ++ lines_of (answered (pipe_of self.old) time line.now).sent) }
         ensures moved { IsMoved (submits_to line.now) self.old.shelf self.new.shelf }
@@ -103,19 +103,20 @@ impl<F: Folder + Drop> PipeMachine<F> {
         match read_line(alloc, line) {
             Ok(Line { session, message }) => self.serve(alloc, session, message, time, out),
             Err(LineFault::Bad { session, kind }) => Ok(refuse(alloc, session, kind, out)?),
-            Err(LineFault::Memory) => Err(PipeFault::Memory),
+            Err(LineFault::Memory) => Err(TurnFault::Memory),
         }
     }
 
     /// Takes a line that has bytes, at the time, in milliseconds, and appends the reply to it and what is new to each session, in byte
     /// order of their names. `Store` where the folder or a disk failed; after a refusal some of these lines may stand there.
-    pub fn turn(
+    #[tactic(auto, using(crate::proofs::Gathering::lines_append))]
+    pub fn take_line(
         &mut self,
         alloc: Global,
         line: &[u8],
         time: u64,
         out: &mut Vec<u8>,
-    ) -> Result<(), PipeFault>
+    ) -> Result<(), TurnFault>
         ensures pipe { OnOk result (pipe_of self.new ≡ (turn (pipe_of self.old) time line.now).0) }
         ensures sent { OnOk result (out.new.items ≡ out.old.items ++ (turn (pipe_of self.old) time line.now).1) }
         ensures moved { IsMoved (submits_to line.now) self.old.shelf self.new.shelf }
@@ -124,5 +125,41 @@ impl<F: Folder + Drop> PipeMachine<F> {
         self.answer(alloc, line, time, out)?;
         deliver(alloc, &self.shelf, self.seats.as_mut_slice(), out)?;
         Ok(())
+    }
+}
+
+impl<F: Folder + Drop> LineMachine for PipeMachine<F> {
+    ghost use Rattle.wavelet_shelf.specs.Shelves.{fault_count};
+    ghost use Rattle.pipe_machine.specs.Lines.{lines_of};
+    ghost use Rattle.pipe_machine.specs.Machine.{sent};
+    ghost use Rattle.pipe_machine.specs.Pipes.{pipe_of, IsReached, IsSince, IsCalm};
+    ghost use Rattle.pipe_machine.specs.Laws.{unmoved};
+    ghost use Rattle.std.specs.Prelude.{refl};
+
+    ghost answers = { λ m ts. lines_of (sent (pipe_of m) ts) };
+
+    ghost reached = { λ a ts b. IsReached a ts b };
+
+    ghost since = { λ a ts b. IsSince a ts b };
+
+    ghost calm = { λ m. IsCalm m };
+
+    ghost faults = { λ m. fault_count m.shelf };
+
+    ghost silent = { λ m. refl };
+
+    ghost at_start = { λ m. refl };
+
+    ghost unmoved = { λ m. unmoved m };
+
+    #[tactic(auto, using(crate::proofs::Turning::after_more, crate::proofs::Turning::since_more, crate::proofs::Gathering::lines_append))]
+    fn turn(
+        &mut self,
+        alloc: Global,
+        line: &[u8],
+        time: u64,
+        out: &mut Vec<u8>,
+    ) -> Result<(), TurnFault> {
+        self.take_line(alloc, line, time, out)
     }
 }

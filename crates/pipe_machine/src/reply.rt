@@ -11,8 +11,8 @@ ghost use Rattle.pipe_machine.specs.Keeping.{IsMoved, IsEnded, submits, asks_for
 ghost use Rattle.pipe_machine.specs.Machine.{shown_in, reply_of, asked, replied};
 ghost use Rattle.pipe_machine.specs.Seats.{IsPlain, AsksAsUser};
 
-use crate::PipeFault;
 use doc_items::Memory;
+use line_run::TurnFault;
 use session_core::{Request, Session, SubmitAnswer};
 use std::alloc::Global;
 use wave_base::{HashedVersion, WaveletName};
@@ -45,19 +45,20 @@ fn submit<F: Folder + Drop>(
     name: &WaveletName,
     submission: &Submission,
     time: u64,
-) -> Result<Message, PipeFault>
+) -> Result<Message, TurnFault>
     ensures hosted { OnOk result (hosted_of shelf.new ≡ after_submission (hosted_of shelf.old) name.now submission.now time) }
     ensures reply { IfOk result (λ m. (session.new, m) ≡ answered session.old name.now submission.now.id (answer.Verdict (judged_in (hosted_of shelf.old) name.now submission.now time).0)) }
     ensures moved { IsMoved (same_text name.now) shelf.old shelf.new }
     ensures ended { IsEnded shelf.old shelf.new result }
 {
+    shelf.copies_are_hosted();
     match shelf.submit(alloc, name, submission, time) {
         Ok(verdict) => {
             let answer = SubmitAnswer::Verdict(verdict);
             Ok(session.answer_submit(alloc, name, &submission.id, &answer)?)
         }
-        Err(SubmitFault::DiskFault) => Err(PipeFault::Store),
-        Err(SubmitFault::Memory) => Err(PipeFault::Memory),
+        Err(SubmitFault::DiskFault) => Err(TurnFault::Store),
+        Err(SubmitFault::Memory) => Err(TurnFault::Memory),
     }
 }
 
@@ -68,7 +69,7 @@ fn answer<F: Folder + Drop>(
     session: &mut Session,
     request: Request,
     time: u64,
-) -> Result<Message, PipeFault>
+) -> Result<Message, TurnFault>
     requires user { AsksAsUser session.old request }
     ensures reply { IfOk result (λ m. reply_of (hosted_of shelf.new) (session.new, m) ≡ asked (hosted_of shelf.old) time session.old request) }
     ensures moved { IsMoved (asks_for request) shelf.old shelf.new }
@@ -91,7 +92,7 @@ pub fn reply<F: Folder + Drop>(
     session: &mut Session,
     message: Message,
     time: u64,
-) -> Result<Message, PipeFault>
+) -> Result<Message, TurnFault>
     requires { IsPlain session.old }
     ensures reply { IfOk result (λ m. reply_of (hosted_of shelf.new) (session.new, m) ≡ replied (hosted_of shelf.old) session.old message time) }
     ensures plain { OnOk result (IsPlain session.new) }

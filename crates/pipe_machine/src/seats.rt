@@ -1,11 +1,14 @@
 // The sessions of a pipe, by name.
 ghost use Rattle.std.specs.Prelude.{◌≡◌, ◌≤◌, ◌<◌, [], length, IfOk, OnOk};
 ghost use Rattle.std.specs.List.{All};
+ghost use Rattle.std.specs.Cmp.Lexicographic.{slice_cmp};
+ghost use Rattle.std.specs.Ordering.{nat_cmp};
 ghost use Rattle.pipe_machine.specs.Seats.{begun, place_in, is_at, seated, IsPlain};
 
 use doc_items::Memory;
 use session_core::Session;
 use std::alloc::Global;
+use std::cmp::Ordering;
 use wave_base::SessionName;
 
 /// A session with its name.
@@ -15,19 +18,26 @@ pub struct Seat {
     pub session: Session,
 }
 
+// How two names compare, in bytes.
+fn compared(left: &SessionName, right: &SessionName) -> Ordering
+    ensures { result ≡ slice_cmp nat_cmp left.now right.now }
+{
+    left.text().cmp(right.text())
+}
+
 // The place of the first seat whose name isn't before this one.
 fn place_in(seats: &[Seat], name: &SessionName) -> usize
     ensures value { result ≡ place_in name.now 0 seats.now }
     ensures within { result ≤ length seats.now }
 {
-    let mut place = 0usize;
-    while place < seats.len() {
-        if name.text() <= seats[place].name.text() {
-            return place;
+    for place in 0..seats.len() {
+        match compared(name, &seats[place].name) {
+            Ordering::Greater => {}
+            Ordering::Equal => return place,
+            Ordering::Less => return place,
         }
-        place += 1;
     }
-    place
+    seats.len()
 }
 
 // Whether the seat at the place has the name.

@@ -1,0 +1,125 @@
+-- What sessions are told rests on the names and deltas of the copies alone.
+--     attached_alike      what an `open` is answered
+--     delivered_alike     what a session of a pipe is sent
+--     after_alike         the session then
+use Rattle.std.proofs.Common.{◌≡◌, ℕ, Bool, true, false, not, ◌&&◌, cond, List, [], ◌∷◌, ◌++◌, Option, None, Some, refl, sym, ap, subst, ◌∙◌, is_some, option_map, option_and_then, true≢false}
+use Rattle.doc_items.specs.Maps.{Key}
+use Rattle.wave_base.specs.Versions.{VersionAt}
+use Rattle.wavelet_op.specs.Deltas.{DeltaOf}
+use Rattle.wavelet_op.specs.States.{role_of}
+use Rattle.delta_history.specs.Histories.{HistoryOf, head_of, hash_found}
+use Rattle.delta_history.specs.Points.{end_of, point_at}
+use Rattle.message_table.specs.declared.message.Message.{Message}
+use Rattle.session_core.specs.declared.session.Party.{Party}
+use Rattle.session_core.specs.declared.session.Party.TheVariants.{Nobody, User, Domain}
+use Rattle.session_core.specs.declared.session.Opening.{Opening}
+use Rattle.session_core.specs.declared.session.Waiting.{Waiting}
+use Rattle.session_core.specs.declared.session.Session.{Session}
+use Rattle.session_core.specs.Access.{Shown, is_member, seen_by}
+use Rattle.session_core.specs.Rules.{party_is_peer}
+use Rattle.session_core.specs.Answers.{attached_head, attached_hash, attached_seen, seen_for, attached}
+use Rattle.session_core.specs.Deliveries.{outcome_sent, outcomes_sent, waits_on, still_waiting, opening_news, opening_sent, openings_sent, opening_left, opening_kept, openings_kept, delivered_to, delivered, after_for, after_delivery}
+use Rattle.wavelet_shelf.specs.Hosting.{IsCopyOf}
+use Rattle.pipe_machine.specs.Seats.{IsPlain}
+use Rattle.pipe_machine.specs.Shows.{IsSameShown}
+
+-- ---- one copy
+
+member_alike : (g h : HistoryOf) (user : Key) → IsCopyOf (Some g) (Some h) → is_member g user ≡ is_member h user
+member_alike g h user s = (λ i. is_some (role_of (end_of (s.0 i) (s.1 i)).state user))
+
+chosen : (g h : HistoryOf) (b c : Bool) → b ≡ c → IsCopyOf (Some g) (Some h) → IsCopyOf (cond b (Some g) None) (cond c (Some h) None)
+chosen g h true true e s = s
+chosen g h false false e s = tt
+chosen g h true false e s = absurd (true≢false e)
+chosen g h false true e s = absurd (true≢false (sym e))
+
+picked : Bool → Key → Option HistoryOf → Option HistoryOf
+picked dropped user o = option_and_then (λ h. cond (is_member h user && not dropped) (Some h) None) o
+
+picked_alike : (dropped : Bool) (user : Key) (o p : Option HistoryOf) → IsCopyOf o p → IsCopyOf (picked dropped user o) (picked dropped user p)
+picked_alike dropped user None None s = tt
+picked_alike dropped user None (Some h) s = absurd s
+picked_alike dropped user (Some g) None s = absurd s
+picked_alike dropped user (Some g) (Some h) s = chosen g h (is_member g user && not dropped) (is_member h user && not dropped) (ap (λ b. b && not dropped) (member_alike g h user s)) s
+
+module _ (c d : Shown) (same : IsSameShown c d) where
+  seen_alike : (name user : Key) → IsCopyOf (seen_by c name user) (seen_by d name user)
+  seen_alike name user = subst (λ b. IsCopyOf (seen_by c name user) (picked b user (d.copy name))) (same.drops name) (picked_alike (c.drops name) user (c.copy name) (d.copy name) (same.copy name))
+
+  seen_for_alike : (party : Party) (name : Key) → IsCopyOf (seen_for c party name) (seen_for d party name)
+  seen_for_alike Nobody name = tt
+  seen_for_alike (User user) name = seen_alike name user
+  seen_for_alike (Domain domain) name = tt
+
+  -- ---- open wavelets
+
+  answer_alike : (s : Session) (name : Key) (from : Option VersionAt) (o p : Option HistoryOf) → IsCopyOf o p → attached_seen s name from o ≡ attached_seen s name from p
+  answer_alike s name from None None e = refl
+  answer_alike s name from None (Some h) e = absurd e
+  answer_alike s name from (Some g) None e = absurd e
+  answer_alike s name None (Some g) (Some h) e =
+      (λ i. attached_head s name (record { name = name; at = (end_of (e.0 i) (e.1 i)).at; inserted = (end_of (e.0 i) (e.1 i)).count; state = (end_of (e.0 i) (e.1 i)).state }))
+  answer_alike s name (Some from) (Some g) (Some h) e =
+      (λ i. attached_hash s name from (end_of (e.0 i) (e.1 i)).at (option_map (λ p. p.at.hash) (point_at (e.0 i) (e.1 i) from.version)))
+
+  pub attached_alike : (s : Session) (name : Key) (from : Option VersionAt) → attached c s name from ≡ attached d s name from
+  attached_alike s name from = answer_alike s name from (seen_for c s.party name) (seen_for d s.party name) (seen_for_alike s.party name)
+
+  -- ---- deliveries
+
+  outcomes_alike : (ws : List Waiting) → outcomes_sent c ws ≡ outcomes_sent d ws
+  outcomes_alike [] = refl
+  outcomes_alike (w ∷ ws) = (λ i. outcome_sent w (same.outcome w.name w.id i) ++ outcomes_alike ws i)
+
+  waiting_alike : (ws : List Waiting) → still_waiting c ws ≡ still_waiting d ws
+  waiting_alike [] = refl
+  waiting_alike (w ∷ ws) = (λ i. waits_on w (same.outcome w.name w.id i) ++ waiting_alike ws i)
+
+  news_alike : (o : Opening) (s t : Option HistoryOf) → IsCopyOf s t → opening_news o s ≡ opening_news o t
+  news_alike o None None e = refl
+  news_alike o None (Some h) e = absurd e
+  news_alike o (Some g) None e = absurd e
+  news_alike o (Some g) (Some h) e = ap (λ ds. opening_news o (Some (record { name = h.name; deltas = ds; spare = 0 }))) e.1
+
+  left_alike : (o : Opening) (s t : Option HistoryOf) → IsCopyOf s t → opening_left o s ≡ opening_left o t
+  left_alike o None None e = refl
+  left_alike o None (Some h) e = absurd e
+  left_alike o (Some g) None e = absurd e
+  left_alike o (Some g) (Some h) e = (λ i. record { name = o.name; sent = (end_of (e.0 i) (e.1 i)).at.version } ∷ [])
+
+  opening_alike : (user : Key) (o : Opening) (s t : Option HistoryOf) → IsCopyOf s t → opening_sent c user o s ≡ opening_sent d user o t
+  opening_alike user o None None e = refl
+  opening_alike user o None (Some h) e = absurd e
+  opening_alike user o (Some g) None e = absurd e
+  opening_alike user o (Some g) (Some h) e = news_alike o (seen_by c o.name user) (seen_by d o.name user) (seen_alike o.name user)
+
+  kept_alike : (user : Key) (o : Opening) (s t : Option HistoryOf) → IsCopyOf s t → opening_kept c user o s ≡ opening_kept d user o t
+  kept_alike user o None None e = refl
+  kept_alike user o None (Some h) e = absurd e
+  kept_alike user o (Some g) None e = absurd e
+  kept_alike user o (Some g) (Some h) e = left_alike o (seen_by c o.name user) (seen_by d o.name user) (seen_alike o.name user)
+
+  openings_alike : (user : Key) (os : List Opening) → openings_sent c user os ≡ openings_sent d user os
+  openings_alike user [] = refl
+  openings_alike user (o ∷ os) = (λ i. opening_alike user o (c.copy o.name) (d.copy o.name) (same.copy o.name) i ++ openings_alike user os i)
+
+  openings_kept_alike : (user : Key) (os : List Opening) → openings_kept c user os ≡ openings_kept d user os
+  openings_kept_alike user [] = refl
+  openings_kept_alike user (o ∷ os) = (λ i. kept_alike user o (c.copy o.name) (d.copy o.name) (same.copy o.name) i ++ openings_kept_alike user os i)
+
+  pub delivered_alike : (s : Session) → IsPlain s → delivered c s ≡ delivered d s
+  delivered_alike s plain = go s.party plain.no_peer
+    where
+      go : (party : Party) → party_is_peer party ≡ false → delivered_to c s party ≡ delivered_to d s party
+      go Nobody e = refl
+      go (User user) e = (λ i. outcomes_alike s.waiting i ++ openings_alike user s.openings i)
+      go (Domain domain) e = absurd (true≢false e)
+
+  pub after_alike : (s : Session) → IsPlain s → after_delivery c s ≡ after_delivery d s
+  after_alike s plain = go s.party plain.no_peer
+    where
+      go : (party : Party) → party_is_peer party ≡ false → after_for c s party ≡ after_for d s party
+      go Nobody e = refl
+      go (User user) e = (λ i. record s { openings = openings_kept_alike user s.openings i; waiting = waiting_alike s.waiting i })
+      go (Domain domain) e = absurd (true≢false e)

@@ -1,0 +1,7 @@
+pub mod Alike
+pub mod Plain
+pub mod Moving
+pub mod Gathering
+pub mod Telling
+pub mod Turning
+pub mod Holding

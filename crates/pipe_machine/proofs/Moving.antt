@@ -1,0 +1,89 @@
+-- How a shelf moves.
+--     same_shown            what sessions see of it is what they see of its histories
+--     stays                 one that stays as it is
+--     taken_in, refused_in  one that took a submission; one where it was refused
+use Rattle.std.proofs.Common.{◌≡◌, ◌≢◌, ◌⊎◌, inl, inr, ◌↔◌, ◌≤◌, ℕ, Bool, true, false, List, [], ◌∷◌, ◌++◌, Option, None, Some, IsSome, refl, sym, ap, subst, ◌∙◌, option_map, append-nil, true≢false}
+use Rattle.doc_items.specs.Maps.{Key, same_text}
+use Rattle.wave_base.specs.Versions.{IdOf}
+use Rattle.wavelet_op.specs.Deltas.{DeltaOf}
+use Rattle.wavelet_op.specs.declared.delta.Submission.{Submission}
+use Rattle.delta_history.specs.Copying.{AreAscending, kept_in}
+use Rattle.delta_history.specs.Histories.{HistoryOf}
+use Rattle.delta_history.specs.Points.{start}
+use Rattle.delta_history.specs.Verdicts.{kept}
+use Rattle.disk_model.specs.declared.disk.Disk as disk_of
+use Rattle.wave_outside.specs.declared.folder.Folder as folder_of
+use Rattle.session_core.specs.Access.{Shown, shown}
+use Rattle.wavelet_shelf.specs.Hosting.{Hosted, names_of, deltas_in, copy_in, IsCopyOf, judged_in, with_added, after_submission}
+use Rattle.wavelet_shelf.specs.Shelves.{acknowledged, in_folder, hosted_of, container_in, copies_of, outcome_of, fault_count, IsKept}
+use Rattle.wavelet_shelf.specs.declared.shelf.Shelf.{Shelf}
+use Rattle.wavelet_shelf.proofs.Growing.{grows_alone}
+use Rattle.wavelet_shelf.proofs.Names.{own, same_or_not}
+use Rattle.pipe_machine.specs.Keeping.{Begins, IsMoved}
+use Rattle.pipe_machine.specs.Machine.{nothing_dropped, outcome_in, shown_in}
+use Rattle.pipe_machine.specs.Shows.{IsSameShown}
+
+kept_alike : (o p : Option HistoryOf) (i : IdOf) → IsCopyOf o p → kept_in o i ≡ kept_in p i
+kept_alike None None i e = refl
+kept_alike None (Some h) i e = absurd e
+kept_alike (Some g) None i e = absurd e
+kept_alike (Some g) (Some h) i e = (λ k. kept i (start (e.0 k)) (e.1 k))
+
+-- ---- histories
+
+pub begins_itself : (ds : List DeltaOf) → Begins ds ds
+begins_itself ds = ([], append-nil ds)
+
+begins_grown : (hs : List Hosted) (n : Key) (d : DeltaOf) (m : Key) → AreAscending (names_of hs) → (m ≡ n) ⊎ (m ≢ n) → Begins (deltas_in hs m) (deltas_in (with_added hs n (Some d)) m)
+begins_grown hs n d m up (inl e) = (d ∷ [], subst (λ k. deltas_in hs k ++ d ∷ [] ≡ deltas_in (with_added hs n (Some d)) k) (sym e) (sym (grows_alone.there hs n d up)))
+begins_grown hs n d m up (inr o) = ([], append-nil (deltas_in hs m) ∙ sym (grows_alone.others hs n d m o))
+
+pub begins_added : (hs : List Hosted) (n : Key) (o : Option DeltaOf) (m : Key) → AreAscending (names_of hs) → Begins (deltas_in hs m) (deltas_in (with_added hs n o) m)
+begins_added hs n None m up = begins_itself (deltas_in hs m)
+begins_added hs n (Some d) m up = begins_grown hs n d m up (same_or_not m n)
+
+begins_as : (ds es fs : List DeltaOf) → es ≡ fs → Begins ds es → Begins ds fs
+begins_as ds es fs e b = (b.0, b.1 ∙ e)
+
+other_name : (n m : Key) → same_text n m ≡ false → m ≢ n
+other_name n m no e = true≢false (sym (own n) ∙ ap (same_text n) (sym e) ∙ no)
+
+module _ {F D : Type 0} {folder : folder_of.Ghosts F D} {disk : disk_of.Ghosts D} where
+  pub same_shown : (s : Shelf F D folder disk) → ((n : Key) → IsCopyOf (copies_of s n) (copy_in (hosted_of s) n))
+      → IsSameShown (shown (λ n. copies_of s n) (names_of (hosted_of s)) (λ _. false) (λ n i. outcome_of s n i)) (shown_in (hosted_of s))
+  same_shown s copies = record {
+      copy = copies;
+      hosts = refl;
+      drops = λ n. refl;
+      outcome = λ n i. ap (option_map acknowledged) (kept_alike (copies_of s n) (copy_in (hosted_of s) n) i (copies n));
+    }
+
+  pub stays : (may : Key → Bool) (s : Shelf F D folder disk) → IsMoved may s s
+  stays may s = record {
+      grown = λ n. begins_itself (deltas_in (hosted_of s) n);
+      others = λ n h. refl;
+      kept = λ k. k;
+      folder = (λ f. f, λ f. f);
+      later = omega arith;
+    }
+
+  module _ (a b : Shelf F D folder disk) (name : Key) (others : (m : Key) → m ≢ name → container_in b m ≡ container_in a m)
+      (kept : IsKept a → IsKept b) (filed : IsSome (in_folder a) ↔ IsSome (in_folder b)) (later : fault_count a ≤ fault_count b) where
+    pub taken_in : (s : Submission) (t : ℕ) → AreAscending (names_of (hosted_of a)) → hosted_of b ≡ after_submission (hosted_of a) name s t → IsMoved (same_text name) a b
+    taken_in s t up is = record {
+        grown = λ n. begins_as (deltas_in (hosted_of a) n) (deltas_in (after_submission (hosted_of a) name s t) n) (deltas_in (hosted_of b) n) (ap (λ hs. deltas_in hs n) (sym is))
+            (begins_added (hosted_of a) name (judged_in (hosted_of a) name s t).1 n up);
+        others = λ n no. others n (other_name name n no);
+        kept = kept;
+        folder = filed;
+        later = later;
+      }
+
+    pub refused_in : hosted_of b ≡ hosted_of a → IsMoved (same_text name) a b
+    refused_in is = record {
+        grown = λ n. ([], append-nil (deltas_in (hosted_of a) n) ∙ ap (λ hs. deltas_in hs n) (sym is));
+        others = λ n no. others n (other_name name n no);
+        kept = kept;
+        folder = filed;
+        later = later;
+      }

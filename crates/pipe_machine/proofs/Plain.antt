@@ -1,0 +1,202 @@
+-- Sessions of a pipe stay such.
+--     taken_good          whatever message one takes
+--     attached_plain, attached_short      whatever an `open` is answered
+--     told_plain, told_short              whatever a submission is answered
+--     sent_short          whatever is sent
+--     after_plain         whatever was sent
+use Rattle.std.proofs.Common.{◌≡◌, ◌==◌, ℕ, Bool, true, false, ◌&&◌, ◌||◌, if◌then◌else◌, List, [], ◌∷◌, ◌++◌, Option, None, Some, refl, sym, ap, subst, ◌∙◌, is_some, option_map, true≢false}
+use Rattle.std.specs.Cmp.Lexicographic.{pointwise}
+use Rattle.std.specs.List.{All}
+use Rattle.std.specs.Str.{encode_utf8_all}
+use Rattle.std.proofs.lemmas.List.Elements.{All-nil, All-cons, All-append}
+use Rattle.doc_items.specs.Maps.{Key, same_text}
+use Rattle.wave_base.specs.Grammar.{is_address, domain_of, host_of}
+use Rattle.wave_base.specs.Versions.{VersionAt, IdOf}
+use Rattle.wavelet_op.specs.Deltas.{DeltaOf}
+use Rattle.wavelet_op.specs.declared.op.WaveletOp.{WaveletOp}
+use Rattle.wavelet_op.specs.declared.delta.Submission.{Submission}
+use Rattle.wavelet_op.specs.declared.verdict.Verdict.{Verdict}
+use Rattle.wavelet_op.specs.declared.verdict.Verdict.TheVariants as verdict
+use Rattle.delta_history.specs.Histories.{HistoryOf, head_of, hash_found}
+use Rattle.message_parts.specs.Good.{is_count}
+use Rattle.message_parts.specs.declared.reason.BadReason.{BadReason}
+use Rattle.message_parts.specs.declared.reason.BadReason.TheVariants as bad
+use Rattle.message_parts.specs.declared.reason.ClosedReason.TheVariants.{Asked}
+use Rattle.message_parts.specs.declared.reason.UnopenedReason.TheVariants as unopened
+use Rattle.message_table.specs.Write.{IsShort}
+use Rattle.message_table.specs.declared.message.Message.{Message}
+use Rattle.message_table.specs.declared.message.Message.TheVariants.{Hello, OpenWavelet, Submit, CloseWavelet, Welcome, Opened, Snapshot, Unopened, Ack, Refused, Queued, Update, Closed, Bad, Peer, Have, Relay, Applied, Relayed, Dropped}
+use Rattle.session_core.specs.declared.session.Party.{Party}
+use Rattle.session_core.specs.declared.session.Party.TheVariants.{Nobody, User, Domain}
+use Rattle.session_core.specs.declared.session.Opening.{Opening}
+use Rattle.session_core.specs.declared.session.Waiting.{Waiting}
+use Rattle.session_core.specs.declared.session.Session.{Session}
+use Rattle.session_core.specs.declared.request.Request.{Request}
+use Rattle.session_core.specs.declared.request.Request.TheVariants as ask
+use Rattle.session_core.specs.declared.request.SubmitAnswer.TheVariants as answer
+use Rattle.session_core.specs.Access.{Shown, seen_by}
+use Rattle.session_core.specs.Answers.{with_sent, verdict_message, told_verdict, answered, snapshot_of, is_sendable, attached_head, attached_hash, attached_seen, seen_for, attached}
+use Rattle.session_core.specs.Deliveries.{since, updates, outcome_sent, outcomes_sent, opening_news, opening_sent, openings_sent, delivered_to, delivered, after_for, after_delivery}
+use Rattle.session_core.specs.Rules.{Taken, party_is_user, party_is_peer, has_user, refused, with_party, is_new, is_user, greeted, as_user, in_domain, is_reached, place_of, without, with_openings, closed_at, asked_open, submission_of, submitted_as, submitted, closed, told_have, relayed, taken}
+use Rattle.pipe_machine.specs.Keeping.{asks_for, submits}
+use Rattle.pipe_machine.specs.Seats.{IsPlain, AsksAsUser}
+
+-- ---- what a message asks for
+
+IsShortReply : Request → Type 0
+IsShortReply (ask.Reply m) = IsShort m
+IsShortReply (ask.Attach name from) = Unit {0}
+IsShortReply (ask.Submit name s) = Unit {0}
+IsShortReply (ask.Have name from) = Unit {0}
+
+pub record IsGood (may : Key → Bool) (r : Taken) : Type 0 where
+  pub plain : IsPlain r.0
+  pub asks : AsksAsUser r.0 r.1
+  pub short : IsShortReply r.1
+  pub only : (n : Key) → may n ≡ false → asks_for r.1 n ≡ false
+
+module _ (may : Key → Bool) where
+  refused_good : (s : Session) (reason : BadReason) → IsPlain s → IsGood may (refused s reason)
+  refused_good s reason p = record { plain = p; asks = tt; short = tt; only = λ n h. refl }
+
+  choice_good : (t : Bool) (a b : Taken) → IsGood may a → IsGood may b → IsGood may (if t then a else b)
+  choice_good true a b p q = p
+  choice_good false a b p q = q
+
+  user_good : (s : Session) (act : Key → Taken) → IsPlain s → (party : Party) → s.party ≡ party → ((u : Key) → has_user s ≡ true → IsGood may (act u)) → IsGood may (as_user s act party)
+  user_good s act p Nobody e f = refused_good s bad.BadUser p
+  user_good s act p (User u) e f = f u (ap party_is_user e)
+  user_good s act p (Domain d) e f = refused_good s bad.NotMessage p
+
+  nowhere_good : (s : Session) (r : Taken) → IsPlain s → IsGood may (in_domain s r)
+  nowhere_good s r p = subst (λ b. IsGood may (if b then r else refused s bad.NotMessage)) (sym p.nowhere) (refused_good s bad.NotMessage p)
+
+  greeted_good : (s : Session) (text : List ℕ) → IsPlain s → IsGood may (greeted s text)
+  greeted_good s text p = choice_good (is_new s && is_user s (encode_utf8_all text)) (with_party s (User (encode_utf8_all text)), ask.Reply (Welcome text)) (refused s bad.BadUser)
+      (record { plain = record { nowhere = p.nowhere; no_peer = refl }; asks = tt; short = tt; only = λ n h. refl }) (refused_good s bad.BadUser p)
+
+  open_good : (s : Session) (name : Key) (from : Option VersionAt) → IsPlain s → IsGood may (asked_open s name from)
+  open_good s name from p = user_good s (λ _. if is_reached s name then (s, ask.Attach name from) else refused s bad.NoHost) p s.party refl
+      (λ u has. choice_good (is_reached s name) (s, ask.Attach name from) (refused s bad.NoHost) (record { plain = p; asks = has; short = tt; only = λ n h. refl }) (refused_good s bad.NoHost p))
+
+  closed_good : (s : Session) (name : Key) → IsPlain s → IsGood may (closed s name)
+  closed_good s name p = user_good s (λ _. closed_at s name (place_of name s.openings)) p s.party refl (λ u has. go (place_of name s.openings))
+    where
+      go : (o : Option ℕ) → IsGood may (closed_at s name o)
+      go None = refused_good s bad.NotOpen p
+      go (Some i) = record { plain = record { nowhere = p.nowhere; no_peer = p.no_peer }; asks = tt; short = tt; only = λ n h. refl }
+
+  submitted_good : (s : Session) (name : Key) (client number : ℕ) (from : VersionAt) (ops : List WaveletOp) → IsPlain s → ((n : Key) → may n ≡ false → same_text name n ≡ false) → IsGood may (submitted s name client number from ops)
+  submitted_good s name client number from ops p own = choice_good (is_count client && is_count number) (as_user s (submitted_as s name client number from ops) s.party) (refused s bad.NotMessage)
+      (user_good s (submitted_as s name client number from ops) p s.party refl
+          (λ u has. choice_good (is_reached s name) (s, ask.Submit name (submission_of u client number from ops)) (refused s bad.NoHost) (record { plain = p; asks = tt; short = tt; only = own }) (refused_good s bad.NoHost p)))
+      (refused_good s bad.NotMessage p)
+
+pub taken_good : (s : Session) (m : Message) → IsPlain s → IsGood (submits m) (taken s m)
+taken_good s (Hello user) p = greeted_good (submits (Hello user)) s user p
+taken_good s (OpenWavelet name from) p = open_good (submits (OpenWavelet name from)) s name from p
+taken_good s (Submit name client number from ops) p = submitted_good (submits (Submit name client number from ops)) s name client number from ops p (λ n h. h)
+taken_good s (CloseWavelet name) p = closed_good (submits (CloseWavelet name)) s name p
+taken_good s (Welcome user) p = refused_good (submits (Welcome user)) s bad.NotMessage p
+taken_good s (Opened name version) p = refused_good (submits (Opened name version)) s bad.NotMessage p
+taken_good s (Snapshot snapshot) p = refused_good (submits (Snapshot snapshot)) s bad.NotMessage p
+taken_good s (Unopened name reason) p = refused_good (submits (Unopened name reason)) s bad.NotMessage p
+taken_good s (Ack name client number place to) p = refused_good (submits (Ack name client number place to)) s bad.NotMessage p
+taken_good s (Refused name client number v) p = refused_good (submits (Refused name client number v)) s bad.NotMessage p
+taken_good s (Queued name client number) p = refused_good (submits (Queued name client number)) s bad.NotMessage p
+taken_good s (Update name delta) p = refused_good (submits (Update name delta)) s bad.NotMessage p
+taken_good s (Closed name reason) p = refused_good (submits (Closed name reason)) s bad.NotMessage p
+taken_good s (Bad reason) p = refused_good (submits (Bad reason)) s bad.NotMessage p
+taken_good s (Peer domain) p = nowhere_good (submits (Peer domain)) s _ p
+taken_good s (Have name from) p = nowhere_good (submits (Have name from)) s _ p
+taken_good s (Relay name submission) p = nowhere_good (submits (Relay name submission)) s _ p
+taken_good s (Applied name delta) p = refused_good (submits (Applied name delta)) s bad.NotMessage p
+taken_good s (Relayed name id v) p = refused_good (submits (Relayed name id v)) s bad.NotMessage p
+taken_good s (Dropped name) p = refused_good (submits (Dropped name)) s bad.NotMessage p
+
+-- ---- what is answered
+
+pub record IsWell (r : Session × Message) : Type 0 where
+  pub plain : IsPlain r.0
+  pub short : IsShort r.1
+
+choice_well : (t : Bool) (a b : Session × Message) → IsWell a → IsWell b → IsWell (if t then a else b)
+choice_well true a b p q = p
+choice_well false a b p q = q
+
+stays_plain : (s : Session) (name : Key) (v : ℕ) → IsPlain s → IsPlain (with_sent s name v)
+stays_plain s name v p = record { nowhere = p.nowhere; no_peer = p.no_peer }
+
+seen_well : (s : Session) (name : Key) (from : Option VersionAt) (o : Option HistoryOf) → IsPlain s → IsWell (attached_seen s name from o)
+seen_well s name from None p = record { plain = p; short = tt }
+seen_well s name None (Some h) p = choice_well (is_sendable (snapshot_of name h)) (with_sent s name (snapshot_of name h).at.version, Snapshot (snapshot_of name h)) (s, Unopened name unopened.TooLarge)
+    (record { plain = stays_plain s name (snapshot_of name h).at.version p; short = tt }) (record { plain = p; short = tt })
+seen_well s name (Some from) (Some h) p = go (hash_found h from.version)
+  where
+    go : (o : Option (List ℕ)) → IsWell (attached_hash s name from (head_of h).at o)
+    go None = record { plain = p; short = tt }
+    go (Some hash) = choice_well (pointwise ◌==◌ hash from.hash) (with_sent s name from.version, Opened name from.version) (s, Unopened name (unopened.WrongHash hash))
+        (record { plain = stays_plain s name from.version p; short = tt }) (record { plain = p; short = tt })
+
+pub attached_well : (c : Shown) (s : Session) (name : Key) (from : Option VersionAt) → IsPlain s → IsWell (attached c s name from)
+attached_well c s name from p = seen_well s name from (seen_for c s.party name) p
+
+verdict_short : (name : Key) (id : IdOf) (v : Verdict) → IsShort (verdict_message name id v)
+verdict_short name id (verdict.Ack place to) = tt
+verdict_short name id verdict.NotParticipant = tt
+verdict_short name id verdict.ReadOnly = tt
+verdict_short name id (verdict.UnknownVersion head) = tt
+verdict_short name id (verdict.WrongHash host) = tt
+verdict_short name id (verdict.Invalid index) = tt
+verdict_short name id (verdict.Full head) = tt
+
+told_short : (party : Party) (name : Key) (id : IdOf) (v : Verdict) → IsShort (told_verdict party name id v)
+told_short Nobody name id v = verdict_short name id v
+told_short (User user) name id v = verdict_short name id v
+told_short (Domain domain) name id v = tt
+
+pub told_well : (s : Session) (name : Key) (id : IdOf) (v : Verdict) → IsPlain s → IsWell (answered s name id (answer.Verdict v))
+told_well s name id v p = record { plain = p; short = told_short s.party name id v }
+
+-- ---- what is sent
+
+module _ (c : Shown) where
+  updates_short : (name : Key) (ds : List DeltaOf) → All IsShort (updates name ds)
+  updates_short name [] = All-nil IsShort
+  updates_short name (d ∷ ds) = All-cons IsShort (Update name d) (updates name ds) tt (updates_short name ds)
+
+  outcome_short : (w : Waiting) (o : Option Verdict) → All IsShort (outcome_sent w o)
+  outcome_short w None = All-nil IsShort
+  outcome_short w (Some v) = All-cons IsShort (verdict_message w.name w.id v) [] (verdict_short w.name w.id v) (All-nil IsShort)
+
+  outcomes_short : (ws : List Waiting) → All IsShort (outcomes_sent c ws)
+  outcomes_short [] = All-nil IsShort
+  outcomes_short (w ∷ ws) = All-append IsShort (outcome_sent w (c.outcome w.name w.id)) (outcomes_sent c ws) (outcome_short w (c.outcome w.name w.id)) (outcomes_short ws)
+
+  news_short : (o : Opening) (seen : Option HistoryOf) → All IsShort (opening_news o seen)
+  news_short o None = All-cons IsShort _ [] tt (All-nil IsShort)
+  news_short o (Some h) = updates_short o.name (since o.sent h)
+
+  opening_short : (user : Key) (o : Opening) (copy : Option HistoryOf) → All IsShort (opening_sent c user o copy)
+  opening_short user o None = All-nil IsShort
+  opening_short user o (Some h) = news_short o (seen_by c o.name user)
+
+  openings_short : (user : Key) (os : List Opening) → All IsShort (openings_sent c user os)
+  openings_short user [] = All-nil IsShort
+  openings_short user (o ∷ os) = All-append IsShort (opening_sent c user o (c.copy o.name)) (openings_sent c user os) (opening_short user o (c.copy o.name)) (openings_short user os)
+
+  pub sent_short : (s : Session) → IsPlain s → All IsShort (delivered c s)
+  sent_short s plain = go s.party plain.no_peer
+    where
+      go : (party : Party) → party_is_peer party ≡ false → All IsShort (delivered_to c s party)
+      go Nobody e = All-nil IsShort
+      go (User user) e = All-append IsShort (outcomes_sent c s.waiting) (openings_sent c user s.openings) (outcomes_short s.waiting) (openings_short user s.openings)
+      go (Domain domain) e = absurd (true≢false e)
+
+  pub after_plain : (s : Session) → IsPlain s → IsPlain (after_delivery c s)
+  after_plain s plain = go s.party plain.no_peer
+    where
+      go : (party : Party) → party_is_peer party ≡ false → IsPlain (after_for c s party)
+      go Nobody e = plain
+      go (User user) e = record { nowhere = plain.nowhere; no_peer = plain.no_peer }
+      go (Domain domain) e = absurd (true≢false e)

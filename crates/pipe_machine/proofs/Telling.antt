@@ -1,0 +1,34 @@
+-- What sessions are told of a shelf is what they are told of its histories.
+--     attached_of       in the answer to an `open`
+--     delivered_of      in deliveries
+--     after_of          and the session then
+use Rattle.std.proofs.Common.{◌≡◌, ℕ, false, Option}
+use Rattle.doc_items.specs.Maps.{Key}
+use Rattle.wave_base.specs.Versions.{VersionAt}
+use Rattle.disk_model.specs.declared.disk.Disk as disk_of
+use Rattle.wave_outside.specs.declared.folder.Folder as folder_of
+use Rattle.session_core.specs.declared.session.Session.{Session}
+use Rattle.session_core.specs.Access.{Shown, shown}
+use Rattle.session_core.specs.Answers.{attached}
+use Rattle.session_core.specs.Deliveries.{delivered, after_delivery}
+use Rattle.wavelet_shelf.specs.Hosting.{names_of, copy_in, IsCopyOf}
+use Rattle.wavelet_shelf.specs.Shelves.{hosted_of, copies_of, outcome_of}
+use Rattle.wavelet_shelf.specs.declared.shelf.Shelf.{Shelf}
+use Rattle.pipe_machine.specs.Machine.{shown_in}
+use Rattle.pipe_machine.specs.Seats.{IsPlain}
+use Rattle.pipe_machine.proofs.Alike.{attached_alike, delivered_alike, after_alike}
+use Rattle.pipe_machine.proofs.Moving.{same_shown}
+
+module _ {F D : Type 0} {folder : folder_of.Ghosts F D} {disk : disk_of.Ghosts D} (s : Shelf F D folder disk) (copies : (n : Key) → IsCopyOf (copies_of s n) (copy_in (hosted_of s) n)) where
+  -- as the shelf shows itself
+  abbrev itself : Shown
+  itself = shown (λ n. copies_of s n) (names_of (hosted_of s)) (λ _. false) (λ n i. outcome_of s n i)
+
+  pub attached_of : (x : Session) (name : Key) (from : Option VersionAt) → attached itself x name from ≡ attached (shown_in (hosted_of s)) x name from
+  attached_of x name from = attached_alike itself (shown_in (hosted_of s)) (same_shown s copies) x name from
+
+  pub delivered_of : (x : Session) → IsPlain x → delivered itself x ≡ delivered (shown_in (hosted_of s)) x
+  delivered_of x plain = delivered_alike itself (shown_in (hosted_of s)) (same_shown s copies) x plain
+
+  pub after_of : (x : Session) → IsPlain x → after_delivery itself x ≡ after_delivery (shown_in (hosted_of s)) x
+  after_of x plain = after_alike itself (shown_in (hosted_of s)) (same_shown s copies) x plain

@@ -1,0 +1,49 @@
+-- Turns, one after the other.
+--     after_more     the machine after one more
+--     since_more     what stays so of the shelf
+use Rattle.std.proofs.Common.{◌≡◌, ◌↔◌, ◌≤◌, ℕ, Bool, true, false, ◌||◌, List, [], ◌∷◌, ◌++◌, IsSome, refl, sym, ap, subst, ◌∙◌, append_assoc, append-nil, arith, true≢false}
+use Rattle.std.specs.List.{list_any}
+use Rattle.doc_items.specs.Maps.{Key}
+use Rattle.wavelet_op.specs.Deltas.{DeltaOf}
+use Rattle.disk_model.specs.declared.disk.Disk as disk_of
+use Rattle.wave_outside.specs.declared.folder.Folder as folder_of
+use Rattle.wavelet_shelf.specs.Hosting.{deltas_in}
+use Rattle.wavelet_shelf.specs.Shelves.{hosted_of}
+use Rattle.wavelet_shelf.specs.declared.shelf.Shelf.{Shelf}
+use Rattle.line_run.specs.Turns.{Turn, turn_at}
+use Rattle.pipe_machine.specs.Keeping.{Begins, submits_to, submitted_in, IsMoved}
+use Rattle.pipe_machine.specs.Machine.{Pipe, turn, after}
+
+pub after_more : (p : Pipe) (ts : List Turn) (time : ℕ) (line : List ℕ) → after p (ts ++ turn_at time line ∷ []) ≡ (turn (after p ts) time line).pipe
+after_more p [] time line = refl
+after_more p (t ∷ ts) time line = after_more (turn p t.time t.line).pipe ts time line
+
+begins_on : (ds es fs : List DeltaOf) → Begins ds es → Begins es fs → Begins ds fs
+begins_on ds es fs (a, e) (b, f) = (a ++ b, sym (append_assoc ds a b) ∙ ap (λ l. l ++ b) e ∙ f)
+
+none_of : (a b : Bool) → (a || b) ≡ false → (a ≡ false) × (b ≡ false)
+none_of true b e = absurd (true≢false e)
+none_of false b e = (refl, e)
+
+any_more : {X : Type 0} (p : X → Bool) (xs : List X) (x : X) → list_any p (xs ++ x ∷ []) ≡ (list_any p xs || (p x || false))
+any_more p [] x = refl
+any_more p (y ∷ ys) x = go (p y)
+  where
+    go : (b : Bool) → (b || list_any p (ys ++ x ∷ [])) ≡ ((b || list_any p ys) || (p x || false))
+    go true = refl
+    go false = any_more p ys x
+
+apart : (b : Bool) → (b || false) ≡ false → b ≡ false
+apart true e = absurd (true≢false e)
+apart false e = refl
+
+module _ {F D : Type 0} {folder : folder_of.Ghosts F D} {disk : disk_of.Ghosts D} where
+  pub since_more : (a b c : Shelf F D folder disk) (ts : List Turn) (time : ℕ) (line : List ℕ) → IsMoved (submitted_in ts) a b → IsMoved (submits_to line) b c → IsMoved (submitted_in (ts ++ turn_at time line ∷ [])) a c
+  since_more a b c ts time line m n = record {
+      grown = λ k. begins_on (deltas_in (hosted_of a) k) (deltas_in (hosted_of b) k) (deltas_in (hosted_of c) k) (m.grown k) (n.grown k);
+      others = λ k no. let none = none_of (submitted_in ts k) (submits_to line k || false) (sym (any_more (λ (t : Turn). submits_to t.line k) ts (turn_at time line)) ∙ no) in
+          n.others k (apart (submits_to line k) none.1) ∙ m.others k none.0;
+      kept = λ k. n.kept (m.kept k);
+      folder = (λ f. n.folder.0 (m.folder.0 f), λ f. m.folder.1 (n.folder.1 f));
+      later = omega (arith, m.later, n.later);
+    }
