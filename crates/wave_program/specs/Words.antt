@@ -5,7 +5,7 @@ use Rattle.std.specs.Prelude.{◌≡◌, ℕ, List, Option, Some, None, codes}
 use Rattle.command_words.specs.Commands.{CommandOf, Pipe, Load}
 
 abbrev pub usage : List ℕ
-usage = codes "usage: wave pipe\n       wave load N\n"
+usage = codes "usage: wave pipe [--store DIR]\n       wave load N\n"
 
 abbrev pub IsOther : Option CommandOf → Type 0
 IsOther None = Unit {0}
