@@ -3,6 +3,7 @@
 --     HasOf ds c n       one of them has this client and number
 --     IsHead name ds s   a snapshot is that of a beginning of them
 --     IsHeld hs m        what the message tells of a history is so of these
+--     SentIsHeld         the law: so is all that is sent
 use Rattle.std.specs.Prelude.{◌≡◌, ℕ, List, ◌∷◌, ◌++◌}
 use Rattle.doc_items.specs.Maps.{Key}
 use Rattle.wavelet_op.specs.Deltas.{DeltaOf}
@@ -10,7 +11,12 @@ use Rattle.wavelet_state.specs.Snapshots.{SnapshotOf}
 use Rattle.delta_history.specs.Points.{end_of}
 use Rattle.message_table.specs.declared.message.Message.{Message}
 use Rattle.message_table.specs.declared.message.Message.TheVariants.{Hello, OpenWavelet, Submit, CloseWavelet, Welcome, Opened, Snapshot, Unopened, Ack, Refused, Queued, Update, Closed, Bad, Peer, Have, Relay, Applied, Relayed, Dropped}
-use Rattle.wavelet_shelf.specs.Hosting.{Hosted, deltas_in}
+use Rattle.std.specs.List.{All}
+use Rattle.delta_history.specs.Copying.{AreAscending}
+use Rattle.wavelet_shelf.specs.Hosting.{Hosted, names_of, deltas_in}
+use Rattle.line_run.specs.Turns.{Turn}
+use Rattle.pipe_machine.specs.Keeping.{Begins}
+use Rattle.pipe_machine.specs.Machine.{Pipe, sent, after}
 
 pub record IsIn (d : DeltaOf) (ds : List DeltaOf) : Type 0 where
   pub before : List DeltaOf
@@ -52,3 +58,9 @@ IsHeld hs (Relay name s) = Unit {0}
 IsHeld hs (Applied name d) = Unit {0}
 IsHeld hs (Relayed name id v) = Unit {0}
 IsHeld hs (Dropped name) = Unit {0}
+
+-- whatever turns send is so of the histories behind them, and these go on with the deltas that they had
+pub record SentIsHeld : Type 0 where
+  pub all_held : (p : Pipe) (ts : List Turn) → AreAscending (names_of p.hosted) → All (λ s. IsHeld (after p ts).hosted s.message) (sent p ts)
+  pub longer : (hs gs : List Hosted) → ((n : Key) → Begins (deltas_in hs n) (deltas_in gs n)) → (m : Message) → IsHeld hs m → IsHeld gs m
+  pub goes_on : (p : Pipe) (ts : List Turn) → AreAscending (names_of p.hosted) → (n : Key) → Begins (deltas_in p.hosted n) (deltas_in (after p ts).hosted n)

@@ -3,11 +3,13 @@
 #![tactic(auto)]
 
 mod deliver;
+mod laws;
 mod lines;
 mod machine;
 mod reply;
 mod seats;
 
+pub use laws::sent_is_held;
 pub use machine::PipeMachine;
 
 #[cfg(test)]

@@ -117,8 +117,8 @@ impl<F: Folder + Drop> PipeMachine<F> {
         time: u64,
         out: &mut Vec<u8>,
     ) -> Result<(), TurnFault>
-        ensures pipe { OnOk result (pipe_of self.new ≡ (turn (pipe_of self.old) time line.now).0) }
-        ensures sent { OnOk result (out.new.items ≡ out.old.items ++ (turn (pipe_of self.old) time line.now).1) }
+        ensures pipe { OnOk result (pipe_of self.new ≡ (turn (pipe_of self.old) time line.now).pipe) }
+        ensures sent { OnOk result (out.new.items ≡ out.old.items ++ lines_of (turn (pipe_of self.old) time line.now).sent) }
         ensures moved { IsMoved (submits_to line.now) self.old.shelf self.new.shelf }
         ensures ended { IsEnded self.old.shelf self.new.shelf result }
     {
