@@ -73,7 +73,7 @@ module _ {F D : Type 0} {folder : folder_of.Ghosts F D} {disk : disk_of.Ghosts D
     pub all : IsTrue disk.tells → IfSome (in_folder a) (λ f. HasAll disk.view (folder.files f) (hosted_of m))
     pub kept : IsTrue disk.tells → IsKept m × IsSettled m
     pub apart : AreApart m
-    pub folder : IsSome (in_folder m)
+    pub has_folder : IsSome (in_folder m)
     pub later : fault_count a ≤ fault_count m
 
   -- its disks were put back into the folder g

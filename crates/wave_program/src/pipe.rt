@@ -3,7 +3,8 @@ ghost use Rattle.std.specs.Prelude.{◌≡◌, ◌⊎◌, [], None, IsTrue};
 ghost use Rattle.wave_outside.specs.Counts.{Rose};
 ghost use Rattle.line_run.specs.Run.{status_of};
 ghost use Rattle.line_run.specs.Told.{WhereTold, IsTold};
-ghost use Rattle.wavelet_shelf.specs.Shelves.{in_folder, entries_of, hosted_of, fault_count};
+ghost use Rattle.wavelet_shelf.specs.Shelves.{in_folder, entries_of, hosted_of};
+ghost use Rattle.pipe_machine.specs.Pipes.{store_faults};
 ghost use Rattle.wave_program.specs.Pipe.{answers_over, IsOver};
 ghost use Rattle.wave_program.specs.Run.{IsServing};
 
@@ -40,7 +41,7 @@ pub fn serve_over<S: Source, W: Sink, F: Folder + Drop, C: Clock>(
     ensures over { IsOver C.Clock shelf result.0 clock.old (S.left source.old) (S.left source.new) (W.written sink.old) (W.written sink.new) result.1 }
     ensures source_failed { result.1 ≡ 3 → Rose (S.faults source.old) (S.faults source.new) }
     ensures sink_failed { result.1 ≡ 4 → Rose (W.faults sink.old) (W.faults sink.new) }
-    ensures store_failed { result.1 ≡ 5 → Rose (fault_count shelf) (fault_count result.0) }
+    ensures store_failed { result.1 ≡ 5 → Rose (store_faults shelf) (store_faults result.0) }
     ensures known { IsServing result.1 }
 {
     let mut machine = PipeMachine::new(alloc, shelf);

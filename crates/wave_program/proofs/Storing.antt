@@ -1,0 +1,2 @@
+-- What a run over a folder leaves there.
+use Rattle.std.proofs.Common.{◌≡◌}
