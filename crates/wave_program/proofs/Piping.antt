@@ -75,3 +75,9 @@ not_store o p a b s e f rose (inr (inr (inl x))) = inr (inr (inl x))
 not_store o p a b s e f rose (inr (inr (inr (inl x)))) = absurd (none_rose o p a b e f (rose x))
 not_store o p a b s e f rose (inr (inr (inr (inr (inl x))))) = inr (inr (inr (inl x)))
 not_store o p a b s e f rose (inr (inr (inr (inr (inr x))))) = inr (inr (inr (inr x)))
+
+-- with one, it is the count of its shelf
+pub some_rose : {F : Type 0} (o p : Option F) (a b : ℕ) → IsSome o → (IsSome o ↔ IsSome p) → Rose (faults_where o a) (faults_where p b) → Rose a b
+some_rose None p a b e f h = absurd (cc)
+some_rose (Some x) None a b e f h = absurd (let w : false ≡ true = f.0 refl in cc)
+some_rose (Some x) (Some y) a b e f h = h

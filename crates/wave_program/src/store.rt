@@ -11,6 +11,7 @@ ghost use Rattle.wavelet_shelf.specs.declared.fault.ShelfFault.TheVariants.{Fail
 
 use crate::damage::write_damage;
 use crate::pipe::serve_over;
+use pipe_machine::sent_is_held;
 use std::alloc::Global;
 use std::mem::replace;
 use wave_outside::{Clock, Folder, FolderFault, Sink, Source};
@@ -56,6 +57,7 @@ fn serve_folder<S: Source, W: Sink, F: Folder + Drop, C: Clock>(
     ensures store_failed { result ≡ 5 → Rose (F.faults folder.old) (F.faults folder.new) }
     ensures known { IsServing result ⊎ (result ≡ 6) }
 {
+    sent_is_held();
     let Ok(other) = folder.another(alloc) else {
         return 8;
     };
