@@ -1,3 +1,4 @@
+pub mod Completing
 pub mod LoadWords
 pub mod Piping
 pub mod Storing

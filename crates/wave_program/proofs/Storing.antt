@@ -190,6 +190,7 @@ module _ {F D K : Type 0} (folder : folder_of.Ghosts F D) (disk : disk_of.Ghosts
         are_loaded = are_loaded m;
         all = if_some_at _ _ f is (r.loaded.all tells);
         apart = λ n k p q e. r.loaded.apart n k p q e;
+        known = o.known;
         told = r.told;
         read = o.read;
         written = o.written;
@@ -238,6 +239,7 @@ module _ {F D K : Type 0} (folder : folder_of.Ghosts F D) (disk : disk_of.Ghosts
       each = λ n ds name some. subst (λ (o : Option D). IfSome o (λ d. StandsForHistory n ds (disk.view d).seen → deltas_in r.hosted n ≡ ds)) (same (file_name_of n)) (r.all.each n ds name some);
     };
     apart = r.apart;
+    known = r.known;
     told = r.told;
     read = r.read;
     written = r.written;

@@ -16,6 +16,7 @@ use Rattle.wavelet_shelf.specs.declared.shelf.Shelf.{Shelf}
 use Rattle.pipe_machine.specs.Keeping.{Begins, IsMoved, submitted_in}
 use Rattle.pipe_machine.specs.Lines.{lines_of}
 use Rattle.pipe_machine.specs.Machine.{start, sent, after}
+use Rattle.wave_program.specs.Run.{IsServing}
 
 abbrev pub answers_over : List Hosted → List Turn → List ℕ
 answers_over hs ts = lines_of (sent (start hs) ts)
@@ -25,6 +26,7 @@ hosted_after hs ts = (after (start hs) ts).hosted
 
 module _ {F D K : Type 0} {folder : folder_of.Ghosts F D} {disk : disk_of.Ghosts D} (clock : clock_of.Ghosts K) where
   pub record IsOver (a b : Shelf F D folder disk) (was : K) (left0 left1 held0 held1 : Option (List ℕ)) (status : ℕ) : Type 0 where
+    pub known : IsServing status
     pub read : List ℕ
     pub written : List ℕ
     pub consumed : Consumes left0 left1 read

@@ -36,6 +36,7 @@ use Rattle.pipe_machine.specs.Held.{IsHeld}
 use Rattle.pipe_machine.specs.Keeping.{Begins, submitted_in}
 use Rattle.pipe_machine.specs.Machine.{start, sent}
 use Rattle.wave_program.specs.Damage.{damage_line}
+use Rattle.wave_program.specs.Run.{IsServing}
 use Rattle.wave_program.specs.Pipe.{answers_over, hosted_after, IsOver}
 
 -- ---- files
@@ -115,6 +116,7 @@ module _ {F D : Type 0} (folder : folder_of.Ghosts F D) (disk : disk_of.Ghosts D
     pub all : HasAll disk.view (folder.files f) hosted
     pub apart : AreApartIn (λ n. loaded n ≡ true)
     -- what was read and written
+    pub known : IsServing status
     pub told : IsTrue clock.tells → WhereTold left0 left1 held0 held1 (IsTold (answers_over hosted) (clock.readings was) status)
     pub read : List ℕ
     pub written : List ℕ

@@ -1,11 +1,16 @@
 // The top call.
-ghost use Rattle.std.specs.Prelude.{◌≡◌, ◌⊎◌, ℕ, length, ◌++◌, ◌<◌, ◌≤◌, map, string_bytes, Some, None};
+ghost use Rattle.std.specs.Prelude.{◌≡◌, ◌⊎◌, ℕ, List, [], length, ◌++◌, ◌<◌, ◌≤◌, map, string_bytes, Some, None, IsTrue};
 ghost use Rattle.wave_outside.specs.Counts.{Rose};
 ghost use Rattle.command_words.specs.Commands.{command_of, Pipe, Load};
+ghost use Rattle.line_run.specs.Output.{IsWritten};
+ghost use Rattle.line_run.specs.Run.{byte_limit};
+ghost use Rattle.line_run.specs.Told.{WhereTold, IsTold};
+ghost use Rattle.wavelet_shelf.specs.Loads.{IsRefusedFile};
 ghost use Rattle.wave_program.specs.Load.{IsLoaded};
-ghost use Rattle.wave_program.specs.Output.{IsWritten};
-ghost use Rattle.wave_program.specs.Words.{IsOther, usage};
-ghost use Rattle.wave_program.specs.Run.{IsServed, IsStatus, WhereTold, byte_limit};
+ghost use Rattle.wave_program.specs.Pipe.{answers_over};
+ghost use Rattle.wave_program.specs.Run.{IsStatus};
+ghost use Rattle.wave_program.specs.Store.{IsStoredRun, IsUnloaded};
+ghost use Rattle.wave_program.specs.Words.{IsOther, IsStoring, usage};
 
 use crate::load::{LoadStop, load};
 use crate::pipe::serve;
@@ -43,7 +48,51 @@ pub fn run<S: Source, W: Sink, F: Folder + Drop, C: Clock>(
     sink: &mut W,
     folder: &mut F,
     clock: &mut C,
-) -> u8 {
+) -> u8
+    // Lines: they are answered, over no history.
+    ensures served { command_of (map string_bytes words.now.items) ≡ Some (Pipe None) → IsTrue C.tells
+        → WhereTold (S.left source.old) (S.left source.new) (W.written sink.old) (W.written sink.new)
+        (IsTold (answers_over []) (C.readings clock.old) result) }
+    ensures alone { command_of (map string_bytes words.now.items) ≡ Some (Pipe None) → folder.new ≡ folder.old }
+    ensures complete { command_of (map string_bytes words.now.items) ≡ Some (Pipe None) → IsTrue C.tells
+        → (Rose (S.faults source.old) (S.faults source.new) → ⊥)
+        → (Rose (W.faults sink.old) (W.faults sink.new) → ⊥)
+        → WhereTold (S.left source.old) (S.left source.new) (W.written sink.old) (W.written sink.new)
+        (λ read left written. length (read ++ left) < byte_limit → (result ≡ 0) ⊎ (result ≡ 8)) }
+
+    // Lines and a store: they are answered over the histories for which the folder's files stand, and what is sent stands there.
+    ensures stored { (path : List ℕ) → command_of (map string_bytes words.now.items) ≡ Some (Pipe (Some path)) → IsTrue F.tells → IsTrue F.Disk.tells
+        → IsStoredRun F.Folder F.Disk.Disk C.Clock folder.old folder.new clock.old (S.left source.old) (S.left source.new) (W.written sink.old) (W.written sink.new) result
+        ⊎ ((source.new ≡ source.old) × IsUnloaded F.Folder F.Disk.Disk folder.old (W.written sink.old) (W.written sink.new) (W.faults sink.old) (W.faults sink.new) result) }
+    ensures stored_complete { (path : List ℕ) → command_of (map string_bytes words.now.items) ≡ Some (Pipe (Some path)) → IsTrue C.tells → IsTrue F.tells → IsTrue F.Disk.tells
+        → ((file : List ℕ) (offset : ℕ) → IsRefusedFile F.Disk.view (F.files folder.old file) file offset → ⊥)
+        → (Rose (S.faults source.old) (S.faults source.new) → ⊥)
+        → (Rose (W.faults sink.old) (W.faults sink.new) → ⊥)
+        → (Rose (F.faults folder.old) (F.faults folder.new) → ⊥)
+        → WhereTold (S.left source.old) (S.left source.new) (W.written sink.old) (W.written sink.new)
+        (λ read left written. length (read ++ left) < byte_limit → (result ≡ 0) ⊎ (result ≡ 8)) }
+
+    // A load: nothing is read, and the summary of the load is written.
+    ensures loaded { (n : ℕ) → command_of (map string_bytes words.now.items) ≡ Some (Load n)
+        → IsLoaded n result (W.written sink.old) (W.written sink.new) }
+    ensures load_unread { (n : ℕ) → command_of (map string_bytes words.now.items) ≡ Some (Load n) → source.new ≡ source.old }
+    ensures load_complete { (n : ℕ) → command_of (map string_bytes words.now.items) ≡ Some (Load n)
+        → (Rose (W.faults sink.old) (W.faults sink.new) → ⊥) → (result ≡ 0) ⊎ (result ≡ 8) }
+
+    // Other words: nothing is read, and the usage text is written.
+    ensures usage { result ≡ 2 → IsOther (command_of (map string_bytes words.now.items)) }
+    ensures refused { IsOther (command_of (map string_bytes words.now.items)) → (result ≡ 2) ⊎ (result ≡ 8) }
+    ensures unread { result ≡ 2 → source.new ≡ source.old }
+    ensures shown { result ≡ 2
+        → IsWritten (W.written sink.old) (W.written sink.new) (W.faults sink.old) (W.faults sink.new) usage }
+
+    // Each further status has its cause.
+    ensures source_failed { result ≡ 3 → Rose (S.faults source.old) (S.faults source.new) }
+    ensures sink_failed { result ≡ 4 → Rose (W.faults sink.old) (W.faults sink.new) }
+    ensures store_failed { result ≡ 5 → Rose (F.faults folder.old) (F.faults folder.new) }
+    ensures damaged { result ≡ 6 → IsStoring (command_of (map string_bytes words.now.items)) }
+    ensures known { IsStatus result }
+{
     match read_words(alloc, words.as_slice()) {
         Ok(Command::Pipe { store: None }) => {
             serve(alloc, Shelf::<F>::new(alloc), source, sink, clock)

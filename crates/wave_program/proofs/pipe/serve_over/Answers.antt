@@ -23,6 +23,7 @@ returns-clause-over g c =
     let is : pipe_of c.new-machine.result ≡ start (hosted_of c.args.shelf) = c.new-machine.ensures.pipe in
     let e : (after (start (hosted_of c.args.shelf)) s.turns).hosted ≡ hosted_of s.mid.shelf = ap (λ (p : Pipe). (after p s.turns).hosted) (sym is) ∙ ap (λ (p : Pipe). p.hosted) s.reached in
     record {
+      known = serving c.run_lines-ending.result c.status.result c.status.ensures;
       read = s.read;
       written = s.written;
       consumed = s.consumed;

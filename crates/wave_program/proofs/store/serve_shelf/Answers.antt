@@ -29,3 +29,6 @@ pub returns-in-Ok-clause-store_failed : goal.returns-in-Ok-clause-store_failed
 returns-in-Ok-clause-store_failed g c = λ five.
     let rose = some_rose _ _ _ _ c.load.ensures.folder c.serve_over.ensures.over.moved.has_folder (c.serve_over.ensures.store_failed five) in
     omega (arith, rose, c.load.ensures.later)
+
+pub returns-in-Ok-clause-known : goal.returns-in-Ok-clause-known
+returns-in-Ok-clause-known g c = inl c.serve_over.ensures.known
