@@ -43,7 +43,7 @@ use Rattle.pipe_machine.specs.Seats.{IsPlain, AsksAsUser}
 
 -- ---- what a message asks for
 
-IsShortReply : Request → Type 0
+abbrev pub IsShortReply : Request → Type 0
 IsShortReply (ask.Reply m) = IsShort m
 IsShortReply (ask.Attach name from) = Unit {0}
 IsShortReply (ask.Submit name s) = Unit {0}

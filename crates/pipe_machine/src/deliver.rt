@@ -18,7 +18,7 @@ use wave_outside::Folder;
 use wavelet_shelf::Shelf;
 
 // What is new to a session. The error is want of memory, here and below.
-#[tactic(auto, using(crate::proofs::Telling::delivered_of, crate::proofs::Telling::after_of, crate::proofs::Plain::sent_short, crate::proofs::Plain::after_plain))]
+#[tactic(auto, using(crate::proofs::Plain::sent_short, crate::proofs::Plain::after_plain))]
 fn news<F: Folder>(
     alloc: Global,
     shelf: &Shelf<F>,
@@ -51,7 +51,6 @@ fn deliver_to<F: Folder>(
 }
 
 /// Appends what is new to each session, in order.
-#[tactic(auto, using(crate::proofs::Gathering::lines_append))]
 pub fn deliver<F: Folder>(
     alloc: Global,
     shelf: &Shelf<F>,

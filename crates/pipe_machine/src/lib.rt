@@ -6,11 +6,12 @@ mod deliver;
 mod laws;
 mod lines;
 mod machine;
+mod pipe;
 mod reply;
 mod seats;
 
 pub use laws::sent_is_held;
-pub use machine::PipeMachine;
+pub use pipe::PipeMachine;
 
 #[cfg(test)]
 mod tests {

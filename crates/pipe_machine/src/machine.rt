@@ -1,18 +1,17 @@
 // Turns: a line, its reply, and what is new to each session.
 ghost use Rattle.std.specs.Prelude.{◌≡◌, ◌++◌, IfOk, OnOk};
-ghost use Rattle.std.specs.List.{All};
 ghost use Rattle.wave_messages.specs.declared.fault.Kind.{Kind};
 ghost use Rattle.wavelet_shelf.specs.Shelves.{hosted_of};
 ghost use Rattle.pipe_machine.specs.Keeping.{IsMoved, IsEnded, submits, submits_to};
 ghost use Rattle.pipe_machine.specs.Lines.{lines_of};
 ghost use Rattle.pipe_machine.specs.Machine.{start, served, refusal, answered, turn};
 ghost use Rattle.pipe_machine.specs.Pipes.{pipe_of};
-ghost use Rattle.pipe_machine.specs.Seats.{IsPlain};
 
 use crate::deliver::deliver;
 use crate::lines::push_line;
+use crate::pipe::PipeMachine;
 use crate::reply::reply;
-use crate::seats::{Seat, seat_of};
+use crate::seats::seat_of;
 use doc_items::Memory;
 use line_run::{LineMachine, TurnFault};
 use session_core::reason_of;
@@ -21,14 +20,6 @@ use wave_base::SessionName;
 use wave_messages::{Kind, Line, LineFault, Message, read_line};
 use wave_outside::Folder;
 use wavelet_shelf::Shelf;
-
-/// Many sessions over the histories of a shelf, each of which is hosted here.
-#[derive(Drop)]
-pub struct PipeMachine<F: Folder> {
-    shelf: Shelf<F>,
-    seats: Vec<Seat>,
-    ghost plain: { All (λ s. IsPlain s.session) seats.items } ,
-}
 
 // Appends the line that tells a session, or none, why its line was none.
 fn refuse(
