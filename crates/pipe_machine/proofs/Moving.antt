@@ -1,6 +1,7 @@
 -- How a shelf moves.
 --     same_shown            what sessions see of it is what they see of its histories
 --     stays                 one that stays as it is
+--     only_if               one that may move at fewer names
 --     taken_in, refused_in  one that took a submission; one where it was refused
 use Rattle.std.proofs.Common.{◌≡◌, ◌≢◌, ◌⊎◌, inl, inr, ◌↔◌, ◌≤◌, ℕ, Bool, true, false, List, [], ◌∷◌, ◌++◌, Option, None, Some, IsSome, refl, sym, ap, subst, ◌∙◌, option_map, append-nil, arith, true≢false}
 use Rattle.doc_items.specs.Maps.{Key, same_text}
@@ -66,6 +67,9 @@ module _ {F D : Type 0} {folder : folder_of.Ghosts F D} {disk : disk_of.Ghosts D
       filed = (λ f. f, λ f. f);
       later = omega arith;
     }
+
+  pub only_if : {may fewer : Key → Bool} (a b : Shelf F D folder disk) → ((n : Key) → may n ≡ false → fewer n ≡ false) → IsMoved fewer a b → IsMoved may a b
+  only_if a b f m = record { grown = m.grown; others = λ n h. m.others n (f n h); kept = m.kept; filed = m.filed; later = m.later }
 
   module _ (a b : Shelf F D folder disk) (name : Key) (others : (m : Key) → m ≢ name → container_in b m ≡ container_in a m)
       (kept : IsKept a → IsKept b) (filed : IsSome (in_folder a) ↔ IsSome (in_folder b)) (later : fault_count a ≤ fault_count b) where

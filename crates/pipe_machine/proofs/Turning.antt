@@ -1,6 +1,7 @@
 -- Turns, one after the other.
 --     after_more     the machine after one more
 --     since_more     what stays so of the shelf
+--     turn_sent      what a turn sends
 use Rattle.std.proofs.Common.{◌≡◌, ◌↔◌, ◌≤◌, ℕ, Bool, true, false, ◌||◌, List, [], ◌∷◌, ◌++◌, IsSome, refl, sym, ap, subst, ◌∙◌, append_assoc, append-nil, arith, true≢false}
 use Rattle.std.specs.List.{list_any}
 use Rattle.doc_items.specs.Maps.{Key}
@@ -12,11 +13,17 @@ use Rattle.wavelet_shelf.specs.Shelves.{hosted_of}
 use Rattle.wavelet_shelf.specs.declared.shelf.Shelf.{Shelf}
 use Rattle.line_run.specs.Turns.{Turn, turn_at}
 use Rattle.pipe_machine.specs.Keeping.{Begins, submits_to, submitted_in, IsMoved}
-use Rattle.pipe_machine.specs.Machine.{Pipe, turn, after}
+use Rattle.pipe_machine.specs.Lines.{lines_of}
+use Rattle.pipe_machine.specs.Machine.{Pipe, Answer, delivered, turned, turn, after}
+use Rattle.pipe_machine.proofs.Gathering.{lines_append}
 
 pub after_more : (p : Pipe) (ts : List Turn) (time : ℕ) (line : List ℕ) → after p (ts ++ turn_at time line ∷ []) ≡ (turn (after p ts) time line).pipe
 after_more p [] time line = refl
 after_more p (t ∷ ts) time line = after_more (turn p t.time t.line).pipe ts time line
+
+pub turn_sent : (one two out : List ℕ) (a : Answer) (p : Pipe) → p ≡ a.pipe → one ≡ out ++ lines_of a.sent → two ≡ one ++ lines_of (delivered p).sent → two ≡ out ++ lines_of (turned a).sent
+turn_sent one two out a p e f h =
+    h ∙ (λ i. f i ++ lines_of (delivered (e i)).sent) ∙ append_assoc out (lines_of a.sent) (lines_of (delivered a.pipe).sent) ∙ ap (λ l. out ++ l) (sym (lines_append a.sent (delivered a.pipe).sent))
 
 begins_on : (ds es fs : List DeltaOf) → Begins ds es → Begins es fs → Begins ds fs
 begins_on ds es fs (a, e) (b, f) = (a ++ b, sym (append_assoc ds a b) ∙ ap (λ l. l ++ b) e ∙ f)
@@ -27,11 +34,11 @@ none_of false b e = (refl, e)
 
 any_more : {X : Type 0} (p : X → Bool) (xs : List X) (x : X) → list_any p (xs ++ x ∷ []) ≡ (list_any p xs || (p x || false))
 any_more p [] x = refl
-any_more p (y ∷ ys) x = go (p y)
+any_more p (y ∷ ys) x = go (p y) (any_more p ys x)
   where
-    go : (b : Bool) → (b || list_any p (ys ++ x ∷ [])) ≡ ((b || list_any p ys) || (p x || false))
-    go true = refl
-    go false = any_more p ys x
+    go : (b : Bool) → list_any p (ys ++ x ∷ []) ≡ (list_any p ys || (p x || false)) → (b || list_any p (ys ++ x ∷ [])) ≡ ((b || list_any p ys) || (p x || false))
+    go true e = refl
+    go false e = e
 
 apart : (b : Bool) → (b || false) ≡ false → b ≡ false
 apart true e = absurd (true≢false e)

@@ -114,7 +114,7 @@ impl<F: Folder + Drop> PipeMachine<F> {
         ensures ended { IsEnded self.old.shelf self.new.shelf result }
     {
         self.answer(alloc, line, time, out)?;
-        deliver(alloc, &self.shelf, self.seats.as_mut_slice(), out)?;
+        deliver(alloc, &self.shelf, &mut self.seats, out)?;
         Ok(())
     }
 }

@@ -1,5 +1,5 @@
 // The sessions of a pipe, by name.
-ghost use Rattle.std.specs.Prelude.{◌≡◌, ◌≤◌, ◌<◌, length, IfOk, OnOk};
+ghost use Rattle.std.specs.Prelude.{◌≡◌, ◌≤◌, ◌<◌, length, IfOk, OnOk, OnErr};
 ghost use Rattle.std.specs.Cmp.Lexicographic.{slice_cmp};
 ghost use Rattle.std.specs.Ordering.{nat_cmp};
 ghost use Rattle.pipe_machine.specs.Seats.{begun, place_in, is_at, seated, seat_in};
@@ -59,11 +59,13 @@ fn begun(alloc: Global, name: SessionName) -> Seat
     }
 }
 
-/// The place of the seat of this name, which is a new session's where there was none. The error is want of memory.
+/// The place of the seat of this name, which is a new session's where there was none. The error is want of memory,
+/// after which all is as it was.
 #[tactic(auto, using(crate::proofs::Seating::seated_within, crate::proofs::Seating::seated_name))]
 pub fn seat_of(alloc: Global, seats: &mut Vec<Seat>, name: SessionName) -> Result<usize, Memory>
     ensures place { IfOk result (λ i. i ≡ place_in name 0 seats.old.items) }
     ensures seats { OnOk result (seats.new.items ≡ seated name seats.old.items) }
+    ensures same { OnErr result (seats.new.items ≡ seats.old.items) }
     ensures within { IfOk result (λ i. i < length seats.new.items) }
     ensures named { IfOk result (λ i. (seat_in i seats.new.items).name ≡ name) }
 {

@@ -4,7 +4,7 @@ use Rattle.wavelet_shelf.specs.Shelves.{hosted_of}
 use Rattle.pipe_machine.specs.Machine.{shown_in}
 use Rattle.pipe_machine.specs.Seats.{IsPlain}
 use Rattle.pipe_machine.proofs.Delivering.{sent_on, after_on}
-use Rattle.pipe_machine.proofs.deliver.deliver.Goals as goal
+use Rattle.pipe_machine.proofs.deliver.deliver_each.Goals as goal
 
 pub loop-seat-preserved : goal.loop-seat-preserved
 loop-seat-preserved g c =
