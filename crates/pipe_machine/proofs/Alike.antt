@@ -34,7 +34,7 @@ chosen g h false false e s = tt
 chosen g h true false e s = absurd (true≢false e)
 chosen g h false true e s = absurd (true≢false (sym e))
 
-picked : Bool → Key → Option HistoryOf → Option HistoryOf
+abbrev picked : Bool → Key → Option HistoryOf → Option HistoryOf
 picked dropped user o = option_and_then (λ h. cond (is_member h user && not dropped) (Some h) None) o
 
 picked_alike : (dropped : Bool) (user : Key) (o p : Option HistoryOf) → IsCopyOf o p → IsCopyOf (picked dropped user o) (picked dropped user p)

@@ -130,15 +130,15 @@ kept_has : (i : IdOf) (p : Point) (ds : List DeltaOf) (k : Kept) → kept i p ds
 kept_has i p [] k e = no_value e
 kept_has i p (d ∷ ds) k e =
     let m = and_then_some (next_point p d) (λ q. cond (same_id i d.id) (Some (record { at = p.at.version; to = q.at })) (kept i q ds)) k e in
-    go m.0 (same_id i d.id) refl m.2
+    go m.0 (λ f. kept_has i m.0 ds k f) (same_id i d.id) refl m.2
   where
-    go : (q : Point) (t : Bool) → same_id i d.id ≡ t → cond t (Some (record { at = p.at.version; to = q.at })) (kept i q ds) ≡ Some k → HasOf (d ∷ ds) i.client i.number
-    go q true t f = has_first d ds i t
-    go q false t f = has_behind d ds i.client i.number (kept_has i q ds k f)
+    go : (q : Point) → (kept i q ds ≡ Some k → HasOf ds i.client i.number) → (t : Bool) → same_id i d.id ≡ t → cond t (Some (record { at = p.at.version; to = q.at })) (kept i q ds) ≡ Some k → HasOf (d ∷ ds) i.client i.number
+    go q behind true t f = has_first d ds i t
+    go q behind false t f = has_behind d ds i.client i.number (behind f)
 
 -- ---- verdicts
 
-IsAcked : List DeltaOf → IdOf → Verdict → Option DeltaOf → Type 0
+abbrev IsAcked : List DeltaOf → IdOf → Verdict → Option DeltaOf → Type 0
 IsAcked ds i (Ack place to) None = HasOf ds i.client i.number
 IsAcked ds i (Ack place to) (Some d) = d.id ≡ i
 IsAcked ds i NotParticipant o = Unit {0}
@@ -149,7 +149,7 @@ IsAcked ds i (Invalid index) o = Unit {0}
 IsAcked ds i (Full head) o = Unit {0}
 
 module _ (name : Key) (ds : List DeltaOf) (s : Submission) (t : ℕ) where
-  IsSound : Judged → Type 0
+  abbrev IsSound : Judged → Type 0
   IsSound j = IsAcked ds s.id j.0 j.1
 
   sound_next : (p : Point) (acts : List Act) (o : Option Point) → IsSound (judge_next p (accepted p s t acts) o)
@@ -217,7 +217,7 @@ told_held hs (Domain domain) name i v o up h = tt
 
 -- ---- copies
 
-IsSeen : Key → List DeltaOf → Option HistoryOf → Type 0
+abbrev IsSeen : Key → List DeltaOf → Option HistoryOf → Type 0
 IsSeen name ds None = Unit {0}
 IsSeen name ds (Some h) = (h.name ≡ name) × (h.deltas ≡ ds)
 
@@ -327,7 +327,7 @@ module _ (hs : List Hosted) where
 
 -- ---- what a message is replied at once
 
-TellsNothing : Request → Type 0
+abbrev TellsNothing : Request → Type 0
 TellsNothing (ask.Reply m) = (hs : List Hosted) → IsHeld hs m
 TellsNothing (ask.Attach name from) = Unit {0}
 TellsNothing (ask.Submit name s) = Unit {0}

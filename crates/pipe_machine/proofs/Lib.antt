@@ -5,3 +5,5 @@ pub mod Gathering
 pub mod Telling
 pub mod Turning
 pub mod Holding
+pub mod Seating
+pub mod Delivering

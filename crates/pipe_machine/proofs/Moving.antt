@@ -1,8 +1,9 @@
 -- How a shelf moves.
 --     same_shown            what sessions see of it is what they see of its histories
 --     stays                 one that stays as it is
+--     only_if               one that may move at fewer names
 --     taken_in, refused_in  one that took a submission; one where it was refused
-use Rattle.std.proofs.Common.{◌≡◌, ◌≢◌, ◌⊎◌, inl, inr, ◌↔◌, ◌≤◌, ℕ, Bool, true, false, List, [], ◌∷◌, ◌++◌, Option, None, Some, IsSome, refl, sym, ap, subst, ◌∙◌, option_map, append-nil, true≢false}
+use Rattle.std.proofs.Common.{◌≡◌, ◌≢◌, ◌⊎◌, inl, inr, ◌↔◌, ◌≤◌, ℕ, Bool, true, false, List, [], ◌∷◌, ◌++◌, Option, None, Some, IsSome, refl, sym, ap, subst, ◌∙◌, option_map, append-nil, arith, true≢false}
 use Rattle.doc_items.specs.Maps.{Key, same_text}
 use Rattle.wave_base.specs.Versions.{IdOf}
 use Rattle.wavelet_op.specs.Deltas.{DeltaOf}
@@ -46,7 +47,7 @@ begins_as : (ds es fs : List DeltaOf) → es ≡ fs → Begins ds es → Begins 
 begins_as ds es fs e b = (b.0, b.1 ∙ e)
 
 other_name : (n m : Key) → same_text n m ≡ false → m ≢ n
-other_name n m no e = true≢false (sym (own n) ∙ ap (same_text n) (sym e) ∙ no)
+other_name n m apart e = true≢false (sym (own n) ∙ ap (same_text n) (sym e) ∙ apart)
 
 module _ {F D : Type 0} {folder : folder_of.Ghosts F D} {disk : disk_of.Ghosts D} where
   pub same_shown : (s : Shelf F D folder disk) → ((n : Key) → IsCopyOf (copies_of s n) (copy_in (hosted_of s) n))
@@ -63,9 +64,12 @@ module _ {F D : Type 0} {folder : folder_of.Ghosts F D} {disk : disk_of.Ghosts D
       grown = λ n. begins_itself (deltas_in (hosted_of s) n);
       others = λ n h. refl;
       kept = λ k. k;
-      folder = (λ f. f, λ f. f);
+      filed = (λ f. f, λ f. f);
       later = omega arith;
     }
+
+  pub only_if : {may fewer : Key → Bool} (a b : Shelf F D folder disk) → ((n : Key) → may n ≡ false → fewer n ≡ false) → IsMoved fewer a b → IsMoved may a b
+  only_if a b f m = record { grown = m.grown; others = λ n h. m.others n (f n h); kept = m.kept; filed = m.filed; later = m.later }
 
   module _ (a b : Shelf F D folder disk) (name : Key) (others : (m : Key) → m ≢ name → container_in b m ≡ container_in a m)
       (kept : IsKept a → IsKept b) (filed : IsSome (in_folder a) ↔ IsSome (in_folder b)) (later : fault_count a ≤ fault_count b) where
@@ -73,17 +77,17 @@ module _ {F D : Type 0} {folder : folder_of.Ghosts F D} {disk : disk_of.Ghosts D
     taken_in s t up is = record {
         grown = λ n. begins_as (deltas_in (hosted_of a) n) (deltas_in (after_submission (hosted_of a) name s t) n) (deltas_in (hosted_of b) n) (ap (λ hs. deltas_in hs n) (sym is))
             (begins_added (hosted_of a) name (judged_in (hosted_of a) name s t).1 n up);
-        others = λ n no. others n (other_name name n no);
+        others = λ n apart. others n (other_name name n apart);
         kept = kept;
-        folder = filed;
+        filed = filed;
         later = later;
       }
 
     pub refused_in : hosted_of b ≡ hosted_of a → IsMoved (same_text name) a b
     refused_in is = record {
         grown = λ n. ([], append-nil (deltas_in (hosted_of a) n) ∙ ap (λ hs. deltas_in hs n) (sym is));
-        others = λ n no. others n (other_name name n no);
+        others = λ n apart. others n (other_name name n apart);
         kept = kept;
-        folder = filed;
+        filed = filed;
         later = later;
       }

@@ -4,7 +4,8 @@
 --     told_plain, told_short              whatever a submission is answered
 --     sent_short          whatever is sent
 --     after_plain         whatever was sent
-use Rattle.std.proofs.Common.{◌≡◌, ◌==◌, ℕ, Bool, true, false, ◌&&◌, ◌||◌, if◌then◌else◌, List, [], ◌∷◌, ◌++◌, Option, None, Some, refl, sym, ap, subst, ◌∙◌, is_some, option_map, true≢false}
+--     plain_after, short_after    whatever a message is replied
+use Rattle.std.proofs.Common.{◌≡◌, ◌==◌, ℕ, Bool, true, false, ◌&&◌, ◌||◌, if◌then◌else◌, List, [], ◌∷◌, ◌++◌, Option, None, Some, Result, Ok, Err, IfOk, OnErr, refl, sym, ap, subst, ◌∙◌, is_some, option_map, true≢false}
 use Rattle.std.specs.Cmp.Lexicographic.{pointwise}
 use Rattle.std.specs.List.{All}
 use Rattle.std.specs.Str.{encode_utf8_all}
@@ -38,12 +39,15 @@ use Rattle.session_core.specs.Access.{Shown, seen_by}
 use Rattle.session_core.specs.Answers.{with_sent, verdict_message, told_verdict, answered, snapshot_of, is_sendable, attached_head, attached_hash, attached_seen, seen_for, attached}
 use Rattle.session_core.specs.Deliveries.{since, updates, outcome_sent, outcomes_sent, opening_news, opening_sent, openings_sent, delivered_to, delivered, after_for, after_delivery}
 use Rattle.session_core.specs.Rules.{Taken, party_is_user, party_is_peer, has_user, refused, with_party, is_new, is_user, greeted, as_user, in_domain, is_reached, place_of, without, with_openings, closed_at, asked_open, submission_of, submitted_as, submitted, closed, told_have, relayed, taken}
+use Rattle.wavelet_shelf.specs.Hosting.{Hosted, judged_in}
+use Rattle.line_run.specs.declared.line_machine.TurnFault.{TurnFault}
 use Rattle.pipe_machine.specs.Keeping.{asks_for, submits}
+use Rattle.pipe_machine.specs.Machine.{Reply, shown_in, reply_of, asked}
 use Rattle.pipe_machine.specs.Seats.{IsPlain, AsksAsUser}
 
 -- ---- what a message asks for
 
-IsShortReply : Request → Type 0
+abbrev pub IsShortReply : Request → Type 0
 IsShortReply (ask.Reply m) = IsShort m
 IsShortReply (ask.Attach name from) = Unit {0}
 IsShortReply (ask.Submit name s) = Unit {0}
@@ -200,3 +204,23 @@ module _ (c : Shown) where
       go Nobody e = plain
       go (User user) e = record { nowhere = plain.nowhere; no_peer = plain.no_peer }
       go (Domain domain) e = absurd (true≢false e)
+
+-- ---- replies
+
+asked_well : (hs : List Hosted) (t : ℕ) (s : Session) (r : Request) → IsPlain s → IsShortReply r → IsWell ((asked hs t s r).session, (asked hs t s r).message)
+asked_well hs t s (ask.Reply m) p short = record { plain = p; short = short }
+asked_well hs t s (ask.Attach name from) p short = attached_well (shown_in hs) s name from p
+asked_well hs t s (ask.Submit name submission) p short = told_well s name submission.id (judged_in hs name submission t).0 p
+asked_well hs t s (ask.Have name from) p short = record { plain = p; short = tt }
+
+module _ (may : Key → Bool) (hs gs : List Hosted) (t : ℕ) (s x : Session) (r : Request) where
+  reply_well : (m : Message) → IsGood may (s, r) → reply_of gs (x, m) ≡ asked hs t s r → IsWell (x, m)
+  reply_well m good e = subst (λ (y : Reply). IsWell (y.session, y.message)) (sym e) (asked_well hs t s r good.plain good.short)
+
+  pub plain_after : (o : Result Message TurnFault) → IsGood may (s, r) → IfOk o (λ m. reply_of gs (x, m) ≡ asked hs t s r) → OnErr o (x ≡ s) → IsPlain x
+  plain_after (Ok m) good e same = (reply_well m good e).plain
+  plain_after (Err f) good e same = subst IsPlain (sym same) good.plain
+
+  pub short_after : (o : Result Message TurnFault) → IsGood may (s, r) → IfOk o (λ m. reply_of gs (x, m) ≡ asked hs t s r) → IfOk o IsShort
+  short_after (Ok m) good e = (reply_well m good e).short
+  short_after (Err f) good e = tt

@@ -1,22 +1,34 @@
 -- Turns, one after the other.
 --     after_more     the machine after one more
 --     since_more     what stays so of the shelf
-use Rattle.std.proofs.Common.{◌≡◌, ◌↔◌, ◌≤◌, ℕ, Bool, true, false, ◌||◌, List, [], ◌∷◌, ◌++◌, IsSome, refl, sym, ap, subst, ◌∙◌, append_assoc, append-nil, arith, true≢false}
+--     turn_sent      what a turn sends
+--     faults_later, faults_rose    the count of what stores
+use Rattle.std.proofs.Common.{◌≡◌, ◌↔◌, ◌≤◌, ℕ, Bool, true, false, ◌||◌, List, [], ◌∷◌, ◌++◌, Option, Some, None, IsSome, Result, IsErrOf, refl, sym, ap, subst, ◌∙◌, append_assoc, append-nil, arith, true≢false}
 use Rattle.std.specs.List.{list_any}
 use Rattle.doc_items.specs.Maps.{Key}
 use Rattle.wavelet_op.specs.Deltas.{DeltaOf}
 use Rattle.disk_model.specs.declared.disk.Disk as disk_of
 use Rattle.wave_outside.specs.declared.folder.Folder as folder_of
 use Rattle.wavelet_shelf.specs.Hosting.{deltas_in}
-use Rattle.wavelet_shelf.specs.Shelves.{hosted_of}
+use Rattle.wave_outside.specs.Counts.{Rose}
+use Rattle.wavelet_shelf.specs.Shelves.{hosted_of, in_folder, fault_count}
 use Rattle.wavelet_shelf.specs.declared.shelf.Shelf.{Shelf}
 use Rattle.line_run.specs.Turns.{Turn, turn_at}
-use Rattle.pipe_machine.specs.Keeping.{Begins, submits_to, submitted_in, IsMoved}
-use Rattle.pipe_machine.specs.Machine.{Pipe, turn, after}
+use Rattle.line_run.specs.declared.line_machine.TurnFault.{TurnFault}
+use Rattle.line_run.specs.declared.line_machine.TurnFault.TheVariants.{Store}
+use Rattle.pipe_machine.specs.Pipes.{faults_where, store_faults}
+use Rattle.pipe_machine.specs.Keeping.{Begins, submits_to, submitted_in, IsMoved, IsEnded}
+use Rattle.pipe_machine.specs.Lines.{lines_of}
+use Rattle.pipe_machine.specs.Machine.{Pipe, Answer, delivered, turned, turn, after}
+use Rattle.pipe_machine.proofs.Gathering.{lines_append}
 
 pub after_more : (p : Pipe) (ts : List Turn) (time : ℕ) (line : List ℕ) → after p (ts ++ turn_at time line ∷ []) ≡ (turn (after p ts) time line).pipe
 after_more p [] time line = refl
 after_more p (t ∷ ts) time line = after_more (turn p t.time t.line).pipe ts time line
+
+pub turn_sent : (one two out : List ℕ) (a : Answer) (p : Pipe) → p ≡ a.pipe → one ≡ out ++ lines_of a.sent → two ≡ one ++ lines_of (delivered p).sent → two ≡ out ++ lines_of (turned a).sent
+turn_sent one two out a p e f h =
+    h ∙ (λ i. f i ++ lines_of (delivered (e i)).sent) ∙ append_assoc out (lines_of a.sent) (lines_of (delivered a.pipe).sent) ∙ ap (λ l. out ++ l) (sym (lines_append a.sent (delivered a.pipe).sent))
 
 begins_on : (ds es fs : List DeltaOf) → Begins ds es → Begins es fs → Begins ds fs
 begins_on ds es fs (a, e) (b, f) = (a ++ b, sym (append_assoc ds a b) ∙ ap (λ l. l ++ b) e ∙ f)
@@ -27,23 +39,40 @@ none_of false b e = (refl, e)
 
 any_more : {X : Type 0} (p : X → Bool) (xs : List X) (x : X) → list_any p (xs ++ x ∷ []) ≡ (list_any p xs || (p x || false))
 any_more p [] x = refl
-any_more p (y ∷ ys) x = go (p y)
+any_more p (y ∷ ys) x = go (p y) (any_more p ys x)
   where
-    go : (b : Bool) → (b || list_any p (ys ++ x ∷ [])) ≡ ((b || list_any p ys) || (p x || false))
-    go true = refl
-    go false = any_more p ys x
+    go : (b : Bool) → list_any p (ys ++ x ∷ []) ≡ (list_any p ys || (p x || false)) → (b || list_any p (ys ++ x ∷ [])) ≡ ((b || list_any p ys) || (p x || false))
+    go true e = refl
+    go false e = e
 
 apart : (b : Bool) → (b || false) ≡ false → b ≡ false
 apart true e = absurd (true≢false e)
 apart false e = refl
 
+where_later : {F : Type 0} (o p : Option F) (a b : ℕ) → (IsSome o ↔ IsSome p) → a ≤ b → faults_where o a ≤ faults_where p b
+where_later None None a b e h = omega arith
+where_later None (Some y) a b e h = omega arith
+where_later (Some x) None a b e h = absurd (true≢false (sym (e.0 refl)))
+where_later (Some x) (Some y) a b e h = h
+
+where_rose : {F : Type 0} (o p : Option F) (a b : ℕ) → IsSome o → (IsSome o ↔ IsSome p) → Rose a b → Rose (faults_where o a) (faults_where p b)
+where_rose None p a b some e h = absurd (true≢false (sym some))
+where_rose (Some x) None a b some e h = absurd (true≢false (sym (e.0 refl)))
+where_rose (Some x) (Some y) a b some e h = h
+
 module _ {F D : Type 0} {folder : folder_of.Ghosts F D} {disk : disk_of.Ghosts D} where
   pub since_more : (a b c : Shelf F D folder disk) (ts : List Turn) (time : ℕ) (line : List ℕ) → IsMoved (submitted_in ts) a b → IsMoved (submits_to line) b c → IsMoved (submitted_in (ts ++ turn_at time line ∷ [])) a c
   since_more a b c ts time line m n = record {
       grown = λ k. begins_on (deltas_in (hosted_of a) k) (deltas_in (hosted_of b) k) (deltas_in (hosted_of c) k) (m.grown k) (n.grown k);
-      others = λ k no. let none = none_of (submitted_in ts k) (submits_to line k || false) (sym (any_more (λ (t : Turn). submits_to t.line k) ts (turn_at time line)) ∙ no) in
+      others = λ k other. let none = none_of (submitted_in ts k) (submits_to line k || false) (sym (any_more (λ (t : Turn). submits_to t.line k) ts (turn_at time line)) ∙ other) in
           n.others k (apart (submits_to line k) none.1) ∙ m.others k none.0;
       kept = λ k. n.kept (m.kept k);
-      folder = (λ f. n.folder.0 (m.folder.0 f), λ f. m.folder.1 (n.folder.1 f));
+      filed = (λ f. n.filed.0 (m.filed.0 f), λ f. m.filed.1 (n.filed.1 f));
       later = omega (arith, m.later, n.later);
     }
+
+  pub faults_later : (a b : Shelf F D folder disk) (may : Key → Bool) → IsMoved may a b → store_faults a ≤ store_faults b
+  faults_later a b may m = where_later (in_folder a) (in_folder b) (fault_count a) (fault_count b) m.filed m.later
+
+  pub faults_rose : {A : Type 0} (a b : Shelf F D folder disk) (may : Key → Bool) (r : Result A TurnFault) → IsMoved may a b → IsEnded a b r → IsErrOf r Store → Rose (store_faults a) (store_faults b)
+  faults_rose a b may r m e store = where_rose (in_folder a) (in_folder b) (fault_count a) (fault_count b) (e.store store) m.filed (e.failed store)

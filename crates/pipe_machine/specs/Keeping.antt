@@ -71,10 +71,10 @@ module _ {F D : Type 0} {folder : folder_of.Ghosts F D} {disk : disk_of.Ghosts D
     pub grown : (n : Key) → Begins (deltas_in (hosted_of a) n) (deltas_in (hosted_of b) n)
     pub others : (n : Key) → may n ≡ false → container_in b n ≡ container_in a n
     pub kept : IsKept a → IsKept b
-    pub folder : IsSome (in_folder a) ↔ IsSome (in_folder b)
+    pub filed : IsSome (in_folder a) ↔ IsSome (in_folder b)
     pub later : fault_count a ≤ fault_count b
 
   pub record IsEnded {A : Type 0} (a b : Shelf F D folder disk) (r : Result A TurnFault) : Type 0 where
     pub settled : OnOk r (IsKept a → IsSettled a → IsSettled b)
     pub failed : IsErrOf r Store → Rose (fault_count a) (fault_count b)
-    pub disk : IsErrOf r Store → IsSome (in_folder a)
+    pub store : IsErrOf r Store → IsSome (in_folder a)

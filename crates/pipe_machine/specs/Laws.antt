@@ -6,7 +6,7 @@ use Rattle.disk_model.specs.declared.disk.Disk as disk_of
 use Rattle.wave_outside.specs.declared.folder.Folder as folder_of
 use Rattle.wavelet_shelf.specs.Hosting.{deltas_in}
 use Rattle.wavelet_shelf.specs.Shelves.{hosted_of}
-use Rattle.pipe_machine.specs.declared.machine.PipeMachine.{PipeMachine}
+use Rattle.pipe_machine.specs.declared.pipe.PipeMachine.{PipeMachine}
 use Rattle.pipe_machine.specs.Pipes.{IsSince}
 
 module _ {F D : Type 0} {folder : folder_of.Ghosts F D} {disk : disk_of.Ghosts D} where
@@ -15,6 +15,6 @@ module _ {F D : Type 0} {folder : folder_of.Ghosts F D} {disk : disk_of.Ghosts D
       grown = λ n. ([], append-nil (deltas_in (hosted_of m.shelf) n));
       others = λ n h. refl;
       kept = λ k. k;
-      folder = (λ f. f, λ f. f);
+      filed = (λ f. f, λ f. f);
       later = omega arith;
     }

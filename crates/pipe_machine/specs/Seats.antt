@@ -9,8 +9,10 @@
 --     seats_sent c ss        what each is sent of the copies, in order
 --     seats_after c ss       the seats then
 --     IsPlain s              a session of a pipe: it has no domain, and speaks for none
+--     IsPlainSeat s          so is that of a seat
 --     AsksAsUser s r         only one with a user asks for a wavelet to be opened
 use Rattle.std.specs.Prelude.{◌≡◌, ◌==◌, ℕ, ◌+◌, List, [], ◌∷◌, ◌++◌, take, drop, slice_get, slice_set, slice_index_or, map, Bool, true, false, cond, Option, Some, None, is_some}
+use Rattle.std.specs.Coded.{Coded-set, coded_bool, ×_prop}
 use Rattle.std.specs.Option.{option_map_or}
 use Rattle.std.specs.Ordering.{nat_cmp, is_gt}
 use Rattle.std.specs.Cmp.Lexicographic.{slice_cmp}
@@ -63,6 +65,13 @@ seats_after c ss = map (seat_after c) ss
 pub record IsPlain (s : Session) : Type 0 where
   pub nowhere : is_some s.domain ≡ false
   pub no_peer : has_peer s ≡ false
+
+-- the same, as two facts
+abbrev pub IsPlainSeat : Seat → Type 0
+IsPlainSeat s = (is_some s.session.domain ≡ false) × (has_peer s.session ≡ false)
+
+pub IsPlainSeat-prop : (s : Seat) → IsProp (IsPlainSeat s)
+IsPlainSeat-prop s = ×_prop (Coded-set coded_bool _ _) (Coded-set coded_bool _ _)
 
 abbrev pub AsksAsUser : Session → Request → Type 0
 AsksAsUser s (ask.Reply m) = Unit {0}

@@ -18,7 +18,7 @@ use wave_outside::Folder;
 use wavelet_shelf::Shelf;
 
 // What is new to a session. The error is want of memory, here and below.
-#[tactic(auto, using(crate::proofs::Telling::delivered_of, crate::proofs::Telling::after_of, crate::proofs::Plain::sent_short, crate::proofs::Plain::after_plain))]
+#[tactic(auto, using(crate::proofs::Plain::sent_short, crate::proofs::Plain::after_plain))]
 fn news<F: Folder>(
     alloc: Global,
     shelf: &Shelf<F>,
@@ -27,7 +27,7 @@ fn news<F: Folder>(
     requires { IsPlain session.old }
     ensures sent { IfOk result (λ out. out.items ≡ delivered (shown_in (hosted_of shelf.now)) session.old) }
     ensures after { OnOk result (session.new ≡ after_delivery (shown_in (hosted_of shelf.now)) session.old) }
-    ensures plain { OnOk result (IsPlain session.new) }
+    ensures plain { IsPlain session.new }
     ensures short { IfOk result (λ out. All IsShort out.items) }
 {
     shelf.copies_are_hosted();
@@ -44,15 +44,14 @@ fn deliver_to<F: Folder>(
     requires { IsPlain seat.old.session }
     ensures sent { OnOk result (out.new.items ≡ out.old.items ++ lines_of (map (sent_to seat.old.name) (delivered (shown_in (hosted_of shelf.now)) seat.old.session))) }
     ensures after { OnOk result (seat.new ≡ seat_after (shown_in (hosted_of shelf.now)) seat.old) }
-    ensures plain { OnOk result (IsPlain seat.new.session) }
+    ensures plain { IsPlain seat.new.session }
 {
     let messages = news(alloc, shelf, &mut seat.session)?;
     push_lines(alloc, seat.name.text(), messages.as_slice(), out)
 }
 
-/// Appends what is new to each session, in order.
-#[tactic(auto, using(crate::proofs::Gathering::lines_append))]
-pub fn deliver<F: Folder>(
+// Appends what is new to each session of some seats, in order.
+fn deliver_each<F: Folder>(
     alloc: Global,
     shelf: &Shelf<F>,
     seats: &mut [Seat],
@@ -61,10 +60,25 @@ pub fn deliver<F: Folder>(
     requires { All (λ s. IsPlain s.session) seats.old }
     ensures sent { OnOk result (out.new.items ≡ out.old.items ++ lines_of (seats_sent (shown_in (hosted_of shelf.now)) seats.old)) }
     ensures after { OnOk result (seats.new ≡ seats_after (shown_in (hosted_of shelf.now)) seats.old) }
-    ensures plain { OnOk result (All (λ s. IsPlain s.session) seats.new) }
+    ensures plain { All (λ s. IsPlain s.session) seats.new }
 {
     for seat in seats.iter_mut() {
         deliver_to(alloc, shelf, seat, out)?;
     }
     Ok(())
+}
+
+/// Appends what is new to each session, in order.
+pub fn deliver<F: Folder>(
+    alloc: Global,
+    shelf: &Shelf<F>,
+    seats: &mut Vec<Seat>,
+    out: &mut Vec<u8>,
+) -> Result<(), Memory>
+    requires { All (λ s. IsPlain s.session) seats.old.items }
+    ensures sent { OnOk result (out.new.items ≡ out.old.items ++ lines_of (seats_sent (shown_in (hosted_of shelf.now)) seats.old.items)) }
+    ensures after { OnOk result (seats.new.items ≡ seats_after (shown_in (hosted_of shelf.now)) seats.old.items) }
+    ensures plain { All (λ s. IsPlain s.session) seats.new.items }
+{
+    deliver_each(alloc, shelf, seats.as_mut_slice(), out)
 }

@@ -1,18 +1,17 @@
 // Turns: a line, its reply, and what is new to each session.
 ghost use Rattle.std.specs.Prelude.{◌≡◌, ◌++◌, IfOk, OnOk};
-ghost use Rattle.std.specs.List.{All};
 ghost use Rattle.wave_messages.specs.declared.fault.Kind.{Kind};
 ghost use Rattle.wavelet_shelf.specs.Shelves.{hosted_of};
 ghost use Rattle.pipe_machine.specs.Keeping.{IsMoved, IsEnded, submits, submits_to};
 ghost use Rattle.pipe_machine.specs.Lines.{lines_of};
 ghost use Rattle.pipe_machine.specs.Machine.{start, served, refusal, answered, turn};
 ghost use Rattle.pipe_machine.specs.Pipes.{pipe_of};
-ghost use Rattle.pipe_machine.specs.Seats.{IsPlain};
 
 use crate::deliver::deliver;
 use crate::lines::push_line;
+use crate::pipe::PipeMachine;
 use crate::reply::reply;
-use crate::seats::{Seat, seat_of};
+use crate::seats::seat_of;
 use doc_items::Memory;
 use line_run::{LineMachine, TurnFault};
 use session_core::reason_of;
@@ -21,14 +20,6 @@ use wave_base::SessionName;
 use wave_messages::{Kind, Line, LineFault, Message, read_line};
 use wave_outside::Folder;
 use wavelet_shelf::Shelf;
-
-/// Many sessions over the histories of a shelf, each of which is hosted here.
-#[derive(Drop)]
-pub struct PipeMachine<F: Folder> {
-    shelf: Shelf<F>,
-    seats: Vec<Seat>,
-    ghost plain: { All (λ s. IsPlain s.session) seats.items } ,
-}
 
 // Appends the line that tells a session, or none, why its line was none.
 fn refuse(
@@ -123,16 +114,15 @@ impl<F: Folder + Drop> PipeMachine<F> {
         ensures ended { IsEnded self.old.shelf self.new.shelf result }
     {
         self.answer(alloc, line, time, out)?;
-        deliver(alloc, &self.shelf, self.seats.as_mut_slice(), out)?;
+        deliver(alloc, &self.shelf, &mut self.seats, out)?;
         Ok(())
     }
 }
 
 impl<F: Folder + Drop> LineMachine for PipeMachine<F> {
-    ghost use Rattle.wavelet_shelf.specs.Shelves.{fault_count};
     ghost use Rattle.pipe_machine.specs.Lines.{lines_of};
     ghost use Rattle.pipe_machine.specs.Machine.{sent};
-    ghost use Rattle.pipe_machine.specs.Pipes.{pipe_of, IsReached, IsSince, IsCalm};
+    ghost use Rattle.pipe_machine.specs.Pipes.{pipe_of, store_faults, IsReached, IsSince, IsCalm};
     ghost use Rattle.pipe_machine.specs.Laws.{unmoved};
     ghost use Rattle.std.specs.Prelude.{refl};
 
@@ -144,7 +134,7 @@ impl<F: Folder + Drop> LineMachine for PipeMachine<F> {
 
     ghost calm = { λ m. IsCalm m };
 
-    ghost faults = { λ m. fault_count m.shelf };
+    ghost faults = { λ m. store_faults m.shelf };
 
     ghost silent = { λ m. refl };
 
@@ -152,7 +142,7 @@ impl<F: Folder + Drop> LineMachine for PipeMachine<F> {
 
     ghost unmoved = { λ m. unmoved m };
 
-    #[tactic(auto, using(crate::proofs::Turning::after_more, crate::proofs::Turning::since_more, crate::proofs::Gathering::lines_append))]
+    #[tactic(auto, using(crate::proofs::Turning::after_more, crate::proofs::Turning::since_more, crate::proofs::Turning::faults_later, crate::proofs::Turning::faults_rose, crate::proofs::Gathering::lines_append))]
     fn turn(
         &mut self,
         alloc: Global,

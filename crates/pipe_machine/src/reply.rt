@@ -1,5 +1,5 @@
 // The reply to a session's message.
-ghost use Rattle.std.specs.Prelude.{◌≡◌, true, IfOk, OnOk, option_copied};
+ghost use Rattle.std.specs.Prelude.{◌≡◌, true, IfOk, OnOk, OnErr, option_copied};
 ghost use Rattle.message_table.specs.Write.{IsShort};
 ghost use Rattle.session_core.specs.Answers.{attached, answered};
 ghost use Rattle.session_core.specs.Rules.{has_user};
@@ -31,7 +31,8 @@ fn attach<F: Folder>(
     from: Option<&HashedVersion>,
 ) -> Result<Message, Memory>
     requires { has_user session.old ≡ true }
-    ensures { IfOk result (λ m. (session.new, m) ≡ attached (shown_in (hosted_of shelf.now)) session.old name.now (option_copied from.entry)) }
+    ensures reply { IfOk result (λ m. (session.new, m) ≡ attached (shown_in (hosted_of shelf.now)) session.old name.now (option_copied from.entry)) }
+    ensures same { OnErr result (session.new ≡ session.old) }
 {
     shelf.copies_are_hosted();
     session.answer_attach(alloc, shelf, name, from)
@@ -48,6 +49,7 @@ fn submit<F: Folder + Drop>(
 ) -> Result<Message, TurnFault>
     ensures hosted { OnOk result (hosted_of shelf.new ≡ after_submission (hosted_of shelf.old) name.now submission.now time) }
     ensures reply { IfOk result (λ m. (session.new, m) ≡ answered session.old name.now submission.now.id (answer.Verdict (judged_in (hosted_of shelf.old) name.now submission.now time).0)) }
+    ensures same { OnErr result (session.new ≡ session.old) }
     ensures moved { IsMoved (same_text name.now) shelf.old shelf.new }
     ensures ended { IsEnded shelf.old shelf.new result }
 {
@@ -72,6 +74,7 @@ fn answer<F: Folder + Drop>(
 ) -> Result<Message, TurnFault>
     requires user { AsksAsUser session.old request }
     ensures reply { IfOk result (λ m. reply_of (hosted_of shelf.new) (session.new, m) ≡ asked (hosted_of shelf.old) time session.old request) }
+    ensures same { OnErr result (session.new ≡ session.old) }
     ensures moved { IsMoved (asks_for request) shelf.old shelf.new }
     ensures ended { IsEnded shelf.old shelf.new result }
 {
@@ -95,7 +98,7 @@ pub fn reply<F: Folder + Drop>(
 ) -> Result<Message, TurnFault>
     requires { IsPlain session.old }
     ensures reply { IfOk result (λ m. reply_of (hosted_of shelf.new) (session.new, m) ≡ replied (hosted_of shelf.old) session.old message time) }
-    ensures plain { OnOk result (IsPlain session.new) }
+    ensures plain { IsPlain session.new }
     ensures short { IfOk result IsShort }
     ensures moved { IsMoved (submits message) shelf.old shelf.new }
     ensures ended { IsEnded shelf.old shelf.new result }

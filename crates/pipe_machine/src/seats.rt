@@ -1,9 +1,8 @@
 // The sessions of a pipe, by name.
-ghost use Rattle.std.specs.Prelude.{◌≡◌, ◌≤◌, ◌<◌, [], length, IfOk, OnOk};
-ghost use Rattle.std.specs.List.{All};
+ghost use Rattle.std.specs.Prelude.{◌≡◌, ◌≤◌, ◌<◌, length, IfOk, OnOk, OnErr};
 ghost use Rattle.std.specs.Cmp.Lexicographic.{slice_cmp};
 ghost use Rattle.std.specs.Ordering.{nat_cmp};
-ghost use Rattle.pipe_machine.specs.Seats.{begun, place_in, is_at, seated, IsPlain};
+ghost use Rattle.pipe_machine.specs.Seats.{begun, place_in, is_at, seated, seat_in};
 
 use doc_items::Memory;
 use session_core::Session;
@@ -45,7 +44,7 @@ fn is_at(seats: &[Seat], name: &SessionName, place: usize) -> bool
     ensures { result ≡ is_at name.now place seats.now }
 {
     match seats.get(place) {
-        Some(seat) => seat.name.text() == name.text(),
+        Some(seat) => name.text() == seat.name.text(),
         None => false,
     }
 }
@@ -60,12 +59,15 @@ fn begun(alloc: Global, name: SessionName) -> Seat
     }
 }
 
-/// The place of the seat of this name, which is a new session's where there was none. The error is want of memory.
+/// The place of the seat of this name, which is a new session's where there was none. The error is want of memory,
+/// after which all is as it was.
+#[tactic(auto, using(crate::proofs::Seating::seated_within, crate::proofs::Seating::seated_name))]
 pub fn seat_of(alloc: Global, seats: &mut Vec<Seat>, name: SessionName) -> Result<usize, Memory>
     ensures place { IfOk result (λ i. i ≡ place_in name 0 seats.old.items) }
     ensures seats { OnOk result (seats.new.items ≡ seated name seats.old.items) }
+    ensures same { OnErr result (seats.new.items ≡ seats.old.items) }
     ensures within { IfOk result (λ i. i < length seats.new.items) }
-    ensures named { IfOk result (λ i. is_at name i seats.new.items ≡ true) }
+    ensures named { IfOk result (λ i. (seat_in i seats.new.items).name ≡ name) }
 {
     let place = place_in(seats.as_slice(), &name);
     if !is_at(seats.as_slice(), &name, place) {

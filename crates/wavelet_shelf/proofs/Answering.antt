@@ -1,10 +1,11 @@
 -- Containers that answered a submission.
 --     held_after            the history stands in the journal as before
+--     plain_after           without one there is none then
 --     safe_file             where no repair is pending it stands in the file as that reads, and in each image
 --     safe_after            so it does after a call that answered
 --     faults_later, faults_rose     the disk's count
 --     name_after            the name stays
-use Rattle.std.proofs.Common.{◌≡◌, ℕ, ◌≤◌, false, List, Option, Some, None, IsSome, refl, sym, ap, subst, ◌∙◌, le_refl, true≢false}
+use Rattle.std.proofs.Common.{◌≡◌, ◌≤◌, false, Option, Some, None, IsSome, is_some, refl, sym, subst, le_refl, true≢false}
 use Rattle.wavelet_op.specs.Deltas.{DeltaOf}
 use Rattle.delta_history.specs.Histories.{HistoryOf}
 use Rattle.disk_model.specs.Disk.{Rose as HasRisen}
@@ -14,7 +15,7 @@ use Rattle.delta_journal.specs.declared.journal.Journal.{Journal}
 use Rattle.delta_journal.proofs.Stages.{sure_stands}
 use Rattle.wave_outside.specs.Counts.{Rose}
 use Rattle.wavelet_container.specs.Containers.{history_of, journal_of, OfBoth, IsHeld}
-use Rattle.wavelet_container.specs.Records.{records_of, StandsForHistory}
+use Rattle.wavelet_container.specs.Records.{records_of}
 use Rattle.wavelet_container.specs.Stores.{IsStored, IsGrownBy}
 use Rattle.wavelet_container.specs.declared.container.Container.{Container}
 use Rattle.wavelet_container.proofs.Journals.{sure_images}
@@ -34,6 +35,14 @@ module _ {K : Type 0} {disk : Ghosts K} where
 
   pub held_after : (c after : Container K disk) → OfBoth (journal_of c) (journal_of after) (λ i j. IsStored (history_of c) i → IsStored (history_of after) j) → IsHeld c → IsHeld after
   held_after c after both held = held_from (history_of c) (history_of after) (journal_of c) (journal_of after) both held.0 held.1 held.2
+
+  plain_from : (o p : Option (Journal K disk)) (P : Journal K disk → Journal K disk → Type 0) → OfBoth o p P → is_some o ≡ false → is_some p ≡ false
+  plain_from None None P both e = refl
+  plain_from None (Some j) P both e = absurd both
+  plain_from (Some i) p P both e = absurd (true≢false e)
+
+  pub plain_after : (c after : Container K disk) → OfBoth (journal_of c) (journal_of after) (λ i j. IsStored (history_of c) i → IsStored (history_of after) j) → is_some (journal_of c) ≡ false → is_some (journal_of after) ≡ false
+  plain_after c after both e = plain_from (journal_of c) (journal_of after) (λ i j. IsStored (history_of c) i → IsStored (history_of after) j) both e
 
   sure_from : (o p : Option (Journal K disk)) → OfBoth o p (λ i j. needs_repair j ≡ false) → (k : Journal K disk) → p ≡ Some k → needs_repair k ≡ false
   sure_from None None both k e = no_value e

@@ -1,14 +1,13 @@
 -- The names of wavelets are ASCII, and so UTF-8.
-use Rattle.std.proofs.Common.{◌≡◌, ◌⊎◌, inl, inr, ⊎_elim, ℕ, zero, suc, ◌==◌, ◌<◌, ◌≤◌, Bool, true, false, ◌&&◌, ◌||◌, not, nat_eq, nat_le, List, [], ◌∷◌, ◌++◌, length, codes, slice_index, refl, sym, ap, subst, ◌∙◌, true≢false, arith}
+use Rattle.std.proofs.Common.{◌≡◌, ◌⊎◌, inl, inr, ⊎_elim, ℕ, zero, suc, ◌==◌, ◌<◌, Bool, true, false, ◌&&◌, ◌||◌, not, nat_le, List, [], ◌∷◌, ◌++◌, length, codes, refl, sym, subst, true≢false, arith}
 use Rattle.std.specs.Char.{is_ascii_lowercase, is_ascii_uppercase, is_ascii_digit}
 use Rattle.std.specs.List.{AllByRecursion, list_all, list_any, join_with_byte}
 use Rattle.std.specs.Str.{IsAscii, IsUtf8}
-use Rattle.std.proofs.lemmas.Bool.{and_parts, le-leb, leb-true, eqb-true}
+use Rattle.std.proofs.lemmas.Bool.{and_parts, leb-true, eqb-true}
 use Rattle.std.proofs.lemmas.Str.{IsUtf8-from_ascii}
-use Rattle.wave_base.specs.Grammar.{has, is_among, is_word, is_id, is_domain, is_wavelet_name, dot, slash, host_of}
-use Rattle.wave_base.specs.Relations.{IsDomain, IsWaveletName}
+use Rattle.wave_base.specs.Grammar.{has, is_among, is_word, is_id, is_domain, is_wavelet_name, dot, host_of}
 use Rattle.wave_base.specs.declared.scanner.Alphabet.{Alphabet}
-use Rattle.wave_base.specs.declared.scanner.Alphabet.TheVariants.{User, Label, Id}
+use Rattle.wave_base.specs.declared.scanner.Alphabet.TheVariants.{Label, Id}
 use Rattle.wave_base.proofs.Made.{domain_law, name_apart}
 
 abbrev AreAscii : List ℕ → Type 0

@@ -7,18 +7,16 @@
 --     shown_grown             a history that grows is shown grown
 --     shown_none              one without deltas isn't shown
 --     grows_alone             the law
-use Rattle.std.proofs.Common.{Less, Equal, Greater, ◌≡◌, ◌≢◌, ℕ, Bool, true, false, cond, List, [], ◌∷◌, ◌++◌, refl, sym, ap, subst, ◌∙◌, true≢false}
+use Rattle.std.proofs.Common.{Less, Equal, Greater, ◌≡◌, ◌≢◌, Bool, true, false, cond, List, [], ◌∷◌, ◌++◌, refl, sym, ap, subst, ◌∙◌}
 use Rattle.std.specs.Cmp.Lexicographic.{slice_cmp, bytes_decides}
-use Rattle.std.specs.Ordering.{nat_cmp, is_lt, ordering_reverse}
+use Rattle.std.specs.Ordering.{nat_cmp, ordering_reverse}
 use Rattle.std.specs.declared.cmp.Ordering.{Ordering}
-use Rattle.std.proofs.lemmas.Cmp.{nat_list_cmp_total}
-use Rattle.std.proofs.lemmas.Map.Text.{is_eq-slice_cmp}
 use Rattle.doc_items.specs.Maps.{Key, same_text}
 use Rattle.wavelet_op.specs.Deltas.{DeltaOf}
 use Rattle.delta_history.specs.Copying.{AscendFrom, AreAscending}
 use Rattle.wavelet_shelf.specs.Entries.{shown_by, shown}
 use Rattle.wavelet_shelf.specs.Hosting.{Hosted, names_of, deltas_in, begun, grown_by, grown_in, GrowsAlone}
-use Rattle.wavelet_shelf.proofs.Names.{own, unlike, unlike_above, decided, below_none, lower, any, tied, even, turned}
+use Rattle.wavelet_shelf.proofs.Names.{own, unlike, unlike_above, decided, lower, any, tied, even, turned}
 
 abbrev pub put_by : Ordering → Hosted → Hosted → List Hosted → List Hosted → List Hosted
 put_by Less x h hs rest = x ∷ h ∷ hs

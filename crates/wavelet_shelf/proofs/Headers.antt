@@ -1,5 +1,5 @@
 -- A file that stands for a record has its name in the header.
-use Rattle.std.proofs.Common.{◌≡◌, ◌≢◌, inl, inr, ℕ, ◌<◌, ◌^◌, List, [], ◌∷◌, ◌++◌, length, Some, refl, ap, ◌∙◌}
+use Rattle.std.proofs.Common.{◌≢◌, inl, inr, ℕ, ◌<◌, ◌^◌, List, [], ◌∷◌, ◌++◌, length, Some, refl}
 use Rattle.std.proofs.lemmas.List.{append_assoc}
 use Rattle.delta_journal.specs.File.{StandsFor, HasName, IsWhole, header, framed, blocks}
 

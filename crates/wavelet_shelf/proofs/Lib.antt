@@ -15,3 +15,4 @@ pub mod Refusing
 pub mod Sorting
 pub mod Opening
 pub mod Reading
+pub mod Parting

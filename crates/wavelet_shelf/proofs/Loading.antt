@@ -2,34 +2,31 @@
 --     begun_loading        none was
 --     passed_over          one that isn't a wavelet's was
 --     went_on              a wavelet's was
-use Rattle.std.proofs.Common.{◌≡◌, ◌≢◌, ◌⊎◌, inl, inr, ⊎_elim, ℕ, ◌+◌, ◌<◌, ◌^◌, ◌≤◌, Bool, true, false, List, [], ◌∷◌, ◌++◌, length, insert, Option, Some, None, IsSome, IfSome, IsTrue, is_some, refl, sym, ap, subst, ◌∙◌, true≢false, arith}
-use Rattle.std.specs.List.{AllByRecursion}
-use Rattle.std.specs.Map.{lookup, keys_of}
+use Rattle.std.proofs.Common.{◌≡◌, ◌≢◌, ◌⊎◌, inl, inr, ⊎_elim, ℕ, ◌<◌, ◌^◌, ◌≤◌, true, false, List, [], ◌∷◌, ◌++◌, length, Option, Some, None, IsSome, IfSome, IsTrue, is_some, refl, sym, ap, subst, ◌∙◌, true≢false, arith}
+use Rattle.std.specs.Map.{lookup}
 use Rattle.std.specs.Option.{option_map, option_map_or}
-use Rattle.std.specs.Cmp.Lexicographic.{bytes_decides}
 use Rattle.doc_items.specs.Maps.{Key, same_text}
 use Rattle.wave_base.specs.Grammar.{is_wavelet_name}
 use Rattle.wave_base.proofs.Parts.{name-bound}
 use Rattle.wavelet_op.specs.Deltas.{DeltaOf}
 use Rattle.disk_model.specs.Disk.{DiskView}
 use Rattle.disk_model.specs.declared.disk.Disk as disk_of
-use Rattle.delta_journal.specs.File.{HasName, HasNoHeader, NamedOnce, StandsFor, Closed, IsWhole, header, blocks}
-use Rattle.wave_outside.specs.Folders.{IsElsewhere, IsSame}
+use Rattle.delta_journal.specs.File.{HasName, HasNoHeader, NamedOnce}
+use Rattle.wave_outside.specs.Folders.{IsElsewhere}
 use Rattle.wave_outside.specs.declared.folder.Folder as folder_of
-use Rattle.wavelet_container.specs.Containers.{history_of, IsHeld}
+use Rattle.wavelet_container.specs.Containers.{IsHeld}
 use Rattle.wavelet_container.specs.Records.{records_of, StandsForHistory}
-use Rattle.wavelet_container.specs.declared.container.Container.{Container}
 use Rattle.wavelet_container.proofs.Loaded.{history_is_one}
-use Rattle.wavelet_shelf.specs.Entries.{found, hosting, AreInOrder, AreHeld, AreSafe, IsSafe, IsPut}
+use Rattle.wavelet_shelf.specs.Entries.{found, hosting, AreInOrder, AreHeld, AreSafe, IsSafe}
 use Rattle.wavelet_shelf.specs.FileNames.{file_name_of, is_file_name}
-use Rattle.wavelet_shelf.specs.Folders.{is_among, IsPassed, IsAdded, IsFileRead, IsFileBack, IsLooked, IsLoading}
+use Rattle.wavelet_shelf.specs.Folders.{is_among, IsPassed, IsAdded, IsFileBack, IsLooked, IsLoading}
 use Rattle.wavelet_shelf.specs.Hosting.{deltas_in}
-use Rattle.wavelet_shelf.specs.Loads.{ReadsAsBefore, IsAsBefore, IsReadFrom}
+use Rattle.wavelet_shelf.specs.Loads.{IsAsBefore, IsReadFrom}
 use Rattle.wavelet_shelf.specs.declared.filed.Filed.{Filed}
 use Rattle.wavelet_shelf.proofs.Among.{more, last, split, neither}
 use Rattle.wavelet_shelf.proofs.FileName.{own_form}
 use Rattle.wavelet_shelf.proofs.Headers.{name_in}
-use Rattle.wavelet_shelf.proofs.Names.{decided, same_or_not}
+use Rattle.wavelet_shelf.proofs.Names.{same_or_not}
 use Rattle.wavelet_shelf.proofs.Placing.{deltas_hosting, all_put, found_put, others_put, length_keys}
 use Rattle.wavelet_shelf.proofs.Shelving.{deltas_of}
 

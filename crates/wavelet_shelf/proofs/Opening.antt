@@ -1,8 +1,7 @@
 -- What comes of one file.
 --     step_read, step_passed, step_refused      its history came to the others; it stands for none; it wasn't read
 --     step_kept                                 its disk wasn't handed out
-use Rattle.std.proofs.Common.{◌≡◌, ◌≢◌, inl, inr, ⊎_elim, ℕ, ◌+◌, ◌-◌, ◌^◌, ◌≤◌, min, Bool, true, false, List, [], ◌∷◌, length, insert, Option, Some, None, Ok, Err, Result, IsSome, IfSome, IsTrue, is_some, string_bytes, refl, sym, ap, subst, ◌∙◌, true≢false, arith, le_refl}
-use Rattle.std.specs.Result.{IsErrOf}
+use Rattle.std.proofs.Common.{◌≡◌, inl, inr, ⊎_elim, ℕ, ◌+◌, ◌-◌, ◌^◌, ◌≤◌, min, Bool, true, false, List, insert, Option, Some, None, Ok, Err, Result, IsSome, IfSome, IsTrue, is_some, string_bytes, refl, sym, ap, subst, ◌∙◌, true≢false, arith}
 use Rattle.doc_items.specs.Maps.{Key}
 use Rattle.disk_model.specs.Disk.{DiskView, OnlyRead, LeavesJust, Rose as HasRisen}
 use Rattle.disk_model.specs.declared.disk.Disk as disk_of
@@ -10,18 +9,16 @@ use Rattle.delta_journal.specs.File.{HasName, HasNoHeader}
 use Rattle.delta_journal.specs.Journal.{on_disk, needs_repair}
 use Rattle.delta_journal.specs.declared.journal.Journal.{Journal}
 use Rattle.wave_outside.specs.Counts.{Rose}
-use Rattle.wave_outside.specs.Folders.{IsSameFile, IsEmptyFile, IsHanded, IsPutBack, IsElsewhere, IsSame}
+use Rattle.wave_outside.specs.Folders.{IsSameFile, IsHanded, IsPutBack, IsElsewhere, IsSame}
 use Rattle.wave_outside.specs.declared.folder.Folder as folder_of
 use Rattle.wavelet_container.specs.Containers.{history_of, journal_of, IsHeld}
 use Rattle.wavelet_container.specs.Records.{StandsForHistory, IsDamagedHistory}
 use Rattle.wavelet_container.specs.declared.container.Container.{Container}
-use Rattle.wavelet_container.specs.declared.fault.LoadFault.{LoadFault}
 use Rattle.wavelet_container.specs.declared.fault.LoadFault.TheVariants.{Damaged, DiskFault}
 use Rattle.wavelet_container.specs.declared.load.LoadRefused.{LoadRefused}
-use Rattle.wavelet_shelf.specs.Entries.{faults_of, faults_in, IsNamed, IsPut}
+use Rattle.wavelet_shelf.specs.Entries.{faults_of, faults_in, IsPut}
 use Rattle.wavelet_shelf.specs.Faults.{damage_of}
-use Rattle.wavelet_shelf.specs.FileNames.{file_name_of}
-use Rattle.wavelet_shelf.specs.Folders.{most_faults, IsPassed, IsAdded, IsFileRead, IsFileBack, IsFileStep, faults_with}
+use Rattle.wavelet_shelf.specs.Folders.{most_faults, IsFileStep}
 use Rattle.wavelet_shelf.specs.Loads.{ReadsAsBefore, IsAsBefore, IsReadAs, IsReadFrom, IsOwnName, IsRefused, IsRefusedFile, IsOpenedAs, IsPassedAs, IsOpened, IsUnopened}
 use Rattle.wavelet_shelf.specs.declared.fault.ShelfFault.{ShelfFault}
 use Rattle.wavelet_shelf.specs.declared.fault.ShelfFault.TheVariants.{Failed}

@@ -8,14 +8,13 @@
 --     after_put, none_put    what is shown of a new one, with a delta and without
 --     keys_ascend            the keys ascend then
 --     all_set, all_put       what is so of each entry is so then
-use Rattle.std.proofs.Common.{Less, Equal, Greater, ◌≡◌, ◌≢◌, ℕ, zero, suc, ◌+◌, ◌<◌, ◌≤◌, ◌⊎◌, inl, inr, ⊎_elim, Bool, true, false, cond, List, [], ◌∷◌, ◌++◌, length, get_or, take, drop, insert, map, nat_eq, Option, Some, None, Ok, Err, refl, sym, ap, subst, ◌∙◌, true≢false, arith}
-use Rattle.std.specs.Cmp.Lexicographic.{slice_cmp, pointwise, bytes_decides}
+use Rattle.std.proofs.Common.{Less, Equal, ◌≡◌, ◌≢◌, ℕ, zero, suc, ◌+◌, ◌<◌, ◌≤◌, ⊎_elim, Bool, true, false, cond, List, [], ◌∷◌, ◌++◌, length, get_or, insert, map, Some, None, refl, sym, ap, subst, ◌∙◌, arith}
+use Rattle.std.specs.Cmp.Lexicographic.{slice_cmp, bytes_decides}
 use Rattle.std.specs.Option.{option_map_or}
-use Rattle.std.specs.Ordering.{nat_cmp, is_lt, ordering_reverse, ordering_index}
-use Rattle.std.specs.List.{AllByRecursion, AllWithin, HoldsAt, position_or_len}
-use Rattle.std.specs.List.Sorted.{IsSorted, IsBinarySearchResult, IsPartitionPoint}
+use Rattle.std.specs.Ordering.{nat_cmp, is_lt, ordering_reverse}
+use Rattle.std.specs.List.{AllByRecursion, HoldsAt, position_or_len}
+use Rattle.std.specs.List.Sorted.{IsSorted}
 use Rattle.std.specs.Map.{lookup, keys_of, set_value}
-use Rattle.std.specs.declared.cmp.Ordering.{Ordering}
 use Rattle.std.proofs.lemmas.Cmp.{nat_list_cmp_total}
 use Rattle.std.proofs.lemmas.Bool.{cases_lt, le-ltb}
 use Rattle.std.proofs.lemmas.List.{get_or_past}
@@ -29,7 +28,7 @@ use Rattle.wavelet_op.specs.Deltas.{DeltaOf}
 use Rattle.delta_history.specs.Copying.{AscendFrom, AreAscending}
 use Rattle.wavelet_shelf.specs.Entries.{shown, IsPlace}
 use Rattle.wavelet_shelf.specs.Hosting.{Hosted, names_of, deltas_in, grown_in}
-use Rattle.wavelet_shelf.proofs.Names.{own, decided, unlike, lower, any, tied, even, turned, below_none}
+use Rattle.wavelet_shelf.proofs.Names.{own, decided, lower, any, tied, even, turned, below_none}
 use Rattle.wavelet_shelf.proofs.Growing.{put_in, put_by, hosted, names_put, deltas_shown, shown_grown, shown_none}
 
 no_value : {X T : Type 0} {x : X} → None ≡ Some x → T

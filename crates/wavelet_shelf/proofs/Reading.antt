@@ -1,8 +1,7 @@
 -- A folder whose files were looked at.
 --     loaded_ok, loaded_err, unlisted      each was read; one wasn't; they weren't listed
-use Rattle.std.proofs.Common.{◌≡◌, ◌≢◌, ◌⊎◌, ⊎_elim, ℕ, zero, suc, ◌+◌, ◌-◌, ◌^◌, ◌<◌, ◌≤◌, min, Bool, true, false, List, [], ◌∷◌, ◌++◌, length, take, get_or, map, Option, Some, None, Ok, Err, Result, IsSome, IfSome, IsTrue, is_some, refl, sym, ap, subst, ◌∙◌, true≢false, arith}
+use Rattle.std.proofs.Common.{◌≡◌, ◌≢◌, ◌⊎◌, ⊎_elim, ℕ, zero, suc, ◌+◌, ◌^◌, ◌<◌, ◌≤◌, min, true, false, List, [], ◌∷◌, ◌++◌, length, take, get_or, map, Option, Some, None, Ok, Err, Result, IsSome, IfSome, IsTrue, is_some, refl, sym, ap, subst, ◌∙◌, true≢false, arith}
 use Rattle.std.specs.List.{AllByRecursion}
-use Rattle.std.specs.Result.{IsErrOf}
 use Rattle.std.specs.List.{take-map}
 use Rattle.std.proofs.lemmas.List.{map-append, take_more}
 use Rattle.std.specs.Map.{keys_of}
@@ -18,7 +17,7 @@ use Rattle.wavelet_container.specs.Records.{StandsForHistory}
 use Rattle.wavelet_shelf.specs.Entries.{found, faults_in, hosting, AreInOrder}
 use Rattle.wavelet_shelf.specs.Faults.{damage_of}
 use Rattle.wavelet_shelf.specs.FileNames.{file_name_of}
-use Rattle.wavelet_shelf.specs.Folders.{most_faults, is_among, faults_with, ArePutBack, IsSkipped, IsFileRead, IsFileStep, IsLooked, IsLoading, IsAllStep, IsLoadedAs}
+use Rattle.wavelet_shelf.specs.Folders.{most_faults, is_among, faults_with, ArePutBack, IsSkipped, IsFileRead, IsFileStep, IsLoading, IsAllStep, IsLoadedAs}
 use Rattle.wavelet_shelf.specs.Hosting.{deltas_in}
 use Rattle.wavelet_shelf.specs.Loads.{IsAsBefore, IsReadFrom, IsRefusedFile}
 use Rattle.wavelet_shelf.specs.declared.fault.ShelfFault.{ShelfFault}

@@ -1,7 +1,7 @@
 -- Disks that are put back after a refusal.
 --     all_of_found      what is so of each name's entry is so of each entry
 --     after_refusal     each file reads as before
-use Rattle.std.proofs.Common.{Less, ◌≡◌, ◌≢◌, ◌⊎◌, inl, inr, ⊎_elim, ℕ, Bool, true, false, cond, List, [], ◌∷◌, Option, Some, None, IsSome, IfSome, IsTrue, refl, sym, ap, subst, ◌∙◌, true≢false}
+use Rattle.std.proofs.Common.{Less, ◌≡◌, ◌≢◌, inr, ⊎_elim, ℕ, Bool, true, false, cond, List, [], ◌∷◌, Option, Some, None, IsSome, IfSome, IsTrue, refl, sym, ap, subst, ◌∙◌, true≢false}
 use Rattle.std.specs.Cmp.Lexicographic.{slice_cmp, bytes_decides}
 use Rattle.std.specs.Ordering.{nat_cmp}
 use Rattle.std.specs.List.{AllByRecursion}
@@ -9,7 +9,6 @@ use Rattle.std.specs.Map.{lookup, keys_of}
 use Rattle.std.specs.Option.{option_map}
 use Rattle.doc_items.specs.Maps.{Key, same_text}
 use Rattle.delta_history.specs.Copying.{AreAscending}
-use Rattle.disk_model.specs.Disk.{DiskView}
 use Rattle.disk_model.specs.declared.disk.Disk as disk_of
 use Rattle.delta_journal.specs.Journal.{on_disk}
 use Rattle.wave_outside.specs.Folders.{IsPutBack}
@@ -19,7 +18,7 @@ use Rattle.wavelet_container.specs.declared.container.Container.{Container}
 use Rattle.wavelet_shelf.specs.Entries.{found}
 use Rattle.wavelet_shelf.specs.FileNames.{file_name_of}
 use Rattle.wavelet_shelf.specs.Folders.{IsBack, ArePutBack, IsLooked}
-use Rattle.wavelet_shelf.specs.Loads.{IsAsBefore, IsReadFrom, IsReadAs}
+use Rattle.wavelet_shelf.specs.Loads.{IsAsBefore, IsReadFrom}
 use Rattle.wavelet_shelf.specs.declared.filed.Filed.{Filed}
 use Rattle.wavelet_shelf.proofs.Names.{own, any, below_none, decided, same_or_not}
 use Rattle.wavelet_shelf.proofs.Placing.{found_above}

@@ -4,7 +4,7 @@
 --     apart_in                     where no two names have one file, no two entries have
 --     back_of, stored_of           what stands in the folder then for a name
 --     no_file                      a file that is no name's is no entry's
-use Rattle.std.proofs.Common.{Less, ◌≡◌, ◌≢◌, ℕ, ◌+◌, ◌-◌, ◌^◌, min, Bool, true, false, cond, List, [], ◌∷◌, ◌++◌, Option, Some, None, IsSome, IfSome, IsTrue, is_some, string_bytes, refl, sym, ap, subst, ◌∙◌, true≢false, arith, append-nil}
+use Rattle.std.proofs.Common.{Less, ◌≡◌, ◌≢◌, ℕ, ◌+◌, min, Bool, true, false, cond, List, [], ◌∷◌, ◌++◌, Option, Some, None, IsSome, IfSome, string_bytes, refl, sym, ap, subst, ◌∙◌, arith, append-nil}
 use Rattle.std.specs.Cmp.Lexicographic.{slice_cmp}
 use Rattle.std.specs.Ordering.{nat_cmp}
 use Rattle.std.specs.List.{AllByRecursion}
@@ -16,7 +16,6 @@ use Rattle.doc_items.specs.Maps.{Key, same_text}
 use Rattle.delta_history.specs.Copying.{AscendFrom, AreAscending}
 use Rattle.disk_model.specs.declared.disk.Disk as disk_of
 use Rattle.delta_journal.specs.Journal.{on_disk}
-use Rattle.delta_journal.specs.declared.journal.Journal.{Journal}
 use Rattle.wave_outside.specs.Folders.{IsPutBack, IsElsewhere, IsSame}
 use Rattle.wave_outside.specs.declared.folder.Folder as folder_of
 use Rattle.wavelet_container.specs.Containers.{history_of, journal_of}
@@ -25,7 +24,7 @@ use Rattle.wavelet_container.specs.declared.container.Container.{Container}
 use Rattle.wavelet_shelf.specs.Entries.{found, faults_in, AreInOrder, IsNamed, HaveRoom, AreSafe, IsSafe}
 use Rattle.wavelet_shelf.specs.FileNames.{file_name_of}
 use Rattle.wavelet_shelf.specs.Folders.{most_faults, IsBack, AreFiledApart, IsOneBack, ArePutBack}
-use Rattle.wavelet_shelf.specs.Loads.{IsStoredFile, StandsAs}
+use Rattle.wavelet_shelf.specs.Loads.{IsStoredFile}
 use Rattle.wavelet_shelf.specs.Shelves.{in_folder, entries_of, HasFile}
 use Rattle.wavelet_shelf.specs.declared.filed.Filed.{Filed}
 use Rattle.wavelet_shelf.specs.declared.shelf.Shelf.{Shelf}

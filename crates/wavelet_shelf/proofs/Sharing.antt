@@ -2,7 +2,7 @@
 --     copy_alike        the copy of a name is its hosted history
 --     have_deltas       what is shown has deltas
 --     named_copy        the copy of a name has it
-use Rattle.std.proofs.Common.{Less, ◌≡◌, ◌≢◌, ◌==◌, ℕ, zero, suc, ◌-◌, length, true≢false, arith, Bool, true, false, cond, List, [], ◌∷◌, slice_get, Option, Some, None, IsSome, IfSome, option_copied, Bor, refl, sym, ap, subst, ◌∙◌}
+use Rattle.std.proofs.Common.{Less, ◌≡◌, ◌≢◌, ◌==◌, ℕ, zero, suc, ◌-◌, length, true≢false, arith, true, false, cond, List, [], ◌∷◌, slice_get, Option, Some, None, IsSome, IfSome, option_copied, Bor, refl, sym, ap, subst, ◌∙◌}
 use Rattle.std.specs.Cmp.Lexicographic.{slice_cmp}
 use Rattle.std.specs.Ordering.{nat_cmp}
 use Rattle.std.proofs.lemmas.Cmp.{nat_list_cmp_total}
@@ -14,7 +14,6 @@ use Rattle.delta_history.specs.Copying.{AscendFrom, AreAscending}
 use Rattle.delta_history.specs.Histories.{HistoryOf}
 use Rattle.disk_model.specs.declared.disk.Disk.{Ghosts}
 use Rattle.wavelet_container.specs.Containers.{history_of}
-use Rattle.wavelet_container.specs.declared.container.Container.{Container}
 use Rattle.wavelet_shelf.specs.Entries.{found, shown, shown_by, hosting, AreInOrder, IsNamed}
 use Rattle.wavelet_shelf.specs.Hosting.{Hosted, names_of, deltas_in, copy_of, copy_in, IsCopyOf, HaveDeltas}
 use Rattle.wavelet_shelf.specs.Shelves.{shown_of, shown_copy}

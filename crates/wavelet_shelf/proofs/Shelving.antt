@@ -3,9 +3,10 @@
 --     after_first         the name's first container did, and came to the others
 --     after_nothing       nothing was accepted where the name isn't there
 --     after_fault         nothing was answered, and the folder may have failed
-use Rattle.std.proofs.Common.{◌≡◌, ◌≢◌, ◌==◌, ℕ, ◌+◌, ◌-◌, ◌^◌, ◌≤◌, min, Bool, true, false, List, [], ◌∷◌, ◌++◌, length, insert, Option, Some, None, Ok, Err, IsSome, IfSome, is_some, IfOk, OnOk, Result, string_bytes, refl, sym, ap, subst, ◌∙◌, arith, le_refl, append-nil, true≢false}
+--     apart_after         where no name has the file of the new one, no two names have one file
+use Rattle.std.proofs.Common.{◌≡◌, ◌≢◌, ◌==◌, ⊎_elim, ◌↔◌, ℕ, ◌+◌, ◌-◌, ◌^◌, ◌≤◌, min, Bool, true, false, List, [], ◌∷◌, ◌++◌, length, insert, Option, Some, None, Ok, Err, IsSome, IfSome, is_some, IfOk, Result, string_bytes, refl, sym, ap, subst, ◌∙◌, arith, le_refl, append-nil, true≢false}
 use Rattle.std.specs.Result.{IsErrOf, IsOk}
-use Rattle.std.specs.List.{AllByRecursion, position_or_len}
+use Rattle.std.specs.List.{position_or_len}
 use Rattle.std.specs.Map.{lookup, keys_of, set_value}
 use Rattle.std.specs.Option.{option_map, option_map_or, option_to_list}
 use Rattle.std.specs.Cmp.Lexicographic.{slice_cmp}
@@ -14,32 +15,32 @@ use Rattle.indexmap.specs.Calls.{IsSearchIndex}
 use Rattle.indexmap.specs.IndexMap.{move_index, insert_entry, index_before}
 use Rattle.std.proofs.lemmas.Bool.{eqb-true}
 use Rattle.std.proofs.lemmas.Map.{keys-set_value}
-use Rattle.std.proofs.lemmas.Result.{IfOk-weaker, on_ok_weaker, on_err_weaker}
+use Rattle.std.proofs.lemmas.Result.{on_ok_weaker, on_err_weaker}
 use Rattle.doc_items.specs.Maps.{Key, same_text}
 use Rattle.wavelet_op.specs.Deltas.{DeltaOf}
 use Rattle.wavelet_op.specs.declared.delta.Submission.{Submission}
 use Rattle.wavelet_op.specs.declared.verdict.Verdict.{Verdict}
 use Rattle.delta_history.specs.Copying.{AreAscending}
-use Rattle.delta_history.specs.Histories.{HistoryOf, IsSameHistory}
 use Rattle.delta_history.specs.Verdicts.{Judged, judge}
 use Rattle.disk_model.specs.declared.disk.Disk as disk_of
 use Rattle.wave_outside.specs.Counts.{Rose}
 use Rattle.wave_outside.specs.declared.folder.Folder as folder_of
-use Rattle.wavelet_container.specs.Containers.{history_of, IsHeld}
+use Rattle.wavelet_container.specs.Containers.{history_of, journal_of, IsHeld}
 use Rattle.wavelet_container.specs.Decisions.{judged}
 use Rattle.wavelet_container.specs.Stores.{IsGrownBy}
 use Rattle.wavelet_container.specs.declared.container.Container.{Container}
 use Rattle.wavelet_container.specs.declared.fault.SubmitFault.{SubmitFault}
 use Rattle.wavelet_container.specs.declared.fault.SubmitFault.TheVariants.{DiskFault}
-use Rattle.wavelet_shelf.specs.Entries.{found, shown, hosting, IsNamed, AreInOrder, IsPut, faults_of, faults_in, AreHeld, AreSafe, IsSafe, HaveRoom, HaveRoomIn}
+use Rattle.wavelet_shelf.specs.Entries.{found, shown, hosting, IsNamed, AreInOrder, IsPut, faults_of, faults_in, AreHeld, AreSafe, IsSafe, HaveRoom, FitsFolder, FitFolder}
 use Rattle.wavelet_shelf.specs.FileNames.{file_name_of}
-use Rattle.wavelet_shelf.specs.Hosting.{Hosted, deltas_in, grown_in, with_added, judged_in, after_submission}
-use Rattle.wavelet_shelf.specs.Shelves.{entries_of, in_folder, container_in, hosted_of, folder_faults, fault_count, IsKept, IsSettled}
+use Rattle.wavelet_shelf.specs.Hosting.{deltas_in, with_added, judged_in}
+use Rattle.wavelet_shelf.specs.Shelves.{entries_of, in_folder, container_in, hosted_of, folder_faults, fault_count, IsKept, AreApart}
 use Rattle.wavelet_shelf.specs.Steps.{IsTaken, IsAnswered, IsHosted}
 use Rattle.wavelet_shelf.specs.declared.filed.Filed.{Filed}
 use Rattle.wavelet_shelf.specs.declared.shelf.Shelf.{Shelf}
 use Rattle.wavelet_shelf.proofs.Answering.{name_after}
-use Rattle.wavelet_shelf.proofs.Placing.{hist, deltas_hosting, after_set, same_set, after_put, none_put, all_set, all_put, all_found, found_set, others_set, found_put, others_put, length_keys, keys_ascend, front_ascends, all_front, place, put_at}
+use Rattle.wavelet_shelf.proofs.Names.{same_or_not}
+use Rattle.wavelet_shelf.proofs.Placing.{deltas_hosting, after_set, same_set, after_put, none_put, all_set, all_put, all_found, found_set, others_set, found_put, others_put, length_keys, keys_ascend, front_ascends, all_front, place, put_at}
 use Rattle.wavelet_shelf.proofs.Sums.{total, sum_set, sum_has, sum_put, sum_later, sum_rose}
 
 no_cons : {X T : Type 0} {x : X} {xs : List X} → [] ≡ x ∷ xs → T
@@ -52,7 +53,7 @@ no_more (x ∷ ds) d e = no_cons e
 pub same_Err : {T E : Type 0} {x y : E} → ◌≡◌ {A = Result T E} (Err x) (Err y) → x ≡ y
 same_Err e = cc
 
-ok_err : {T E : Type 0} {x : T} {y : E} → ◌≡◌ {A = Result T E} (Ok x) (Err y) → ⊥
+pub ok_err : {T E : Type 0} {x : T} {y : E} → ◌≡◌ {A = Result T E} (Ok x) (Err y) → ⊥
 ok_err e = cc
 
 first_later : (f h w s t m : ℕ) → t ≡ s + w → f ≤ h → min (f + s) m ≤ min (h + t) m
@@ -100,12 +101,49 @@ module _ {K : Type 0} {disk : disk_of.Ghosts K} where
   taken_name s t c after (Ok v) x = name_after (history_of c) (history_of after) (judged (history_of c) s t).1 x.grown
   taken_name s t c after (Err e) x = x.same.name
 
+-- ---- the folder
+
+module _ {F D : Type 0} {disk : disk_of.Ghosts D} (room : F → List ℕ → Bool) where
+  abbrev Fits : Option F → Key × Filed D disk → Type 0
+  Fits folder e = FitsFolder room folder e
+
+  pub folder_there : (folder : Option F) (es : List (Key × Filed D disk)) (n : Key) (old : Filed D disk) → lookup (same_text n) es ≡ Some old → FitFolder room folder es → IsSome (journal_of old.container) → IsSome folder
+  folder_there None es n old was fit some = absurd (true≢false (sym some ∙ all_found deltas_of (λ e. Fits None e) es n old fit was))
+  folder_there (Some f) es n old was fit some = refl
+
+  fits_still : (folder : Option F) (n : Key) (old new : Filed D disk) → (is_some (journal_of old.container) ≡ false → is_some (journal_of new.container) ≡ false) → Fits folder (n, old) → Fits folder (n, new)
+  fits_still None n old new plain fits = plain fits
+  fits_still (Some f) n old new plain fits = fits
+
+  pub fit_set : (folder : Option F) (es es' : List (Key × Filed D disk)) (n : Key) (old new : Filed D disk) → lookup (same_text n) es ≡ Some old → es' ≡ set_value (same_text n) es new
+      → (is_some (journal_of old.container) ≡ false → is_some (journal_of new.container) ≡ false) → FitFolder room folder es → FitFolder room folder es'
+  fit_set folder es es' n old new was is plain fit =
+      subst (λ l. FitFolder room folder l) (sym is) (all_set deltas_of (λ e. Fits folder e) es n new fit (fits_still folder n old new plain (all_found deltas_of (λ e. Fits folder e) es n old fit was)))
+
+  pub fit_put : (folder : Option F) (es es' : List (Key × Filed D disk)) (n : Key) (filed : Filed D disk) → IsPut n filed es es' → FitsFolder room folder (n, filed) → FitFolder room folder es → FitFolder room folder es'
+  fit_put folder es es' n filed put fits fit =
+      subst (λ l. FitFolder room folder l) (sym put.is) (all_put deltas_of (λ e. Fits folder e) es put.at (n, filed) (subst (λ k. put.at ≤ k) (length_keys es) put.place.inside) fit fits)
+
+  pub fits_there : (folder : Option F) (e : Key × Filed D disk) → IsSome folder → IfSome folder (λ f. room f (file_name_of e.0) ≡ true) → FitsFolder room folder e
+  fits_there None e some here = absurd (true≢false (sym some))
+  fits_there (Some f) e some here = here
+
+  pub fits_plain : (folder : Option F) (e : Key × Filed D disk) → folder ≡ None → is_some (journal_of e.1.container) ≡ false → FitsFolder room folder e
+  fits_plain None e none plain = plain
+  fits_plain (Some f) e none plain = absurd (true≢false (ap is_some none))
+
+  pub room_kept : (f g : F) (es : List (Key × Filed D disk)) → ((m : List ℕ) → room f m ≡ true → room g m ≡ true) → HaveRoom (room f) es → HaveRoom (room g) es
+  room_kept f g [] keeps there = tt
+  room_kept f g (e ∷ es) keeps there = (keeps (file_name_of e.0) there.0, room_kept f g es keeps there.1)
+
+-- ---- shelves
+
 module _ {F D : Type 0} {folder : folder_of.Ghosts F D} {disk : disk_of.Ghosts D} (a b : Shelf F D folder disk) (n : Key) (s : Submission) (t : ℕ) where
   told_by : (c : Container D disk) → judged (history_of c) s t ≡ judged_in (hosted_of a) n s t → (r : Result Verdict SubmitFault) → IfOk r (λ v. v ≡ (judged (history_of c) s t).0) → IfOk r (λ v. v ≡ (judged_in (hosted_of a) n s t).0)
   told_by c same r v = subst (λ (j : Judged). IfOk r (λ v. v ≡ j.0)) same v
 
-  pub after_answer : (r : Result Verdict SubmitFault) → AreInOrder (entries_of a) → in_folder b ≡ in_folder a → IsAnswered n s t (entries_of a) (entries_of b) r → IsHosted n s t a b r
-  after_answer r order same x =
+  pub after_answer : (r : Result Verdict SubmitFault) → AreInOrder (entries_of a) → FitFolder folder.room (in_folder a) (entries_of a) → in_folder b ≡ in_folder a → IsAnswered n s t (entries_of a) (entries_of b) r → IsHosted n s t a b r
+  after_answer r order fit same x =
       let es = entries_of a in
       let c = x.old.container in
       let judges = judged_same es n s t c (old_name es n x.old x.new order x.was) (old_deltas es n x.old x.new order x.was) in
@@ -131,6 +169,8 @@ module _ {F D : Type 0} {folder : folder_of.Ghosts F D} {disk : disk_of.Ghosts D
         later = sum_later (folder_faults folder.faults (in_folder a)) (folder_faults folder.faults (in_folder b)) (faults_of c) (faults_of x.new.container) (faults_in es) (faults_in (entries_of b)) (2 ^ 64 - 1) sums x.taken.later (subst (λ o. folder_faults folder.faults (in_folder a) ≤ folder_faults folder.faults o) (sym same) (le_refl _));
         failed = λ e. subst (λ o. Rose (fault_count a) (min (folder_faults folder.faults o + faults_in (entries_of b)) (2 ^ 64 - 1))) (sym same)
             (sum_rose (folder_faults folder.faults (in_folder a)) (faults_of c) (faults_of x.new.container) (faults_in es) (faults_in (entries_of b)) (2 ^ 64 - 1) sums (subst (λ m. faults_of c ≤ m) (sym (faults_total es)) (sum_has count_of es n x.old x.was)) (x.taken.failed e));
+        disk_there = λ e. folder_there folder.room (in_folder a) es n x.old x.was fit (x.taken.filed e);
+        same_folder = (λ some. subst (λ o. IsSome o) (sym same) some, λ some. subst (λ o. IsSome o) same some);
       }
 
   -- what is known of the first container of a name
@@ -144,9 +184,9 @@ module _ {F D : Type 0} {folder : folder_of.Ghosts F D} {disk : disk_of.Ghosts D
   put_grown filed c order put empty None same = ap hosting put.is ∙ none_put deltas_of (entries_of a) n filed put.at order.0 put.absent put.place (same.deltas ∙ empty)
   put_grown filed c order put empty (Some d) grown = ap hosting put.is ∙ after_put deltas_of (entries_of a) n filed put.at d order.0 put.absent put.place (grown.deltas ∙ ap (λ ds. ds ++ d ∷ []) empty)
 
-  pub after_first : (r : Result Verdict SubmitFault) (c : Container D disk) (filed : Filed D disk) → AreInOrder (entries_of a) → (IsSome (in_folder a) → IsSome (in_folder b)) → folder_faults folder.faults (in_folder a) ≤ folder_faults folder.faults (in_folder b)
+  pub after_first : (r : Result Verdict SubmitFault) (c : Container D disk) (filed : Filed D disk) → AreInOrder (entries_of a) → (IsErrOf r DiskFault → IsSome (in_folder a)) → (IsSome (in_folder a) ↔ IsSome (in_folder b)) → folder_faults folder.faults (in_folder a) ≤ folder_faults folder.faults (in_folder b)
       → IsFirst c → IsTaken s t c filed.container r → IsPut n filed (entries_of a) (entries_of b) → IsHosted n s t a b r
-  after_first r c filed order same counts first taken put =
+  after_first r c filed order there same counts first taken put =
       let es = entries_of a in
       let inside = subst (λ k. put.at ≤ k) (length_keys es) put.place.inside in
       let none = deltas_hosting deltas_of es n order.0 ∙ ap (λ o. option_map_or deltas_of o []) put.absent in
@@ -161,7 +201,7 @@ module _ {F D : Type 0} {folder : folder_of.Ghosts F D} {disk : disk_of.Ghosts D
         others = λ m other. ap (λ l. found l m) put.is ∙ ap (λ o. option_map (λ f. f.container) o) (others_put es n filed put.at m other inside);
         kept = λ k. record {
           told = k.told;
-          filed = same k.filed;
+          filed = same.0 k.filed;
           held = subst AreHeld (sym put.is) (all_put deltas_of (λ e. IsHeld e.1.container) es put.at (n, filed) inside k.held (taken.held (first.held k)));
         };
         safe = on_ok_weaker r
@@ -172,20 +212,42 @@ module _ {F D : Type 0} {folder : folder_of.Ghosts F D} {disk : disk_of.Ghosts D
             taken.safe;
         later = first_later (folder_faults folder.faults (in_folder a)) (folder_faults folder.faults (in_folder b)) (faults_of filed.container) (faults_in es) (faults_in (entries_of b)) (2 ^ 64 - 1) sums counts;
         failed = λ e. first_rose (folder_faults folder.faults (in_folder a)) (folder_faults folder.faults (in_folder b)) (faults_of c) (faults_of filed.container) (faults_in es) (faults_in (entries_of b)) (2 ^ 64 - 1) sums counts first.unfailed (taken.failed e);
+        disk_there = there;
+        same_folder = same;
       }
 
-  pub after_fault : (e : SubmitFault) → entries_of b ≡ entries_of a → (IsSome (in_folder a) → IsSome (in_folder b)) → folder_faults folder.faults (in_folder a) ≤ folder_faults folder.faults (in_folder b) → (e ≡ DiskFault → Rose (folder_faults folder.faults (in_folder a)) (folder_faults folder.faults (in_folder b))) → IsHosted n s t a b (Err e)
-  after_fault e is same counts rose = record {
+  pub after_fault : (e : SubmitFault) → entries_of b ≡ entries_of a → (e ≡ DiskFault → IsSome (in_folder a)) → (IsSome (in_folder a) ↔ IsSome (in_folder b)) → folder_faults folder.faults (in_folder a) ≤ folder_faults folder.faults (in_folder b) → (e ≡ DiskFault → Rose (folder_faults folder.faults (in_folder a)) (folder_faults folder.faults (in_folder b))) → IsHosted n s t a b (Err e)
+  after_fault e is there same counts rose = record {
     verdict = tt;
     grown = tt;
     same = ap hosting is;
     others = λ m other. ap (λ l. found l m) is;
-    kept = λ k. record { told = k.told; filed = same k.filed; held = subst AreHeld (sym is) k.held };
+    kept = λ k. record { told = k.told; filed = same.0 k.filed; held = subst AreHeld (sym is) k.held };
     safe = tt;
     settled = tt;
     later = same_later (folder_faults folder.faults (in_folder a)) (folder_faults folder.faults (in_folder b)) (faults_in (entries_of a)) (faults_in (entries_of b)) (2 ^ 64 - 1) (ap faults_in is) counts;
     failed = λ r. same_rose (folder_faults folder.faults (in_folder a)) (folder_faults folder.faults (in_folder b)) (faults_in (entries_of a)) (faults_in (entries_of b)) (2 ^ 64 - 1) (ap faults_in is) (rose (same_Err r));
+    disk_there = λ r. there (same_Err r);
+    same_folder = same;
   }
+
+  abbrev NoneShares : Type 0
+  NoneShares = (m : Key) → IsSome (container_in a m) → file_name_of m ≡ file_name_of n → m ≡ n
+
+  still_there : ((m : Key) → m ≢ n → container_in b m ≡ container_in a m) → (m : Key) → m ≢ n → IsSome (container_in b m) → IsSome (container_in a m)
+  still_there others m other some = subst (λ o. IsSome o) (others m other) some
+
+  pub apart_after : ((m : Key) → m ≢ n → container_in b m ≡ container_in a m) → AreApart a → NoneShares → AreApart b
+  apart_after others apart alone k m one two same = ⊎_elim
+      (λ is. ⊎_elim
+      (λ too. is ∙ sym too)
+      (λ other. is ∙ sym (alone m (still_there others m other two) (sym same ∙ ap file_name_of is)))
+      (same_or_not m n))
+      (λ other. ⊎_elim
+      (λ too. alone k (still_there others k other one) (same ∙ ap file_name_of too) ∙ sym too)
+      (λ rest. apart k m (still_there others k other one) (still_there others m rest two) same)
+      (same_or_not m n))
+      (same_or_not k n)
 
 module _ {F D : Type 0} {folder : folder_of.Ghosts F D} {disk : disk_of.Ghosts D} (a : Shelf F D folder disk) (n : Key) (s : Submission) (t : ℕ) where
   nothing_added : (c after : Container D disk) (added : Option DeltaOf) → IsGrownBy (history_of c) added (history_of after) → (history_of after).deltas ≡ [] → added ≡ None
@@ -208,22 +270,9 @@ module _ {F D : Type 0} {folder : folder_of.Ghosts F D} {disk : disk_of.Ghosts D
         settled = λ k settled. settled;
         later = le_refl _;
         failed = λ r. absurd (ok_err r);
+        disk_there = λ r. absurd (ok_err r);
+        same_folder = (λ some. some, λ some. some);
       }
-
--- ---- room for the disks
-
-module _ {F D : Type 0} {disk : disk_of.Ghosts D} (room : F → List ℕ → Bool) where
-  pub room_set : (folder : Option F) (es es' : List (Key × Filed D disk)) (n : Key) (old new : Filed D disk) → lookup (same_text n) es ≡ Some old → es' ≡ set_value (same_text n) es new → HaveRoomIn room folder es → HaveRoomIn room folder es'
-  room_set None es es' n old new was is there = tt
-  room_set (Some f) es es' n old new was is there = subst (HaveRoom (room f)) (sym is) (all_set deltas_of (λ e. room f (file_name_of e.0) ≡ true) es n new there (all_found deltas_of (λ e. room f (file_name_of e.0) ≡ true) es n old there was))
-
-  pub room_put : (folder : Option F) (es es' : List (Key × Filed D disk)) (n : Key) (filed : Filed D disk) → IsPut n filed es es' → IfSome folder (λ f. room f (file_name_of n) ≡ true) → HaveRoomIn room folder es → HaveRoomIn room folder es'
-  room_put None es es' n filed put here there = tt
-  room_put (Some f) es es' n filed put here there = subst (HaveRoom (room f)) (sym put.is) (all_put deltas_of (λ e. room f (file_name_of e.0) ≡ true) es put.at (n, filed) (subst (λ k. put.at ≤ k) (length_keys es) put.place.inside) there here)
-
-  pub room_kept : (f g : F) (es : List (Key × Filed D disk)) → ((m : List ℕ) → room f m ≡ true → room g m ≡ true) → HaveRoom (room f) es → HaveRoom (room g) es
-  room_kept f g [] keeps there = tt
-  room_kept f g (e ∷ es) keeps there = (keeps (file_name_of e.0) there.0, room_kept f g es keeps there.1)
 
 -- ---- their order
 

@@ -10,8 +10,9 @@
 --     IsSafe c               the history stands in its file as that reads, and in each image of it, and no repair is pending
 --     AreSafe es             so it is for each
 --     HaveRoom room es       there is room for the disk of each
---     HaveRoomIn room folder es     so it is in the folder, where there is one
-use Rattle.std.specs.Prelude.{◌≡◌, ◌==◌, ℕ, ◌+◌, ◌≤◌, Bool, true, false, List, [], ◌∷◌, length, insert, map, Option, Some, None, string_bytes}
+--     FitsFolder room folder e     there is room for its disk in the folder; without one, it stands in no journal
+--     FitFolder room folder es     so it is for each
+use Rattle.std.specs.Prelude.{◌≡◌, ◌==◌, ℕ, ◌+◌, ◌≤◌, Bool, true, false, List, [], ◌∷◌, length, insert, map, Option, Some, None, is_some, string_bytes}
 use Rattle.std.specs.Cmp.Lexicographic.{pointwise, slice_cmp}
 use Rattle.std.specs.Coded.{Coded-set, coded_ℕ, coded_list, coded_bool, ×_prop, Unit-prop}
 use Rattle.std.specs.List.{AllByRecursion, AllByRecursion-prop, AllWithin}
@@ -22,7 +23,6 @@ use Rattle.std.specs.declared.cmp.Ordering.TheVariants.{Less, Greater}
 use Rattle.doc_items.specs.Maps.{Key}
 use Rattle.wavelet_op.specs.Deltas.{DeltaOf}
 use Rattle.delta_history.specs.Copying.{AscendFrom, AreAscending}
-use Rattle.delta_history.specs.Histories.{HistoryOf}
 use Rattle.disk_model.specs.declared.disk.Disk.{Ghosts}
 use Rattle.delta_journal.specs.Journal.{on_disk, needs_repair, EachImage}
 use Rattle.delta_journal.specs.declared.journal.Journal.{Journal}
@@ -117,10 +117,16 @@ module _ {K : Type 0} {disk : Ghosts K} where
   abbrev pub HaveRoom : (List ℕ → Bool) → List (Key × Filed K disk) → Type 0
   HaveRoom room es = AllByRecursion (λ e. room (file_name_of e.0) ≡ true) es
 
-  abbrev pub HaveRoomIn : {F : Type 0} → (F → List ℕ → Bool) → Option F → List (Key × Filed K disk) → Type 0
-  HaveRoomIn room None es = Unit {0}
-  HaveRoomIn room (Some f) es = HaveRoom (room f) es
+  abbrev pub FitsFolder : {F : Type 0} → (F → List ℕ → Bool) → Option F → Key × Filed K disk → Type 0
+  FitsFolder room None e = is_some (journal_of e.1.container) ≡ false
+  FitsFolder room (Some f) e = room f (file_name_of e.0) ≡ true
 
-  pub HaveRoomIn-prop : {F : Type 0} (room : F → List ℕ → Bool) (folder : Option F) (es : List (Key × Filed K disk)) → IsProp (HaveRoomIn room folder es)
-  HaveRoomIn-prop room None es = Unit-prop
-  HaveRoomIn-prop room (Some f) es = AllByRecursion-prop _ (λ e. Coded-set coded_bool _ _) es
+  abbrev pub FitFolder : {F : Type 0} → (F → List ℕ → Bool) → Option F → List (Key × Filed K disk) → Type 0
+  FitFolder room folder es = AllByRecursion (λ e. FitsFolder room folder e) es
+
+  FitsFolder-prop : {F : Type 0} (room : F → List ℕ → Bool) (folder : Option F) (e : Key × Filed K disk) → IsProp (FitsFolder room folder e)
+  FitsFolder-prop room None e = Coded-set coded_bool _ _
+  FitsFolder-prop room (Some f) e = Coded-set coded_bool _ _
+
+  pub FitFolder-prop : {F : Type 0} (room : F → List ℕ → Bool) (folder : Option F) (es : List (Key × Filed K disk)) → IsProp (FitFolder room folder es)
+  FitFolder-prop room folder es = AllByRecursion-prop _ (FitsFolder-prop room folder) es

@@ -13,7 +13,7 @@
 --     is_among names m           the name is one of them
 --     IsLooked f g es done       of the folder f these files were looked at, and those of the entries were read
 --     IsLoading f g es done      and the entries have each history for which one of these stands
-use Rattle.std.specs.Prelude.{◌≡◌, ◌≢◌, ◌⊎◌, ◌+◌, ◌-◌, ◌^◌, ◌≤◌, min, ℕ, Bool, true, false, List, [], ◌∷◌, Option, Some, None, Result, IsSome, IfSome, IsTrue, IfErr, OnOk, OnErr, IsErrOf}
+use Rattle.std.specs.Prelude.{◌≡◌, ◌≢◌, ◌⊎◌, ◌+◌, ◌-◌, ◌^◌, ◌≤◌, min, ℕ, Bool, true, false, List, [], ◌∷◌, Some, Result, IsSome, IfSome, IsTrue, IfErr, OnOk, OnErr, IsErrOf}
 use Rattle.std.specs.List.{AllByRecursion, list_any}
 use Rattle.doc_items.specs.Maps.{Key, same_text}
 use Rattle.wave_base.specs.Grammar.{is_wavelet_name}
@@ -24,10 +24,10 @@ use Rattle.delta_journal.specs.Journal.{on_disk}
 use Rattle.wave_outside.specs.Counts.{Rose}
 use Rattle.wave_outside.specs.Folders.{IsPutBack, IsElsewhere, IsSame}
 use Rattle.wave_outside.specs.declared.folder.Folder as folder_of
-use Rattle.wavelet_container.specs.Containers.{history_of, journal_of, IsHeld}
+use Rattle.wavelet_container.specs.Containers.{journal_of, IsHeld}
 use Rattle.wavelet_container.specs.Records.{StandsForHistory}
 use Rattle.wavelet_container.specs.declared.container.Container.{Container}
-use Rattle.wavelet_shelf.specs.Entries.{found, hosting, faults_of, faults_in, HaveRoom, AreHeld, AreSafe, IsSafe, IsNamed, IsPut}
+use Rattle.wavelet_shelf.specs.Entries.{found, hosting, faults_of, faults_in, AreHeld, AreSafe, IsSafe, IsNamed, IsPut}
 use Rattle.wavelet_shelf.specs.Faults.{damage_of}
 use Rattle.wavelet_shelf.specs.FileNames.{file_name_of, is_file_name}
 use Rattle.wavelet_shelf.specs.Hosting.{deltas_in}

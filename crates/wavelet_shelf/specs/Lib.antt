@@ -4,5 +4,6 @@ pub mod FileNames
 pub mod Folders
 pub mod Hosting
 pub mod Loads
+pub mod Parts
 pub mod Shelves
 pub mod Steps

@@ -15,7 +15,7 @@ use Rattle.wavelet_op.specs.Deltas.{DeltaOf}
 use Rattle.disk_model.specs.Disk.{DiskView, LeavesJust, Rose}
 use Rattle.disk_model.specs.declared.disk.Disk.{Ghosts}
 use Rattle.delta_journal.specs.File.{HasName, HasNoHeader, HasBrokenHeader}
-use Rattle.delta_journal.specs.Journal.{on_disk, needs_repair}
+use Rattle.delta_journal.specs.Journal.{on_disk}
 use Rattle.delta_journal.specs.declared.journal.Journal.{Journal}
 use Rattle.wavelet_container.specs.Containers.{history_of, journal_of, IsHeld}
 use Rattle.wavelet_container.specs.Records.{StandsForHistory, IsDamagedHistory}

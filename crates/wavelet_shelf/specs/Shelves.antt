@@ -10,7 +10,7 @@
 --     HasFile s m            this is the file of one of its names
 --     copies_of s n          the history of the name, where it has a delta
 --     outcome_of s n i       the acknowledgement that it keeps for the id
-use Rattle.std.specs.Prelude.{◌≡◌, ◌≢◌, ℕ, ◌+◌, ◌-◌, ◌^◌, min, List, [], ◌∷◌, Bool, Option, Some, None, IsSome, IsTrue}
+use Rattle.std.specs.Prelude.{◌≡◌, ℕ, ◌+◌, ◌-◌, ◌^◌, min, List, [], ◌∷◌, Option, Some, None, IsSome, IsTrue}
 use Rattle.std.specs.Option.{option_and_then, option_map}
 use Rattle.doc_items.specs.Maps.{Key}
 use Rattle.wave_base.specs.Versions.{IdOf}

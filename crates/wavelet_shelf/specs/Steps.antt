@@ -4,7 +4,7 @@
 --     IsTakenFirst n s t c v    one without a journal answered
 --     IsAnswered n s t es es' r     the container of the name did
 --     IsHosted n s t a b r      the shelf did
-use Rattle.std.specs.Prelude.{◌≡◌, ◌≢◌, ◌==◌, ◌≤◌, ℕ, List, [], Result, Ok, Some, None, IsTrue, IsSome, IfOk, IfSome, OnOk, OnErr, IsErrOf}
+use Rattle.std.specs.Prelude.{◌≡◌, ◌≢◌, ◌==◌, ◌≤◌, ◌↔◌, ℕ, List, [], false, Result, Ok, Some, None, is_some, IsTrue, IsSome, IfOk, IfSome, OnOk, OnErr, IsErrOf}
 use Rattle.std.specs.Cmp.Lexicographic.{pointwise}
 use Rattle.std.specs.Map.{lookup, set_value}
 use Rattle.doc_items.specs.Maps.{Key}
@@ -22,7 +22,7 @@ use Rattle.wavelet_container.specs.declared.fault.SubmitFault.{SubmitFault}
 use Rattle.wavelet_container.specs.declared.fault.SubmitFault.TheVariants.{DiskFault}
 use Rattle.wavelet_shelf.specs.Entries.{faults_of, IsSafe}
 use Rattle.wavelet_shelf.specs.Hosting.{judged_in, after_submission}
-use Rattle.wavelet_shelf.specs.Shelves.{hosted_of, container_in, fault_count, IsKept, IsSettled}
+use Rattle.wavelet_shelf.specs.Shelves.{in_folder, hosted_of, container_in, fault_count, IsKept, IsSettled}
 use Rattle.wavelet_shelf.specs.declared.filed.Filed.{Filed}
 use Rattle.wavelet_shelf.specs.declared.shelf.Shelf.{Shelf}
 
@@ -36,6 +36,7 @@ module _ {K : Type 0} {disk : disk_of.Ghosts K} where
     pub later : faults_of c ≤ faults_of after
     pub failed : IsErrOf r DiskFault → Rose (faults_of c) (faults_of after)
     pub filed : IsErrOf r DiskFault → IsSome (journal_of c)
+    pub plain : is_some (journal_of c) ≡ false → is_some (journal_of after) ≡ false
 
   -- the first container of a name, as it is made
   pub record IsStarted (n : Key) (c : Container K disk) : Type 0 where
@@ -71,3 +72,5 @@ module _ {F D : Type 0} {folder : folder_of.Ghosts F D} {disk : disk_of.Ghosts D
     pub settled : OnOk r (IsKept a → IsSettled a → IsSettled b)
     pub later : fault_count a ≤ fault_count b
     pub failed : IsErrOf r DiskFault → Rose (fault_count a) (fault_count b)
+    pub disk_there : IsErrOf r DiskFault → IsSome (in_folder a)
+    pub same_folder : IsSome (in_folder a) ↔ IsSome (in_folder b)

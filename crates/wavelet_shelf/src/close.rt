@@ -40,7 +40,7 @@ pub(crate) fn put_all<F: Folder>(folder: &mut F, containers: &mut Containers<F::
     ensures back { ArePutBack F.Folder folder.old folder.new containers.old.map.entries }
     ensures empty { containers.new.map.entries ≡ [] }
 {
-    while let Some(filed) = containers.pop() {
+    while let Some((_, filed)) = containers.pop() {
         put_back(folder, filed);
     }
 }

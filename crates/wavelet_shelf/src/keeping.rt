@@ -71,12 +71,11 @@ impl<K: Disk + Drop> Containers<K> {
     }
 
     /// Takes the last one away.
-    pub fn pop(&mut self) -> Option<Filed<K>>
+    pub fn pop(&mut self) -> Option<(WaveletName, Filed<K>)>
         ensures none { IfNone result (self.old.map.entries ≡ []) }
-        ensures last { IfSome result (λ f. (n : Key) × (self.old.map.entries ≡ self.new.map.entries ++ (n, f) ∷ [])) }
+        ensures last { IfSome result (λ e. self.old.map.entries ≡ self.new.map.entries ++ e ∷ []) }
         ensures empty { IfNone result (self.new.map.entries ≡ []) }
     {
-        let (_, filed) = self.map.pop()?;
-        Some(filed)
+        self.map.pop()
     }
 }

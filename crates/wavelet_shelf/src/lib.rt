@@ -4,6 +4,7 @@
 mod close;
 mod containers;
 mod copies;
+mod divide;
 mod fault;
 mod filed;
 mod journal_name;

@@ -1,6 +1,6 @@
 // Shelves that are new.
 ghost use Rattle.std.specs.Prelude.{◌≡◌, [], Some, None, IsTrue, option_copied};
-ghost use Rattle.wavelet_shelf.specs.Shelves.{in_folder, entries_of, container_in, IsKept};
+ghost use Rattle.wavelet_shelf.specs.Shelves.{in_folder, entries_of, container_in, hosted_of, IsKept};
 
 use crate::Shelf;
 use crate::containers::Containers;
@@ -14,6 +14,7 @@ impl<F: Folder + Drop> Shelf<F> {
     pub fn new(alloc: Global) -> Shelf<F>
         ensures plain { in_folder result ≡ None }
         ensures empty { entries_of result ≡ [] }
+        ensures hosted { hosted_of result ≡ [] }
     {
         Shelf {
             folder: None,
@@ -25,6 +26,7 @@ impl<F: Folder + Drop> Shelf<F> {
     pub fn over(alloc: Global, folder: F) -> Shelf<F>
         ensures folder { in_folder result ≡ Some folder }
         ensures empty { entries_of result ≡ [] }
+        ensures hosted { hosted_of result ≡ [] }
         ensures kept { IsTrue F.Disk.tells → IsKept result }
     {
         Shelf {

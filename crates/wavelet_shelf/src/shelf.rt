@@ -1,4 +1,4 @@
-ghost use Rattle.wavelet_shelf.specs.Entries.{HaveRoomIn, HaveRoomIn-prop};
+ghost use Rattle.wavelet_shelf.specs.Entries.{FitFolder, FitFolder-prop};
 
 use crate::containers::Containers;
 use wave_outside::Folder;
@@ -8,5 +8,5 @@ use wave_outside::Folder;
 pub struct Shelf<F: Folder> {
     pub(crate) folder: Option<F>,
     pub(crate) containers: Containers<F::Disk>,
-    ghost room: { HaveRoomIn F.room folder containers.map.entries } by { HaveRoomIn-prop F.room folder containers.map.entries },
+    ghost fit: { FitFolder F.room folder containers.map.entries } by { FitFolder-prop F.room folder containers.map.entries },
 }

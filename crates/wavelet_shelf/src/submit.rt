@@ -1,5 +1,5 @@
 // Submissions to a shelf.
-ghost use Rattle.std.specs.Prelude.{◌≡◌, ◌≢◌, ◌==◌, ◌≤◌, ◌<◌, ℕ, List, [], true, false, None, is_some, IsTrue, IsSome, IfOk, IfSome, OnOk, OnErr, IsErrOf, string_bytes};
+ghost use Rattle.std.specs.Prelude.{◌≡◌, ◌≢◌, ◌==◌, ◌≤◌, ◌<◌, ◌↔◌, ℕ, List, [], true, false, None, is_some, IsTrue, IsSome, IfOk, IfSome, OnOk, OnErr, IsErrOf, string_bytes};
 ghost use Rattle.std.specs.Cmp.Lexicographic.{pointwise};
 ghost use Rattle.std.specs.Map.{lookup};
 ghost use Rattle.doc_items.specs.Maps.{Key};
@@ -9,7 +9,7 @@ ghost use Rattle.wavelet_container.specs.Containers.{history_of, journal_of};
 ghost use Rattle.wavelet_shelf.specs.Entries.{IsSafe};
 ghost use Rattle.wavelet_shelf.specs.FileNames.{file_name_of};
 ghost use Rattle.wavelet_shelf.specs.Hosting.{judged_in, after_submission};
-ghost use Rattle.wavelet_shelf.specs.Shelves.{entries_of, in_folder, folder_faults, hosted_of, container_in, fault_count, IsKept, IsSettled};
+ghost use Rattle.wavelet_shelf.specs.Shelves.{entries_of, in_folder, folder_faults, hosted_of, container_in, fault_count, IsKept, IsSettled, AreApart};
 ghost use Rattle.wavelet_shelf.specs.Steps.{IsHosted, IsStarted, IsTakenFirst};
 
 use crate::Shelf;
@@ -44,9 +44,12 @@ impl<F: Folder + Drop> Shelf<F> {
         ensures kept { IsKept self.old → IsKept self.new }
         ensures stored { OnOk result (IsKept self.old → IfSome (container_in self.new name.now) IsSafe) }
         ensures settled { OnOk result (IsKept self.old → IsSettled self.old → IsSettled self.new) }
+        ensures apart { AreApart self.old → ((m : Key) → IsSome (container_in self.old m) → file_name_of m ≡ file_name_of name.now → m ≡ name.now) → AreApart self.new }
 
+        ensures folder { IsSome (in_folder self.old) ↔ IsSome (in_folder self.new) }
         ensures later { fault_count self.old ≤ fault_count self.new }
         ensures failed { IsErrOf result SubmitFault.DiskFault → Rose (fault_count self.old) (fault_count self.new) }
+        ensures disk { IsErrOf result SubmitFault.DiskFault → IsSome (in_folder self.old) }
     {
         self.answer(alloc, name, submission, time)
     }

@@ -27,7 +27,7 @@ returns-in-Err-clause-run g c = inr (refl, record {
 
 pub returns-in-Ok-clause-store_failed : goal.returns-in-Ok-clause-store_failed
 returns-in-Ok-clause-store_failed g c = λ five.
-    let rose = some_rose _ _ _ _ c.load.ensures.folder c.serve_over.ensures.over.moved.has_folder (c.serve_over.ensures.store_failed five) in
+    let rose = some_rose _ _ _ _ c.load.ensures.folder c.serve_over.ensures.over.moved.filed (c.serve_over.ensures.store_failed five) in
     omega (arith, rose, c.load.ensures.later)
 
 pub returns-in-Ok-clause-known : goal.returns-in-Ok-clause-known

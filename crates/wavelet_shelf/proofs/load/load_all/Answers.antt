@@ -1,7 +1,6 @@
-use Rattle.std.proofs.Common.{◌≡◌, ◌≢◌, ◌≤◌, ◌<◌, ◌^◌, ◌⊎◌, ℕ, List, map, take, length, string_bytes, IsSome, Err, sym, ap, subst, ◌∙◌, arith}
+use Rattle.std.proofs.Common.{◌≢◌, ◌<◌, ◌^◌, ◌⊎◌, ℕ, map, take, length, string_bytes, IsSome, Err, sym, subst, arith}
 use Rattle.wavelet_shelf.specs.FileNames.{file_name_of}
 use Rattle.wavelet_shelf.specs.Folders.{IsLoading, IsSkipped, IsFileRead, IsFileStep}
-use Rattle.wavelet_shelf.proofs.Loading.{begun_loading}
 use Rattle.wavelet_shelf.proofs.Reading.{taken_more, apart_at, all_at, there_still, not_before, looked_either, failed_all}
 use Rattle.wavelet_shelf.proofs.load.load_all.Goals as goal
 

@@ -1,12 +1,11 @@
-use Rattle.std.proofs.Common.{◌≡◌, ℕ, List, true, Some, Err, refl, sym, ap, subst, ◌∙◌}
+use Rattle.std.proofs.Common.{◌≡◌, Some, Err, refl, sym, ap, subst, ◌∙◌}
 use Rattle.wavelet_container.specs.declared.fault.LoadFault.TheVariants.{Damaged}
 use Rattle.wavelet_shelf.specs.Entries.{HaveRoom}
-use Rattle.wavelet_shelf.specs.FileNames.{file_name_of}
 use Rattle.wavelet_shelf.specs.Folders.{IsFileStep}
 use Rattle.wavelet_shelf.specs.Loads.{IsOpened, IsOpenedAs}
 use Rattle.wavelet_shelf.specs.declared.filed.Filed.{Filed}
 use Rattle.wavelet_shelf.proofs.Opening.{step_read, step_refused, keeps_room, damage_as}
-use Rattle.wavelet_shelf.proofs.Shelving.{put_from, room_put, room_kept}
+use Rattle.wavelet_shelf.proofs.Shelving.{put_from, fit_put, room_kept}
 use Rattle.wavelet_shelf.proofs.load.load_file.Goals as goal
 
 pub returns-in-Err-clause-room : goal.returns-in-Err-clause-room
@@ -24,7 +23,7 @@ returns-in-Ok-Read-clause-room g c =
     let filed : Filed g.row.F-Disk.Denot g.F.Disk.Disk = record { file = c.in_ok-file.file; container = c.in-Ok-Read.container } in
     let there = subst (HaveRoom (room new)) (sym c.reserve.ensures.same) (room_kept room old new c.args.containers.now.map.entries (keeps_room (room old) (room new) c.args.name.now c.file.ensures.other_room c.file.ensures.room_stays) c.requires.room) in
     let opened : IsOpenedAs c.args.name.now (g.F.Disk.Disk.view c.in-Ok.disk) c.in-Ok-Read.key c.in-Ok-Read.container = subst (IsOpened c.args.name.now (g.F.Disk.Disk.view c.in-Ok.disk)) c.in-Ok-Read.field-0-is c.in-Ok-Read.ensures.ok in
-    room_put room (Some new) c.reserve.new.self.map.entries c.put.new.self.map.entries c.in-Ok-Read.key filed c.put.ensures (ap (room new) opened.own.file_is ∙ c.in-Ok.ensures.out) there
+    fit_put room (Some new) c.reserve.new.self.map.entries c.put.new.self.map.entries c.in-Ok-Read.key filed c.put.ensures (ap (room new) opened.own.file_is ∙ c.in-Ok.ensures.out) there
 
 pub returns-in-Ok-Read-clause-step : goal.returns-in-Ok-Read-clause-step
 returns-in-Ok-Read-clause-step g c =

@@ -1,5 +1,5 @@
 use Rattle.std.proofs.lemmas.Result.{on_ok_weaker}
-use Rattle.wavelet_shelf.proofs.Answering.{held_after, safe_after, faults_later, faults_rose}
+use Rattle.wavelet_shelf.proofs.Answering.{held_after, plain_after, safe_after, faults_later, faults_rose}
 use Rattle.wavelet_shelf.proofs.taking.taken.Goals as goal
 
 pub returns : goal.returns
@@ -15,4 +15,5 @@ returns g c =
       later = faults_later _ _ c.submit.ensures.later;
       failed = λ e. faults_rose _ _ (c.submit.ensures.disk e) (c.submit.ensures.failed e);
       filed = c.submit.ensures.disk;
+      plain = plain_after old new c.submit.ensures.stored;
     }

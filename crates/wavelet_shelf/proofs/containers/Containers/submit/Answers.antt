@@ -1,5 +1,4 @@
 use Rattle.std.proofs.Common.{refl, sym}
-use Rattle.wavelet_shelf.specs.Steps.{IsAnswered}
 use Rattle.wavelet_shelf.specs.declared.filed.Filed.{Filed}
 use Rattle.wavelet_shelf.proofs.Shelving.{order_set}
 use Rattle.wavelet_shelf.proofs.containers.Containers.submit.Goals as goal

@@ -1,9 +1,8 @@
 use Rattle.std.proofs.Common.{◌≡◌, ◌≤◌, true, IfSome, sym, ap, subst, ◌∙◌}
-use Rattle.indexmap.specs.IndexMap.{IndexMap}
 use Rattle.wavelet_shelf.specs.FileNames.{file_name_of}
 use Rattle.wavelet_shelf.specs.Shelves.{folder_faults}
 use Rattle.wavelet_shelf.specs.declared.filed.Filed.{Filed}
-use Rattle.wavelet_shelf.proofs.Shelving.{after_first, put_from, room_put}
+use Rattle.wavelet_shelf.proofs.Shelving.{after_first, put_from, fit_put, fits_there}
 use Rattle.wavelet_shelf.proofs.shelf.Shelf.store.Goals as goal
 
 pub invariant_of-self : goal.invariant_of-self
@@ -13,9 +12,9 @@ invariant_of-self g c =
     let b = c.start.new.self in
     let file = c.as_str.ensures.value ∙ place.file ∙ ap file_name_of (sym place.key) in
     record {
-      room = room_put g.F.Folder.room b.folder b.containers.map.entries c.put.new.self.map.entries c.in_ok-key.key filed c.put.ensures
-          (subst (λ m. IfSome b.folder (λ f. g.F.Folder.room f m ≡ true)) file c.in_ok-container.ensures.room)
-          b.room;
+      fit = fit_put g.F.Folder.room b.folder b.containers.map.entries c.put.new.self.map.entries c.in_ok-key.key filed c.put.ensures
+          (fits_there g.F.Folder.room b.folder (c.in_ok-key.key, filed) c.start.ensures.filed (subst (λ m. IfSome b.folder (λ f. g.F.Folder.room f m ≡ true)) file c.in_ok-container.ensures.room))
+          b.fit;
     }
 
 pub returns : goal.returns
@@ -27,7 +26,8 @@ returns g c =
     let filed : Filed g.row.F-Disk.Denot g.F.Disk.Disk = record { file = c.in_ok-key.file; container = c.taken-answer.new.container } in
     let entries = (λ i. (c.start.ensures.map i).entries) ∙ place.same in
     after_first a _ c.args.name.now c.args.submission.now c.args.time _ c.in_ok-container.container filed a.containers.in_order
-    (λ some. c.in_ok-container.ensures.filed)
+    (λ e. c.requires.filed)
+    (λ some. c.in_ok-container.ensures.filed, λ some. c.requires.filed)
     (subst (λ o. folder_faults g.F.Folder.faults o ≤ folder_faults g.F.Folder.faults b.folder) place.folder c.start.ensures.later)
     (record { name = started.name; empty = started.empty; held = λ kept. started.held kept.told; unfailed = started.unfailed })
     c.taken-answer.ensures

@@ -4,7 +4,7 @@ use Rattle.wavelet_shelf.specs.Shelves.{hosted_of}
 use Rattle.pipe_machine.specs.Lines.{lines_of}
 use Rattle.pipe_machine.specs.Machine.{shown_in}
 use Rattle.pipe_machine.specs.Seats.{seats_sent, seats_after, IsPlain}
-use Rattle.pipe_machine.proofs.deliver.deliver.Given as goal
+use Rattle.pipe_machine.proofs.deliver.deliver_each.Given as goal
 
 abbrev pub invariant-loop-seat : goal.invariant-loop-seat
 invariant-loop-seat g l = record {

@@ -1,0 +1,34 @@
+-- One seat after the other is sent what is new to it.
+--     sent_on      what is sent
+--     after_on     the seats
+use Rattle.std.proofs.Common.{◌≡◌, ◌+◌, ◌<◌, ◌≤◌, ℕ, suc, List, [], ◌∷◌, ◌++◌, length, map, take, drop, slice_set, get_or, refl, sym, ap, ◌∙◌, arith, append_assoc, add-one}
+use Rattle.std.proofs.Math.Seq.{drop-cons}
+use Rattle.std.proofs.lemmas.List.{take_more_set, drop-set-lt}
+use Rattle.session_core.specs.Access.{Shown}
+use Rattle.session_core.specs.Deliveries.{delivered}
+use Rattle.pipe_machine.specs.declared.seats.Seat.{Seat}
+use Rattle.pipe_machine.specs.Lines.{sent_to, lines_of}
+use Rattle.pipe_machine.specs.Seats.{seat_after, seats_sent, seats_after}
+use Rattle.pipe_machine.proofs.Gathering.{lines_append}
+
+module _ (c : Shown) where
+  here : (ss : List Seat) (i : ℕ) (d : Seat) → i < length ss → drop i ss ≡ get_or ss i d ∷ drop (i + 1) ss
+  here ss i d h = drop-cons ss i d h ∙ ap (λ n. get_or ss i d ∷ drop n ss) (sym (add-one i))
+
+  pub sent_on : (all out out' : List ℕ) (ss : List Seat) (i : ℕ) (d x : Seat) → i < length ss → all ≡ out ++ lines_of (seats_sent c (drop i ss))
+      → out' ≡ out ++ lines_of (map (sent_to (get_or ss i d).name) (delivered c (get_or ss i d).session))
+      → all ≡ out' ++ lines_of (seats_sent c (drop (i + 1) (slice_set ss i x)))
+  sent_on all out out' ss i d x h w o =
+      let one = map (sent_to (get_or ss i d).name) (delivered c (get_or ss i d).session) in
+      let rest = seats_sent c (drop (i + 1) ss) in
+      w ∙ ap (λ l. out ++ lines_of (seats_sent c l)) (here ss i d h) ∙ ap (λ l. out ++ l) (lines_append one rest)
+      ∙ sym (append_assoc out (lines_of one) (lines_of rest)) ∙ ap (λ l. l ++ lines_of rest) (sym o)
+      ∙ ap (λ l. out' ++ lines_of (seats_sent c l)) (sym (drop-set-lt (i + 1) ss i x (omega arith)))
+
+  pub after_on : (all ss : List Seat) (i : ℕ) (d x : Seat) → i < length ss → all ≡ take i ss ++ seats_after c (drop i ss) → x ≡ seat_after c (get_or ss i d)
+      → all ≡ take (i + 1) (slice_set ss i x) ++ seats_after c (drop (i + 1) (slice_set ss i x))
+  after_on all ss i d x h w e =
+      w ∙ ap (λ l. take i ss ++ seats_after c l) (here ss i d h) ∙ ap (λ y. take i ss ++ y ∷ seats_after c (drop (i + 1) ss)) (sym e)
+      ∙ sym (append_assoc (take i ss) (x ∷ []) (seats_after c (drop (i + 1) ss)))
+      ∙ ap (λ l. l ++ seats_after c (drop (i + 1) ss)) (sym (take_more_set ss i x h))
+      ∙ ap (λ l. take (i + 1) (slice_set ss i x) ++ seats_after c l) (sym (drop-set-lt (i + 1) ss i x (omega arith)))

@@ -1,0 +1,10 @@
+use Rattle.std.proofs.Common.{◌≡◌, length}
+use Rattle.std.specs.List.{AllByRecursion}
+use Rattle.wavelet_shelf.specs.Parts.{IsLike}
+use Rattle.wavelet_shelf.proofs.divide.sixteen.Given as goal
+
+abbrev pub invariant-loop : goal.invariant-loop
+invariant-loop g l = record {
+  so_many : length l.shelves.items ≡ l.counter;
+  like : AllByRecursion (IsLike l.fn.folder) l.shelves.items;
+}
