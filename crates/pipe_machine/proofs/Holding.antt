@@ -68,23 +68,23 @@ use Rattle.pipe_machine.proofs.Moving.{begins_itself, begins_added}
 
 in_longer : (d : DeltaOf) (ds es : List DeltaOf) → Begins ds es → IsIn d ds → IsIn d es
 in_longer d ds es (rest, e) i = record {
-    before = i.before;
-    behind = i.behind ++ rest;
-    whole = sym (append_assoc i.before (d ∷ i.behind) rest) ∙ ap (λ l. l ++ rest) i.whole ∙ e;
-  }
+  before = i.before;
+  behind = i.behind ++ rest;
+  whole = sym (append_assoc i.before (d ∷ i.behind) rest) ∙ ap (λ l. l ++ rest) i.whole ∙ e;
+}
 
 has_longer : (ds es : List DeltaOf) (client number : ℕ) → Begins ds es → HasOf ds client number → HasOf es client number
 has_longer ds es client number b h = record { delta = h.delta; is_in = in_longer h.delta ds es b h.is_in; of_client = h.of_client; of_number = h.of_number }
 
 head_longer : (ds es : List DeltaOf) (s : SnapshotOf) → Begins ds es → IsHead ds s → IsHead es s
 head_longer ds es s (rest, e) h = record {
-    front = h.front;
-    behind = h.behind ++ rest;
-    whole = sym (append_assoc h.front h.behind rest) ∙ ap (λ l. l ++ rest) h.whole ∙ e;
-    is_at = h.is_at;
-    count = h.count;
-    state = h.state;
-  }
+  front = h.front;
+  behind = h.behind ++ rest;
+  whole = sym (append_assoc h.front h.behind rest) ∙ ap (λ l. l ++ rest) h.whole ∙ e;
+  is_at = h.is_at;
+  count = h.count;
+  state = h.state;
+}
 
 pub begins_held : (hs gs : List Hosted) → ((n : Key) → Begins (deltas_in hs n) (deltas_in gs n)) → (m : Message) → IsHeld hs m → IsHeld gs m
 begins_held hs gs b (message.Hello user) h = tt
@@ -112,19 +112,19 @@ begins_held hs gs b (message.Dropped name) h = tt
 
 has_behind : (d : DeltaOf) (ds : List DeltaOf) (client number : ℕ) → HasOf ds client number → HasOf (d ∷ ds) client number
 has_behind d ds client number h = record {
-    delta = h.delta;
-    is_in = record { before = d ∷ h.is_in.before; behind = h.is_in.behind; whole = ap (λ l. d ∷ l) h.is_in.whole };
-    of_client = h.of_client;
-    of_number = h.of_number;
-  }
+  delta = h.delta;
+  is_in = record { before = d ∷ h.is_in.before; behind = h.is_in.behind; whole = ap (λ l. d ∷ l) h.is_in.whole };
+  of_client = h.of_client;
+  of_number = h.of_number;
+}
 
 has_first : (d : DeltaOf) (ds : List DeltaOf) (i : IdOf) → same_id i d.id ≡ true → HasOf (d ∷ ds) i.client i.number
 has_first d ds i e = record {
-    delta = d;
-    is_in = record { before = []; behind = ds; whole = refl };
-    of_client = ap (λ (x : IdOf). x.client) (sym (same_id-is i d.id e));
-    of_number = ap (λ (x : IdOf). x.number) (sym (same_id-is i d.id e));
-  }
+  delta = d;
+  is_in = record { before = []; behind = ds; whole = refl };
+  of_client = ap (λ (x : IdOf). x.client) (sym (same_id-is i d.id e));
+  of_number = ap (λ (x : IdOf). x.number) (sym (same_id-is i d.id e));
+}
 
 kept_has : (i : IdOf) (p : Point) (ds : List DeltaOf) (k : Kept) → kept i p ds ≡ Some k → HasOf ds i.client i.number
 kept_has i p [] k e = no_value e
@@ -194,11 +194,11 @@ module _ (name : Key) (ds : List DeltaOf) (s : Submission) (t : ℕ) where
 
 has_last : (ds : List DeltaOf) (d : DeltaOf) (i : IdOf) → d.id ≡ i → HasOf (ds ++ d ∷ []) i.client i.number
 has_last ds d i e = record {
-    delta = d;
-    is_in = record { before = ds; behind = []; whole = refl };
-    of_client = ap (λ (x : IdOf). x.client) e;
-    of_number = ap (λ (x : IdOf). x.number) e;
-  }
+  delta = d;
+  is_in = record { before = ds; behind = []; whole = refl };
+  of_client = ap (λ (x : IdOf). x.client) e;
+  of_number = ap (λ (x : IdOf). x.number) e;
+}
 
 verdict_held : (hs : List Hosted) (name : Key) (i : IdOf) (v : Verdict) (o : Option DeltaOf) → AreAscending (names_of hs) → IsAcked (deltas_in hs name) i v o → IsHeld (with_added hs name o) (verdict_message name i v)
 verdict_held hs name i (Ack place to) None up h = h
@@ -246,13 +246,13 @@ module _ (hs : List Hosted) where
 
   head_held : (name : Key) (h : HistoryOf) → IsSeen name (deltas_in hs name) (Some h) → IsHead (deltas_in hs name) (snapshot_of name h)
   head_held name h s = record {
-      front = h.deltas;
-      behind = [];
-      whole = append-nil h.deltas ∙ s.1;
-      is_at = ap (λ n. (head_of (record { name = n; deltas = h.deltas; spare = 0 })).at) s.0;
-      count = ap (λ n. (head_of (record { name = n; deltas = h.deltas; spare = 0 })).count) s.0;
-      state = ap (λ n. (head_of (record { name = n; deltas = h.deltas; spare = 0 })).state) s.0;
-    }
+    front = h.deltas;
+    behind = [];
+    whole = append-nil h.deltas ∙ s.1;
+    is_at = ap (λ n. (head_of (record { name = n; deltas = h.deltas; spare = 0 })).at) s.0;
+    count = ap (λ n. (head_of (record { name = n; deltas = h.deltas; spare = 0 })).count) s.0;
+    state = ap (λ n. (head_of (record { name = n; deltas = h.deltas; spare = 0 })).state) s.0;
+  }
 
   choice_held : (t : Bool) (a b : Session × Message) → IsHeld hs a.1 → IsHeld hs b.1 → IsHeld hs (if t then a else b).1
   choice_held true a b p q = p
@@ -376,7 +376,7 @@ taken_tells s (message.Have name from) = choice_tells (is_some s.domain) (as_pee
     (peer_tells s _ s.party (λ d. choice_tells (is_hosted s name) (s, ask.Have name from) (refused s bad.NoHost) tt (λ hs. tt))) (λ hs. tt)
 taken_tells s (message.Relay name submission) = choice_tells (is_some s.domain) (as_peer s (relay_by s name submission) s.party) (refused s bad.NotMessage)
     (peer_tells s (relay_by s name submission) s.party (λ d. choice_tells (same_text (domain_of submission.id.author) d) (if is_hosted s name then (s, ask.Submit name submission) else refused s bad.NoHost) (refused s bad.BadUser)
-        (choice_tells (is_hosted s name) (s, ask.Submit name submission) (refused s bad.NoHost) tt (λ hs. tt)) (λ hs. tt))) (λ hs. tt)
+    (choice_tells (is_hosted s name) (s, ask.Submit name submission) (refused s bad.NoHost) tt (λ hs. tt)) (λ hs. tt))) (λ hs. tt)
 taken_tells s (message.Applied name delta) = nothing
 taken_tells s (message.Relayed name id v) = nothing
 taken_tells s (message.Dropped name) = nothing
@@ -396,10 +396,10 @@ asked_fair : (hs : List Hosted) (t : ℕ) (s : Session) (r : Request) → AreAsc
 asked_fair hs t s (ask.Reply m) up tells = record { held = tells hs; grown = λ n. begins_itself (deltas_in hs n); ascends = up }
 asked_fair hs t s (ask.Attach name from) up tells = record { held = seen_held hs s name from (seen_for (shown_in hs) s.party name) (for_seen hs s.party name); grown = λ n. begins_itself (deltas_in hs n); ascends = up }
 asked_fair hs t s (ask.Submit name submission) up tells = record {
-    held = told_held hs s.party name submission.id (judged_in hs name submission t).0 (judged_in hs name submission t).1 up (judge_sound name (deltas_in hs name) submission t);
-    grown = λ n. begins_added hs name (judged_in hs name submission t).1 n up;
-    ascends = added_ascends hs name (judged_in hs name submission t).1 up;
-  }
+  held = told_held hs s.party name submission.id (judged_in hs name submission t).0 (judged_in hs name submission t).1 up (judge_sound name (deltas_in hs name) submission t);
+  grown = λ n. begins_added hs name (judged_in hs name submission t).1 n up;
+  ascends = added_ascends hs name (judged_in hs name submission t).1 up;
+}
 asked_fair hs t s (ask.Have name from) up tells = record { held = tt; grown = λ n. begins_itself (deltas_in hs n); ascends = up }
 
 pub record IsFairTurn (hs : List Hosted) (a : Answer) : Type 0 where
@@ -444,5 +444,5 @@ all_held p (t ∷ ts) up =
     let a = turn p t.time t.line in
     let fair = turn_fair p t.time t.line up in
     All-append (λ s. IsHeld (after a.pipe ts).hosted s.message) a.sent (sent a.pipe ts)
-        (All-weaker (λ s. IsHeld a.pipe.hosted s.message) (λ s. IsHeld (after a.pipe ts).hosted s.message) (λ s h. begins_held a.pipe.hosted (after a.pipe ts).hosted (after_begins a.pipe ts fair.ascends) s.message h) a.sent fair.held)
-        (all_held a.pipe ts fair.ascends)
+    (All-weaker (λ s. IsHeld a.pipe.hosted s.message) (λ s. IsHeld (after a.pipe ts).hosted s.message) (λ s h. begins_held a.pipe.hosted (after a.pipe ts).hosted (after_begins a.pipe ts fair.ascends) s.message h) a.sent fair.held)
+    (all_held a.pipe ts fair.ascends)

@@ -53,20 +53,20 @@ module _ {F D : Type 0} {folder : folder_of.Ghosts F D} {disk : disk_of.Ghosts D
   pub same_shown : (s : Shelf F D folder disk) → ((n : Key) → IsCopyOf (copies_of s n) (copy_in (hosted_of s) n))
       → IsSameShown (shown (λ n. copies_of s n) (names_of (hosted_of s)) (λ _. false) (λ n i. outcome_of s n i)) (shown_in (hosted_of s))
   same_shown s copies = record {
-      copy = copies;
-      hosts = refl;
-      drops = λ n. refl;
-      outcome = λ n i. ap (option_map acknowledged) (kept_alike (copies_of s n) (copy_in (hosted_of s) n) i (copies n));
-    }
+    copy = copies;
+    hosts = refl;
+    drops = λ n. refl;
+    outcome = λ n i. ap (option_map acknowledged) (kept_alike (copies_of s n) (copy_in (hosted_of s) n) i (copies n));
+  }
 
   pub stays : (may : Key → Bool) (s : Shelf F D folder disk) → IsMoved may s s
   stays may s = record {
-      grown = λ n. begins_itself (deltas_in (hosted_of s) n);
-      others = λ n h. refl;
-      kept = λ k. k;
-      filed = (λ f. f, λ f. f);
-      later = omega arith;
-    }
+    grown = λ n. begins_itself (deltas_in (hosted_of s) n);
+    others = λ n h. refl;
+    kept = λ k. k;
+    filed = (λ f. f, λ f. f);
+    later = omega arith;
+  }
 
   pub only_if : {may fewer : Key → Bool} (a b : Shelf F D folder disk) → ((n : Key) → may n ≡ false → fewer n ≡ false) → IsMoved fewer a b → IsMoved may a b
   only_if a b f m = record { grown = m.grown; others = λ n h. m.others n (f n h); kept = m.kept; filed = m.filed; later = m.later }
@@ -75,19 +75,19 @@ module _ {F D : Type 0} {folder : folder_of.Ghosts F D} {disk : disk_of.Ghosts D
       (kept : IsKept a → IsKept b) (filed : IsSome (in_folder a) ↔ IsSome (in_folder b)) (later : fault_count a ≤ fault_count b) where
     pub taken_in : (s : Submission) (t : ℕ) → AreAscending (names_of (hosted_of a)) → hosted_of b ≡ after_submission (hosted_of a) name s t → IsMoved (same_text name) a b
     taken_in s t up is = record {
-        grown = λ n. begins_as (deltas_in (hosted_of a) n) (deltas_in (after_submission (hosted_of a) name s t) n) (deltas_in (hosted_of b) n) (ap (λ hs. deltas_in hs n) (sym is))
-            (begins_added (hosted_of a) name (judged_in (hosted_of a) name s t).1 n up);
-        others = λ n apart. others n (other_name name n apart);
-        kept = kept;
-        filed = filed;
-        later = later;
-      }
+      grown = λ n. begins_as (deltas_in (hosted_of a) n) (deltas_in (after_submission (hosted_of a) name s t) n) (deltas_in (hosted_of b) n) (ap (λ hs. deltas_in hs n) (sym is))
+          (begins_added (hosted_of a) name (judged_in (hosted_of a) name s t).1 n up);
+      others = λ n apart. others n (other_name name n apart);
+      kept = kept;
+      filed = filed;
+      later = later;
+    }
 
     pub refused_in : hosted_of b ≡ hosted_of a → IsMoved (same_text name) a b
     refused_in is = record {
-        grown = λ n. ([], append-nil (deltas_in (hosted_of a) n) ∙ ap (λ hs. deltas_in hs n) (sym is));
-        others = λ n apart. others n (other_name name n apart);
-        kept = kept;
-        filed = filed;
-        later = later;
-      }
+      grown = λ n. ([], append-nil (deltas_in (hosted_of a) n) ∙ ap (λ hs. deltas_in hs n) (sym is));
+      others = λ n apart. others n (other_name name n apart);
+      kept = kept;
+      filed = filed;
+      later = later;
+    }

@@ -93,7 +93,7 @@ module _ (may : Key → Bool) where
   submitted_good : (s : Session) (name : Key) (client number : ℕ) (from : VersionAt) (ops : List WaveletOp) → IsPlain s → ((n : Key) → may n ≡ false → same_text name n ≡ false) → IsGood may (submitted s name client number from ops)
   submitted_good s name client number from ops p own = choice_good (is_count client && is_count number) (as_user s (submitted_as s name client number from ops) s.party) (refused s bad.NotMessage)
       (user_good s (submitted_as s name client number from ops) p s.party refl
-          (λ u has. choice_good (is_reached s name) (s, ask.Submit name (submission_of u client number from ops)) (refused s bad.NoHost) (record { plain = p; asks = tt; short = tt; only = own }) (refused_good s bad.NoHost p)))
+      (λ u has. choice_good (is_reached s name) (s, ask.Submit name (submission_of u client number from ops)) (refused s bad.NoHost) (record { plain = p; asks = tt; short = tt; only = own }) (refused_good s bad.NoHost p)))
       (refused_good s bad.NotMessage p)
 
 pub taken_good : (s : Session) (m : Message) → IsPlain s → IsGood (submits m) (taken s m)

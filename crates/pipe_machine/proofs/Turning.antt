@@ -63,13 +63,13 @@ where_rose (Some x) (Some y) a b some e h = h
 module _ {F D : Type 0} {folder : folder_of.Ghosts F D} {disk : disk_of.Ghosts D} where
   pub since_more : (a b c : Shelf F D folder disk) (ts : List Turn) (time : ℕ) (line : List ℕ) → IsMoved (submitted_in ts) a b → IsMoved (submits_to line) b c → IsMoved (submitted_in (ts ++ turn_at time line ∷ [])) a c
   since_more a b c ts time line m n = record {
-      grown = λ k. begins_on (deltas_in (hosted_of a) k) (deltas_in (hosted_of b) k) (deltas_in (hosted_of c) k) (m.grown k) (n.grown k);
-      others = λ k other. let none = none_of (submitted_in ts k) (submits_to line k || false) (sym (any_more (λ (t : Turn). submits_to t.line k) ts (turn_at time line)) ∙ other) in
-          n.others k (apart (submits_to line k) none.1) ∙ m.others k none.0;
-      kept = λ k. n.kept (m.kept k);
-      filed = (λ f. n.filed.0 (m.filed.0 f), λ f. m.filed.1 (n.filed.1 f));
-      later = omega (arith, m.later, n.later);
-    }
+    grown = λ k. begins_on (deltas_in (hosted_of a) k) (deltas_in (hosted_of b) k) (deltas_in (hosted_of c) k) (m.grown k) (n.grown k);
+    others = λ k other. let none = none_of (submitted_in ts k) (submits_to line k || false) (sym (any_more (λ (t : Turn). submits_to t.line k) ts (turn_at time line)) ∙ other) in
+        n.others k (apart (submits_to line k) none.1) ∙ m.others k none.0;
+    kept = λ k. n.kept (m.kept k);
+    filed = (λ f. n.filed.0 (m.filed.0 f), λ f. m.filed.1 (n.filed.1 f));
+    later = omega (arith, m.later, n.later);
+  }
 
   pub faults_later : (a b : Shelf F D folder disk) (may : Key → Bool) → IsMoved may a b → store_faults a ≤ store_faults b
   faults_later a b may m = where_later (in_folder a) (in_folder b) (fault_count a) (fault_count b) m.filed m.later

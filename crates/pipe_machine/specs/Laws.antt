@@ -12,9 +12,9 @@ use Rattle.pipe_machine.specs.Pipes.{IsSince}
 module _ {F D : Type 0} {folder : folder_of.Ghosts F D} {disk : disk_of.Ghosts D} where
   pub unmoved : (m : PipeMachine F D folder disk) → IsSince m [] m
   unmoved m = record {
-      grown = λ n. ([], append-nil (deltas_in (hosted_of m.shelf) n));
-      others = λ n h. refl;
-      kept = λ k. k;
-      filed = (λ f. f, λ f. f);
-      later = omega arith;
-    }
+    grown = λ n. ([], append-nil (deltas_in (hosted_of m.shelf) n));
+    others = λ n h. refl;
+    kept = λ k. k;
+    filed = (λ f. f, λ f. f);
+    later = omega arith;
+  }

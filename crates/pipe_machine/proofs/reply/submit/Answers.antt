@@ -19,10 +19,10 @@ returns-in-Err-DiskFault-clause-moved g c =
 
 pub returns-in-Err-DiskFault-clause-ended : goal.returns-in-Err-DiskFault-clause-ended
 returns-in-Err-DiskFault-clause-ended g c = record {
-    settled = tt;
-    failed = λ e. c.in-Err-DiskFault.ensures.failed (ap (λ z. Err z) c.in-Err-DiskFault.field-0-is);
-    store = λ e. c.in-Err-DiskFault.ensures.disk (ap (λ z. Err z) c.in-Err-DiskFault.field-0-is);
-  }
+  settled = tt;
+  failed = λ e. c.in-Err-DiskFault.ensures.failed (ap (λ z. Err z) c.in-Err-DiskFault.field-0-is);
+  store = λ e. c.in-Err-DiskFault.ensures.disk (ap (λ z. Err z) c.in-Err-DiskFault.field-0-is);
+}
 
 pub returns-in-Err-Memory-clause-moved : goal.returns-in-Err-Memory-clause-moved
 returns-in-Err-Memory-clause-moved g c =
