@@ -14,7 +14,7 @@ timed-same : (r s : ℕ → ℕ) (xs : List (List ℕ)) → ((k : ℕ) → s k �
 timed-same r s [] h = refl
 timed-same r s (x ∷ xs) h = rw (h 0) (ap (λ t. turn_at (r 0) x ∷ t) (timed-same (later r) (later s) xs (λ k. h (k + 1))))
 
-timed-append : (r s : ℕ → ℕ) (xs ys : List (List ℕ)) → ((k : ℕ) → s k ≡ r (k + length xs)) → timed r (xs ++ ys) ≡ timed r xs ++ timed s ys
+pub timed-append : (r s : ℕ → ℕ) (xs ys : List (List ℕ)) → ((k : ℕ) → s k ≡ r (k + length xs)) → timed r (xs ++ ys) ≡ timed r xs ++ timed s ys
 timed-append r s [] ys h = timed-same r s ys (λ k. h k ∙ ap r (omega arith))
 timed-append r s (x ∷ xs) ys h = ap (λ t. turn_at (r 0) x ∷ t) (timed-append (later r) s xs ys (λ k. h k ∙ ap r (omega arith)))
 

@@ -3,3 +3,4 @@ pub mod Cutting
 pub mod Serving
 pub mod Slices
 pub mod Telling
+pub mod Whole

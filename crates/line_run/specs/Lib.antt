@@ -2,4 +2,5 @@ pub mod Lines
 pub mod Output
 pub mod Run
 pub mod Steps
+pub mod Told
 pub mod Turns

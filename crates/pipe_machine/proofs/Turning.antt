@@ -2,17 +2,22 @@
 --     after_more     the machine after one more
 --     since_more     what stays so of the shelf
 --     turn_sent      what a turn sends
-use Rattle.std.proofs.Common.{◌≡◌, ◌↔◌, ◌≤◌, ℕ, Bool, true, false, ◌||◌, List, [], ◌∷◌, ◌++◌, IsSome, refl, sym, ap, subst, ◌∙◌, append_assoc, append-nil, arith, true≢false}
+--     faults_later, faults_rose    the count of what stores
+use Rattle.std.proofs.Common.{◌≡◌, ◌↔◌, ◌≤◌, ℕ, Bool, true, false, ◌||◌, List, [], ◌∷◌, ◌++◌, Option, Some, None, IsSome, Result, IsErrOf, refl, sym, ap, subst, ◌∙◌, append_assoc, append-nil, arith, true≢false}
 use Rattle.std.specs.List.{list_any}
 use Rattle.doc_items.specs.Maps.{Key}
 use Rattle.wavelet_op.specs.Deltas.{DeltaOf}
 use Rattle.disk_model.specs.declared.disk.Disk as disk_of
 use Rattle.wave_outside.specs.declared.folder.Folder as folder_of
 use Rattle.wavelet_shelf.specs.Hosting.{deltas_in}
-use Rattle.wavelet_shelf.specs.Shelves.{hosted_of}
+use Rattle.wave_outside.specs.Counts.{Rose}
+use Rattle.wavelet_shelf.specs.Shelves.{hosted_of, in_folder, fault_count}
 use Rattle.wavelet_shelf.specs.declared.shelf.Shelf.{Shelf}
 use Rattle.line_run.specs.Turns.{Turn, turn_at}
-use Rattle.pipe_machine.specs.Keeping.{Begins, submits_to, submitted_in, IsMoved}
+use Rattle.line_run.specs.declared.line_machine.TurnFault.{TurnFault}
+use Rattle.line_run.specs.declared.line_machine.TurnFault.TheVariants.{Store}
+use Rattle.pipe_machine.specs.Pipes.{faults_where, store_faults}
+use Rattle.pipe_machine.specs.Keeping.{Begins, submits_to, submitted_in, IsMoved, IsEnded}
 use Rattle.pipe_machine.specs.Lines.{lines_of}
 use Rattle.pipe_machine.specs.Machine.{Pipe, Answer, delivered, turned, turn, after}
 use Rattle.pipe_machine.proofs.Gathering.{lines_append}
@@ -44,6 +49,17 @@ apart : (b : Bool) → (b || false) ≡ false → b ≡ false
 apart true e = absurd (true≢false e)
 apart false e = refl
 
+where_later : {F : Type 0} (o p : Option F) (a b : ℕ) → (IsSome o ↔ IsSome p) → a ≤ b → faults_where o a ≤ faults_where p b
+where_later None None a b e h = omega arith
+where_later None (Some y) a b e h = omega arith
+where_later (Some x) None a b e h = absurd (true≢false (sym (e.0 refl)))
+where_later (Some x) (Some y) a b e h = h
+
+where_rose : {F : Type 0} (o p : Option F) (a b : ℕ) → IsSome o → (IsSome o ↔ IsSome p) → Rose a b → Rose (faults_where o a) (faults_where p b)
+where_rose None p a b some e h = absurd (true≢false (sym some))
+where_rose (Some x) None a b some e h = absurd (true≢false (sym (e.0 refl)))
+where_rose (Some x) (Some y) a b some e h = h
+
 module _ {F D : Type 0} {folder : folder_of.Ghosts F D} {disk : disk_of.Ghosts D} where
   pub since_more : (a b c : Shelf F D folder disk) (ts : List Turn) (time : ℕ) (line : List ℕ) → IsMoved (submitted_in ts) a b → IsMoved (submits_to line) b c → IsMoved (submitted_in (ts ++ turn_at time line ∷ [])) a c
   since_more a b c ts time line m n = record {
@@ -54,3 +70,9 @@ module _ {F D : Type 0} {folder : folder_of.Ghosts F D} {disk : disk_of.Ghosts D
     filed = (λ f. n.filed.0 (m.filed.0 f), λ f. m.filed.1 (n.filed.1 f));
     later = omega (arith, m.later, n.later);
   }
+
+  pub faults_later : (a b : Shelf F D folder disk) (may : Key → Bool) → IsMoved may a b → store_faults a ≤ store_faults b
+  faults_later a b may m = where_later (in_folder a) (in_folder b) (fault_count a) (fault_count b) m.filed m.later
+
+  pub faults_rose : {A : Type 0} (a b : Shelf F D folder disk) (may : Key → Bool) (r : Result A TurnFault) → IsMoved may a b → IsEnded a b r → IsErrOf r Store → Rose (store_faults a) (store_faults b)
+  faults_rose a b may r m e store = where_rose (in_folder a) (in_folder b) (fault_count a) (fault_count b) (e.store store) m.filed (e.failed store)

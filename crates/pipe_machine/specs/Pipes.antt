@@ -1,20 +1,29 @@
 -- A machine in code, as contracts see it.
 --     pipe_of m           its histories and its seats
+--     store_faults s      how often its folder and its disks have failed: never where it has no folder
 --     IsReached a ts b    the second has answered these turns since it was the first
 --     IsSince a ts b      what stays so of the shelf, whatever became of these turns
 --     IsCalm m            over a folder whose disks tell their bytes: each history stands in its file, and no repair waits
-use Rattle.std.specs.Prelude.{◌≡◌, List}
+use Rattle.std.specs.Prelude.{◌≡◌, ℕ, List, Option, Some, None}
 use Rattle.disk_model.specs.declared.disk.Disk as disk_of
 use Rattle.wave_outside.specs.declared.folder.Folder as folder_of
-use Rattle.wavelet_shelf.specs.Shelves.{hosted_of, IsKept, IsSettled}
+use Rattle.wavelet_shelf.specs.Shelves.{hosted_of, in_folder, fault_count, IsKept, IsSettled}
+use Rattle.wavelet_shelf.specs.declared.shelf.Shelf.{Shelf}
 use Rattle.line_run.specs.Turns.{Turn}
 use Rattle.pipe_machine.specs.declared.pipe.PipeMachine.{PipeMachine}
 use Rattle.pipe_machine.specs.Keeping.{submitted_in, IsMoved}
 use Rattle.pipe_machine.specs.Machine.{Pipe, after}
 
+abbrev pub faults_where : {F : Type 0} → Option F → ℕ → ℕ
+faults_where None count = 0
+faults_where (Some f) count = count
+
 module _ {F D : Type 0} {folder : folder_of.Ghosts F D} {disk : disk_of.Ghosts D} where
   abbrev pub pipe_of : PipeMachine F D folder disk → Pipe
   pipe_of m = record { hosted = hosted_of m.shelf; seats = m.seats.items }
+
+  abbrev pub store_faults : Shelf F D folder disk → ℕ
+  store_faults s = faults_where (in_folder s) (fault_count s)
 
   abbrev pub IsReached : PipeMachine F D folder disk → List Turn → PipeMachine F D folder disk → Type 0
   IsReached a ts b = after (pipe_of a) ts ≡ pipe_of b

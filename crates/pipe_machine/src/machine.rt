@@ -120,10 +120,9 @@ impl<F: Folder + Drop> PipeMachine<F> {
 }
 
 impl<F: Folder + Drop> LineMachine for PipeMachine<F> {
-    ghost use Rattle.wavelet_shelf.specs.Shelves.{fault_count};
     ghost use Rattle.pipe_machine.specs.Lines.{lines_of};
     ghost use Rattle.pipe_machine.specs.Machine.{sent};
-    ghost use Rattle.pipe_machine.specs.Pipes.{pipe_of, IsReached, IsSince, IsCalm};
+    ghost use Rattle.pipe_machine.specs.Pipes.{pipe_of, store_faults, IsReached, IsSince, IsCalm};
     ghost use Rattle.pipe_machine.specs.Laws.{unmoved};
     ghost use Rattle.std.specs.Prelude.{refl};
 
@@ -135,7 +134,7 @@ impl<F: Folder + Drop> LineMachine for PipeMachine<F> {
 
     ghost calm = { λ m. IsCalm m };
 
-    ghost faults = { λ m. fault_count m.shelf };
+    ghost faults = { λ m. store_faults m.shelf };
 
     ghost silent = { λ m. refl };
 
@@ -143,7 +142,7 @@ impl<F: Folder + Drop> LineMachine for PipeMachine<F> {
 
     ghost unmoved = { λ m. unmoved m };
 
-    #[tactic(auto, using(crate::proofs::Turning::after_more, crate::proofs::Turning::since_more, crate::proofs::Gathering::lines_append))]
+    #[tactic(auto, using(crate::proofs::Turning::after_more, crate::proofs::Turning::since_more, crate::proofs::Turning::faults_later, crate::proofs::Turning::faults_rose, crate::proofs::Gathering::lines_append))]
     fn turn(
         &mut self,
         alloc: Global,
