@@ -2,8 +2,9 @@
 --     after_more     the machine after one more
 --     since_more     what stays so of the shelf
 --     turn_sent      what a turn sends
+--     answered_on    what is written for it, and for what follows
 --     faults_later, faults_rose    the count of what stores
-use Rattle.std.proofs.Common.{◌≡◌, ◌↔◌, ◌≤◌, ℕ, Bool, true, false, ◌||◌, List, [], ◌∷◌, ◌++◌, Option, Some, None, IsSome, Result, IsErrOf, refl, sym, ap, subst, ◌∙◌, append_assoc, append-nil, arith, true≢false}
+use Rattle.std.proofs.Common.{◌≡◌, ◌↔◌, ◌≤◌, ℕ, Bool, true, false, ◌||◌, List, [], ◌∷◌, ◌++◌, Option, Some, None, IsSome, Result, IsErrOf, refl, sym, ap, subst, ◌∙◌, append_assoc, append-nil, arith, true≢false, Ok, Err, OnOk}
 use Rattle.std.specs.List.{list_any}
 use Rattle.doc_items.specs.Maps.{Key}
 use Rattle.wavelet_op.specs.Deltas.{DeltaOf}
@@ -19,12 +20,19 @@ use Rattle.line_run.specs.declared.line_machine.TurnFault.TheVariants.{Store}
 use Rattle.pipe_machine.specs.Pipes.{faults_where, store_faults}
 use Rattle.pipe_machine.specs.Keeping.{Begins, submits_to, submitted_in, IsMoved, IsEnded}
 use Rattle.pipe_machine.specs.Lines.{lines_of}
-use Rattle.pipe_machine.specs.Machine.{Pipe, Answer, delivered, turned, turn, after}
+use Rattle.pipe_machine.specs.Machine.{Pipe, Answer, delivered, turned, turn, sent, after}
 use Rattle.pipe_machine.proofs.Gathering.{lines_append}
 
 pub after_more : (p : Pipe) (ts : List Turn) (time : ℕ) (line : List ℕ) → after p (ts ++ turn_at time line ∷ []) ≡ (turn (after p ts) time line).pipe
 after_more p [] time line = refl
 after_more p (t ∷ ts) time line = after_more (turn p t.time t.line).pipe ts time line
+
+pub answered_on : {A E : Type 0} (r : Result A E) (p q : Pipe) (out one : List ℕ) (time : ℕ) (line : List ℕ) → OnOk r (q ≡ (turn p time line).pipe) → OnOk r (one ≡ out ++ lines_of (turn p time line).sent)
+    → OnOk r ((ts : List Turn) → out ++ lines_of (sent p (turn_at time line ∷ ts)) ≡ one ++ lines_of (sent q ts))
+answered_on (Ok a) p q out one time line e f = λ ts.
+    let t = turn p time line in
+    ap (λ l. out ++ l) (lines_append t.sent (sent t.pipe ts)) ∙ sym (append_assoc out (lines_of t.sent) (lines_of (sent t.pipe ts))) ∙ (λ i. sym f i ++ lines_of (sent (sym e i) ts))
+answered_on (Err x) p q out one time line e f = tt
 
 pub turn_sent : (one two out : List ℕ) (a : Answer) (p : Pipe) → p ≡ a.pipe → one ≡ out ++ lines_of a.sent → two ≡ one ++ lines_of (delivered p).sent → two ≡ out ++ lines_of (turned a).sent
 turn_sent one two out a p e f h =
