@@ -4,7 +4,7 @@
 --     turn_sent      what a turn sends
 --     answered_on    what is written for it, and for what follows
 --     faults_later, faults_rose    the count of what stores
-use Rattle.std.proofs.Common.{◌≡◌, ◌↔◌, ◌≤◌, ℕ, Bool, true, false, ◌||◌, List, [], ◌∷◌, ◌++◌, Option, Some, None, IsSome, Result, IsErrOf, refl, sym, ap, subst, ◌∙◌, append_assoc, append-nil, arith, true≢false, Ok, Err, OnOk}
+use Rattle.std.proofs.Common.{◌≡◌, ◌↔◌, ◌≤◌, ℕ, Bool, true, false, ◌||◌, List, [], ◌∷◌, ◌++◌, Option, Some, None, IsSome, Result, IsErrOf, refl, sym, ap, ◌∙◌, append_assoc, arith, true≢false, Ok, Err, OnOk}
 use Rattle.std.specs.List.{list_any}
 use Rattle.doc_items.specs.Maps.{Key}
 use Rattle.wavelet_op.specs.Deltas.{DeltaOf}
