@@ -2,14 +2,12 @@
 --     attached_alike      what an `open` is answered
 --     delivered_alike     what a session of a pipe is sent
 --     after_alike         the session then
-use Rattle.std.proofs.Common.{◌≡◌, ℕ, Bool, true, false, not, ◌&&◌, cond, List, [], ◌∷◌, ◌++◌, Option, None, Some, refl, sym, ap, subst, ◌∙◌, is_some, option_map, option_and_then, true≢false}
+use Rattle.std.proofs.Common.{◌≡◌, Bool, true, false, not, ◌&&◌, cond, List, [], ◌∷◌, ◌++◌, Option, None, Some, refl, sym, ap, subst, is_some, option_map, option_and_then, true≢false}
 use Rattle.doc_items.specs.Maps.{Key}
 use Rattle.wave_base.specs.Versions.{VersionAt}
-use Rattle.wavelet_op.specs.Deltas.{DeltaOf}
 use Rattle.wavelet_op.specs.States.{role_of}
-use Rattle.delta_history.specs.Histories.{HistoryOf, head_of, hash_found}
+use Rattle.delta_history.specs.Histories.{HistoryOf}
 use Rattle.delta_history.specs.Points.{end_of, point_at}
-use Rattle.message_table.specs.declared.message.Message.{Message}
 use Rattle.session_core.specs.declared.session.Party.{Party}
 use Rattle.session_core.specs.declared.session.Party.TheVariants.{Nobody, User, Domain}
 use Rattle.session_core.specs.declared.session.Opening.{Opening}

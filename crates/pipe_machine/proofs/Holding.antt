@@ -2,12 +2,12 @@
 --     begins_held     so it is of longer ones
 --     after_begins    turns leave longer ones
 --     all_held        whatever turns send is so of the histories behind them
-use Rattle.std.proofs.Common.{◌≡◌, ◌≢◌, ◌⊎◌, inl, inr, ℕ, Bool, true, false, not, ◌&&◌, ◌||◌, cond, if◌then◌else◌, List, [], ◌∷◌, ◌++◌, map, take, drop, Option, None, Some, Result, Ok, Err, refl, sym, ap, subst, ◌∙◌, is_some, option_map, option_and_then, append_assoc, append-nil, true≢false}
+use Rattle.std.proofs.Common.{◌≡◌, ℕ, Bool, true, false, not, ◌&&◌, cond, if◌then◌else◌, List, [], ◌∷◌, ◌++◌, map, take, Option, None, Some, Result, Ok, Err, refl, sym, ap, subst, ◌∙◌, is_some, option_map, option_and_then, append_assoc, append-nil}
 use Rattle.std.specs.List.{All}
 use Rattle.std.specs.Str.{chars, encode_utf8_all}
 use Rattle.std.proofs.lemmas.List.{take-append-drop}
 use Rattle.std.proofs.lemmas.List.Elements.{All-nil, All-cons, All-append, All-map, All-weaker}
-use Rattle.doc_op.proofs.Applying.{no_value, same_Some}
+use Rattle.doc_op.proofs.Applying.{no_value}
 use Rattle.doc_items.specs.Maps.{Key, same_text}
 use Rattle.wave_base.specs.Grammar.{domain_of}
 use Rattle.wave_base.specs.Versions.{VersionAt, IdOf, same_id}
@@ -16,7 +16,6 @@ use Rattle.wavelet_op.specs.Acts.{Act, meanings}
 use Rattle.wavelet_op.specs.Deltas.{DeltaOf}
 use Rattle.wavelet_op.specs.Grids.{pass}
 use Rattle.wavelet_op.specs.States.{State, run}
-use Rattle.wavelet_op.specs.declared.op.WaveletOp.{WaveletOp}
 use Rattle.wavelet_op.specs.declared.delta.Submission.{Submission}
 use Rattle.wavelet_op.specs.declared.role.Role.{Role}
 use Rattle.wavelet_op.specs.declared.role.Role.TheVariants as role
@@ -33,7 +32,6 @@ use Rattle.delta_history.specs.Points.{Point, start, next_point, replay, cut}
 use Rattle.delta_history.specs.Verdicts.{kept, accepted, is_within, same_hash, Judged, judge_next, judge_bounds, judge_pass, judge_ops, judge_hash, judge_base, judge_author, judge_head, judge_kept, judge}
 use Rattle.delta_history.specs.declared.kept.Kept.{Kept}
 use Rattle.message_parts.specs.Good.{is_count}
-use Rattle.message_parts.specs.declared.reason.BadReason.{BadReason}
 use Rattle.message_parts.specs.declared.reason.BadReason.TheVariants as bad
 use Rattle.message_parts.specs.declared.reason.UnopenedReason.TheVariants as unopened
 use Rattle.message_table.specs.declared.message.Message.{Message}
@@ -47,12 +45,11 @@ use Rattle.session_core.specs.declared.session.Waiting.{Waiting}
 use Rattle.session_core.specs.declared.session.Session.{Session}
 use Rattle.session_core.specs.declared.request.Request.{Request}
 use Rattle.session_core.specs.declared.request.Request.TheVariants as ask
-use Rattle.session_core.specs.declared.request.SubmitAnswer.TheVariants as answer
-use Rattle.session_core.specs.Access.{Shown, is_member, seen_by, seen_from}
-use Rattle.session_core.specs.Answers.{with_sent, verdict_message, told_verdict, answered as told, snapshot_of, is_sendable, attached_hash, attached_seen, seen_for, attached}
+use Rattle.session_core.specs.Access.{is_member, seen_by, seen_from}
+use Rattle.session_core.specs.Answers.{with_sent, verdict_message, told_verdict, snapshot_of, is_sendable, attached_hash, attached_seen, seen_for}
 use Rattle.session_core.specs.Deliveries.{since, updates, applieds, outcome_sent, outcomes_sent, opening_news, opening_sent, openings_sent, telling_of, host_news, after_host, hosts_sent, delivered_to, delivered}
-use Rattle.session_core.specs.Rules.{Taken, refused, with_party, is_new, is_user, is_peer, greeted, met, as_user, as_peer, in_domain, is_reached, is_hosted, place_of, closed_at, asked_open, submission_of, submitted_as, submitted, closed, told_have, relay_by, relayed, taken}
-use Rattle.wavelet_shelf.specs.Hosting.{Hosted, names_of, deltas_in, copy_of, copy_in, judged_in, with_added, after_submission}
+use Rattle.session_core.specs.Rules.{Taken, refused, with_party, is_new, is_user, is_peer, met, as_user, as_peer, is_reached, is_hosted, place_of, closed_at, submission_of, submitted_as, relay_by, taken}
+use Rattle.wavelet_shelf.specs.Hosting.{Hosted, names_of, deltas_in, copy_of, copy_in, judged_in, with_added}
 use Rattle.wavelet_shelf.specs.Shelves.{acknowledged}
 use Rattle.wavelet_shelf.proofs.Growing.{grows_alone}
 use Rattle.line_run.specs.Turns.{Turn}
@@ -60,7 +57,7 @@ use Rattle.pipe_machine.specs.declared.seats.Seat.{Seat}
 use Rattle.pipe_machine.specs.Held.{IsIn, HasOf, IsHead, IsHeld}
 use Rattle.pipe_machine.specs.Keeping.{Begins}
 use Rattle.pipe_machine.specs.Lines.{Sent, sent_to}
-use Rattle.pipe_machine.specs.Machine.{Pipe, Reply, Answer, outcome_in, shown_in, asked, replied, served, answered_read, answered, delivered as delivered_all, turn, sent, after}
+use Rattle.pipe_machine.specs.Machine.{Pipe, Reply, Answer, outcome_in, shown_in, asked, replied, answered_read, answered, delivered as delivered_all, turn, sent, after}
 use Rattle.pipe_machine.specs.Seats.{place_in, seated, seat_in, seats_sent}
 use Rattle.pipe_machine.proofs.Moving.{begins_itself, begins_added}
 

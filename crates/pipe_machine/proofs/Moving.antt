@@ -3,7 +3,7 @@
 --     stays                 one that stays as it is
 --     only_if               one that may move at fewer names
 --     taken_in, refused_in  one that took a submission; one where it was refused
-use Rattle.std.proofs.Common.{◌≡◌, ◌≢◌, ◌⊎◌, inl, inr, ◌↔◌, ◌≤◌, ℕ, Bool, true, false, List, [], ◌∷◌, ◌++◌, Option, None, Some, IsSome, refl, sym, ap, subst, ◌∙◌, option_map, append-nil, arith, true≢false}
+use Rattle.std.proofs.Common.{◌≡◌, ◌≢◌, ◌⊎◌, inl, inr, ◌↔◌, ◌≤◌, ℕ, Bool, false, List, [], ◌∷◌, ◌++◌, Option, None, Some, IsSome, refl, sym, ap, subst, ◌∙◌, option_map, append-nil, arith, true≢false}
 use Rattle.doc_items.specs.Maps.{Key, same_text}
 use Rattle.wave_base.specs.Versions.{IdOf}
 use Rattle.wavelet_op.specs.Deltas.{DeltaOf}
@@ -14,14 +14,14 @@ use Rattle.delta_history.specs.Points.{start}
 use Rattle.delta_history.specs.Verdicts.{kept}
 use Rattle.disk_model.specs.declared.disk.Disk as disk_of
 use Rattle.wave_outside.specs.declared.folder.Folder as folder_of
-use Rattle.session_core.specs.Access.{Shown, shown}
+use Rattle.session_core.specs.Access.{shown}
 use Rattle.wavelet_shelf.specs.Hosting.{Hosted, names_of, deltas_in, copy_in, IsCopyOf, judged_in, with_added, after_submission}
 use Rattle.wavelet_shelf.specs.Shelves.{acknowledged, in_folder, hosted_of, container_in, copies_of, outcome_of, fault_count, IsKept}
 use Rattle.wavelet_shelf.specs.declared.shelf.Shelf.{Shelf}
 use Rattle.wavelet_shelf.proofs.Growing.{grows_alone}
 use Rattle.wavelet_shelf.proofs.Names.{own, same_or_not}
 use Rattle.pipe_machine.specs.Keeping.{Begins, IsMoved}
-use Rattle.pipe_machine.specs.Machine.{nothing_dropped, outcome_in, shown_in}
+use Rattle.pipe_machine.specs.Machine.{shown_in}
 use Rattle.pipe_machine.specs.Shows.{IsSameShown}
 
 kept_alike : (o p : Option HistoryOf) (i : IdOf) → IsCopyOf o p → kept_in o i ≡ kept_in p i

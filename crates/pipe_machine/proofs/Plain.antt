@@ -5,24 +5,21 @@
 --     sent_short          whatever is sent
 --     after_plain         whatever was sent
 --     plain_after, short_after    whatever a message is replied
-use Rattle.std.proofs.Common.{◌≡◌, ◌==◌, ℕ, Bool, true, false, ◌&&◌, ◌||◌, if◌then◌else◌, List, [], ◌∷◌, ◌++◌, Option, None, Some, Result, Ok, Err, IfOk, OnErr, refl, sym, ap, subst, ◌∙◌, is_some, option_map, true≢false}
+use Rattle.std.proofs.Common.{◌≡◌, ◌==◌, ℕ, Bool, true, false, ◌&&◌, if◌then◌else◌, List, [], ◌∷◌, Option, None, Some, Result, Ok, Err, IfOk, OnErr, refl, sym, ap, subst, true≢false}
 use Rattle.std.specs.Cmp.Lexicographic.{pointwise}
 use Rattle.std.specs.List.{All}
 use Rattle.std.specs.Str.{encode_utf8_all}
 use Rattle.std.proofs.lemmas.List.Elements.{All-nil, All-cons, All-append}
 use Rattle.doc_items.specs.Maps.{Key, same_text}
-use Rattle.wave_base.specs.Grammar.{is_address, domain_of, host_of}
 use Rattle.wave_base.specs.Versions.{VersionAt, IdOf}
 use Rattle.wavelet_op.specs.Deltas.{DeltaOf}
 use Rattle.wavelet_op.specs.declared.op.WaveletOp.{WaveletOp}
-use Rattle.wavelet_op.specs.declared.delta.Submission.{Submission}
 use Rattle.wavelet_op.specs.declared.verdict.Verdict.{Verdict}
 use Rattle.wavelet_op.specs.declared.verdict.Verdict.TheVariants as verdict
 use Rattle.delta_history.specs.Histories.{HistoryOf, head_of, hash_found}
 use Rattle.message_parts.specs.Good.{is_count}
 use Rattle.message_parts.specs.declared.reason.BadReason.{BadReason}
 use Rattle.message_parts.specs.declared.reason.BadReason.TheVariants as bad
-use Rattle.message_parts.specs.declared.reason.ClosedReason.TheVariants.{Asked}
 use Rattle.message_parts.specs.declared.reason.UnopenedReason.TheVariants as unopened
 use Rattle.message_table.specs.Write.{IsShort}
 use Rattle.message_table.specs.declared.message.Message.{Message}
@@ -36,9 +33,9 @@ use Rattle.session_core.specs.declared.request.Request.{Request}
 use Rattle.session_core.specs.declared.request.Request.TheVariants as ask
 use Rattle.session_core.specs.declared.request.SubmitAnswer.TheVariants as answer
 use Rattle.session_core.specs.Access.{Shown, seen_by}
-use Rattle.session_core.specs.Answers.{with_sent, verdict_message, told_verdict, answered, snapshot_of, is_sendable, attached_head, attached_hash, attached_seen, seen_for, attached}
+use Rattle.session_core.specs.Answers.{with_sent, verdict_message, told_verdict, answered, snapshot_of, is_sendable, attached_hash, attached_seen, seen_for, attached}
 use Rattle.session_core.specs.Deliveries.{since, updates, outcome_sent, outcomes_sent, opening_news, opening_sent, openings_sent, delivered_to, delivered, after_for, after_delivery}
-use Rattle.session_core.specs.Rules.{Taken, party_is_user, party_is_peer, has_user, refused, with_party, is_new, is_user, greeted, as_user, in_domain, is_reached, place_of, without, with_openings, closed_at, asked_open, submission_of, submitted_as, submitted, closed, told_have, relayed, taken}
+use Rattle.session_core.specs.Rules.{Taken, party_is_user, party_is_peer, has_user, refused, with_party, is_new, is_user, greeted, as_user, in_domain, is_reached, place_of, closed_at, asked_open, submission_of, submitted_as, submitted, closed, taken}
 use Rattle.wavelet_shelf.specs.Hosting.{Hosted, judged_in}
 use Rattle.line_run.specs.declared.line_machine.TurnFault.{TurnFault}
 use Rattle.pipe_machine.specs.Keeping.{asks_for, submits}

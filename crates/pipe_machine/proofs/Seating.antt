@@ -2,7 +2,7 @@
 --     seated_within     the seat of a name is among the seats
 --     seated_name       and has that name
 --     plain_either, plain_with, plain_seats     each session stays one of a pipe
-use Rattle.std.proofs.Common.{◌≡◌, ◌+◌, ◌<◌, ◌≤◌, ℕ, zero, suc, Bool, true, false, cond, List, [], ◌∷◌, ◌++◌, length, take, drop, slice_set, Result, Ok, Err, OnOk, OnErr, refl, sym, ap, subst, ◌∙◌, arith, true≢false}
+use Rattle.std.proofs.Common.{◌≡◌, ◌+◌, ◌<◌, ◌≤◌, ℕ, zero, suc, Bool, true, false, cond, List, [], ◌∷◌, ◌++◌, length, take, drop, slice_set, Result, Ok, Err, OnOk, OnErr, refl, sym, subst, arith, true≢false}
 use Rattle.std.specs.Cmp.Lexicographic.{slice_cmp, bytes_decides}
 use Rattle.std.specs.Ordering.{nat_cmp, is_gt}
 use Rattle.doc_items.specs.Maps.{Key}

@@ -2,7 +2,7 @@
 --     attached_of       in the answer to an `open`
 --     delivered_of      in deliveries
 --     after_of          and the session then
-use Rattle.std.proofs.Common.{◌≡◌, ℕ, false, Option}
+use Rattle.std.proofs.Common.{◌≡◌, false, Option}
 use Rattle.doc_items.specs.Maps.{Key}
 use Rattle.wave_base.specs.Versions.{VersionAt}
 use Rattle.disk_model.specs.declared.disk.Disk as disk_of

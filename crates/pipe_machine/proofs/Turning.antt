@@ -2,9 +2,9 @@
 --     after_more     the machine after one more
 --     since_more     what stays so of the shelf
 --     turn_sent      what a turn sends
---     turn_answered  what is written for turns
+--     answered_on    what is written for it, and for what follows
 --     faults_later, faults_rose    the count of what stores
-use Rattle.std.proofs.Common.{◌≡◌, ◌↔◌, ◌≤◌, ℕ, Bool, true, false, ◌||◌, List, [], ◌∷◌, ◌++◌, Option, Some, None, IsSome, Result, Ok, Err, OnOk, IsErrOf, refl, sym, ap, subst, ◌∙◌, append_assoc, append-nil, arith, true≢false}
+use Rattle.std.proofs.Common.{◌≡◌, ◌↔◌, ◌≤◌, ℕ, Bool, true, false, ◌||◌, List, [], ◌∷◌, ◌++◌, Option, Some, None, IsSome, Result, IsErrOf, refl, sym, ap, ◌∙◌, append_assoc, arith, true≢false, Ok, Err, OnOk}
 use Rattle.std.specs.List.{list_any}
 use Rattle.doc_items.specs.Maps.{Key}
 use Rattle.wavelet_op.specs.Deltas.{DeltaOf}
@@ -27,18 +27,16 @@ pub after_more : (p : Pipe) (ts : List Turn) (time : ℕ) (line : List ℕ) → 
 after_more p [] time line = refl
 after_more p (t ∷ ts) time line = after_more (turn p t.time t.line).pipe ts time line
 
+pub answered_on : {A E : Type 0} (r : Result A E) (p q : Pipe) (out one : List ℕ) (time : ℕ) (line : List ℕ) → OnOk r (q ≡ (turn p time line).pipe) → OnOk r (one ≡ out ++ lines_of (turn p time line).sent)
+    → OnOk r ((ts : List Turn) → out ++ lines_of (sent p (turn_at time line ∷ ts)) ≡ one ++ lines_of (sent q ts))
+answered_on (Ok a) p q out one time line e f = λ ts.
+    let t = turn p time line in
+    ap (λ l. out ++ l) (lines_append t.sent (sent t.pipe ts)) ∙ sym (append_assoc out (lines_of t.sent) (lines_of (sent t.pipe ts))) ∙ (λ i. sym f i ++ lines_of (sent (sym e i) ts))
+answered_on (Err x) p q out one time line e f = tt
+
 pub turn_sent : (one two out : List ℕ) (a : Answer) (p : Pipe) → p ≡ a.pipe → one ≡ out ++ lines_of a.sent → two ≡ one ++ lines_of (delivered p).sent → two ≡ out ++ lines_of (turned a).sent
 turn_sent one two out a p e f h =
     h ∙ (λ i. f i ++ lines_of (delivered (e i)).sent) ∙ append_assoc out (lines_of a.sent) (lines_of (delivered a.pipe).sent) ∙ ap (λ l. out ++ l) (sym (lines_append a.sent (delivered a.pipe).sent))
-
--- what is written for a turn, and for those behind it
-pub turn_answered : {X E : Type 0} (r : Result X E) (p q : Pipe) (time : ℕ) (line out new : List ℕ) → OnOk r (q ≡ (turn p time line).pipe) → OnOk r (new ≡ out ++ lines_of (turn p time line).sent)
-    → OnOk r ((ts : List Turn) → out ++ lines_of (sent p (turn_at time line ∷ ts)) ≡ new ++ lines_of (sent q ts))
-turn_answered (Err e) p q time line out new is more = tt
-turn_answered (Ok x) p q time line out new is more = λ ts.
-    let a = turn p time line in
-    ap (λ l. out ++ l) (lines_append a.sent (sent a.pipe ts)) ∙ sym (append_assoc out (lines_of a.sent) (lines_of (sent a.pipe ts)))
-    ∙ ap (λ l. l ++ lines_of (sent a.pipe ts)) (sym more) ∙ ap (λ (m : Pipe). new ++ lines_of (sent m ts)) (sym is)
 
 begins_on : (ds es fs : List DeltaOf) → Begins ds es → Begins es fs → Begins ds fs
 begins_on ds es fs (a, e) (b, f) = (a ++ b, sym (append_assoc ds a b) ∙ ap (λ l. l ++ b) e ∙ f)

@@ -6,7 +6,7 @@
 --     submitted_in ts n   one of the turns is one
 --     IsMoved may a b     the shelf before and behind a step that may submit to the names of which this holds
 --     IsEnded a b r       that no repair waits behind it, or why it failed
-use Rattle.std.specs.Prelude.{◌≡◌, ◌↔◌, ◌≤◌, ℕ, List, ◌++◌, Bool, true, false, Result, Ok, Err, IsSome, OnOk, IsErrOf}
+use Rattle.std.specs.Prelude.{◌≡◌, ◌↔◌, ◌≤◌, ℕ, List, ◌++◌, Bool, false, Result, Ok, Err, IsSome, OnOk, IsErrOf}
 use Rattle.std.specs.List.{list_any}
 use Rattle.doc_items.specs.Maps.{Key, same_text}
 use Rattle.wavelet_op.specs.Deltas.{DeltaOf}

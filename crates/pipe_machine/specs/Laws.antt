@@ -1,6 +1,6 @@
 -- What stays so of a machine that does nothing.
 --     unmoved m     nothing happened since
-use Rattle.std.specs.Prelude.{◌≡◌, ℕ, List, [], ◌∷◌, ◌++◌, refl}
+use Rattle.std.specs.Prelude.{[], refl}
 use Rattle.std.proofs.Common.{append-nil, arith}
 use Rattle.disk_model.specs.declared.disk.Disk as disk_of
 use Rattle.wave_outside.specs.declared.folder.Folder as folder_of

@@ -10,7 +10,7 @@
 --     turn p t l          a line, its reply and the deliveries
 --     sent p ts           what is sent for turns, one after the other
 --     after p ts          the machine then
-use Rattle.std.specs.Prelude.{ℕ, ◌+◌, List, [], ◌∷◌, ◌++◌, Bool, false, Option, Some, None, Result, Ok, Err}
+use Rattle.std.specs.Prelude.{ℕ, List, [], ◌∷◌, ◌++◌, Bool, false, Option, Some, None, Result, Ok, Err}
 use Rattle.std.specs.Option.{option_map}
 use Rattle.doc_items.specs.Maps.{Key}
 use Rattle.wave_base.specs.Versions.{IdOf}

@@ -11,7 +11,7 @@
 --     IsPlain s              a session of a pipe: it has no domain, and speaks for none
 --     IsPlainSeat s          so is that of a seat
 --     AsksAsUser s r         only one with a user asks for a wavelet to be opened
-use Rattle.std.specs.Prelude.{◌≡◌, ◌==◌, ℕ, ◌+◌, List, [], ◌∷◌, ◌++◌, take, drop, slice_get, slice_set, slice_index_or, map, Bool, true, false, cond, Option, Some, None, is_some}
+use Rattle.std.specs.Prelude.{◌≡◌, ℕ, ◌+◌, List, [], ◌∷◌, ◌++◌, take, drop, slice_get, slice_set, slice_index_or, map, Bool, true, false, cond, None, is_some}
 use Rattle.std.specs.Coded.{Coded-set, coded_bool, ×_prop}
 use Rattle.std.specs.Option.{option_map_or}
 use Rattle.std.specs.Ordering.{nat_cmp, is_gt}

@@ -142,7 +142,7 @@ impl<F: Folder + Drop> LineMachine for PipeMachine<F> {
 
     ghost unmoved = { λ m. unmoved m };
 
-    #[tactic(auto, using(crate::proofs::Turning::after_more, crate::proofs::Turning::since_more, crate::proofs::Turning::faults_later, crate::proofs::Turning::faults_rose, crate::proofs::Gathering::lines_append))]
+    #[tactic(auto, using(crate::proofs::Turning::after_more, crate::proofs::Turning::faults_later, crate::proofs::Turning::faults_rose))]
     fn turn(
         &mut self,
         alloc: Global,

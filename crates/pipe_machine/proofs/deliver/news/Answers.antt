@@ -1,5 +1,4 @@
 use Rattle.std.proofs.Common.{rules}
-use Rattle.pipe_machine.proofs.Plain.{sent_short, after_plain}
 use Rattle.pipe_machine.proofs.Telling.{delivered_of, after_of}
 use Rattle.pipe_machine.proofs.deliver.news.Goals as goal
 

@@ -1,6 +1,3 @@
-use Rattle.std.proofs.Common.{subst, sym}
-use Rattle.std.specs.List.{AllByRecursion}
-use Rattle.pipe_machine.specs.Seats.{IsPlainSeat}
 use Rattle.pipe_machine.proofs.Seating.{plain_either, plain_with}
 use Rattle.pipe_machine.proofs.pipe.PipeMachine.serve.Goals as goal
 

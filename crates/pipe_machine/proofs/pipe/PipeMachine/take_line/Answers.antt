@@ -1,4 +1,3 @@
-use Rattle.std.proofs.lemmas.List.Elements.{recursion_from_All}
 use Rattle.pipe_machine.specs.Machine.{answered}
 use Rattle.pipe_machine.specs.Pipes.{pipe_of}
 use Rattle.pipe_machine.proofs.Seating.{plain_seats}
