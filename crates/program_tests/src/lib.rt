@@ -5,3 +5,7 @@
 mod outside;
 #[cfg(test)]
 mod runs;
+#[cfg(test)]
+mod sessions;
+#[cfg(test)]
+mod stores;

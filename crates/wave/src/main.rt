@@ -4,6 +4,7 @@
 use std::alloc::{AllocError, Global};
 use std::process::ExitCode;
 use std::{env, io};
+use wave_files::{FileFolder, SystemClock};
 use wave_outside::{ReaderSource, WriterSink};
 use wave_program::run;
 
@@ -14,8 +15,17 @@ fn main(rt: HostRuntime) -> ExitCode {
     let alloc = rt.alloc();
     let mut source = ReaderSource::new(rt.reader());
     let mut sink = WriterSink::new(io::writer(&rt));
+    let mut folder = FileFolder::new(rt, alloc);
+    let mut clock = SystemClock::new(rt);
     let status = match words(&rt, alloc) {
-        Ok(words) => run(alloc, &words, &mut source, &mut sink),
+        Ok(words) => run(
+            alloc,
+            &words,
+            &mut source,
+            &mut sink,
+            &mut folder,
+            &mut clock,
+        ),
         Err(_) => OUT_OF_MEMORY,
     };
     ExitCode::from(status)

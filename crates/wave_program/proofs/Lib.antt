@@ -1,7 +1,4 @@
-pub mod Booleans
-pub mod Cuts
+pub mod Completing
 pub mod LoadWords
-pub mod Told
-pub mod Unserved
-pub mod Slices
-pub mod Steps
+pub mod Piping
+pub mod Storing

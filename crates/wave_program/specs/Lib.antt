@@ -1,11 +1,6 @@
-pub mod Cut
-pub mod Edit
-pub mod Lines
+pub mod Damage
 pub mod Load
-pub mod Machine
-pub mod Message
-pub mod Output
 pub mod Pipe
-pub mod Reply
 pub mod Run
+pub mod Store
 pub mod Words

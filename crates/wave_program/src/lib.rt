@@ -1,20 +1,14 @@
-//! The program's top call: edits of one document in, one JSON line each, and their answers out.
+//! The program's top call: the words, and the commands that they name, over a source, a sink, a folder and a clock.
 //!
-//! A byte goes from the source through `pipe` (a chunk at a time), `cut` (lines), `message` (JSON),
-//! `machine` (the document) and `reply` (JSON) to `output` and the sink. `load` is the command of that name.
+//! `pipe` takes lines of any number of sessions through `line_run` into `pipe_machine`, whose histories stand in the folder where the
+//! words name one. `load` is the command of that name.
 #![tactic(auto)]
 
-mod cut;
+mod damage;
 mod load;
-mod machine;
-mod message;
-mod output;
 mod pipe;
-mod reply;
+mod store;
 mod top;
 mod words;
 
-pub use machine::Machine;
-pub use message::MAX_CLIENT;
-pub use reply::Reply;
 pub use top::run;

@@ -4,7 +4,7 @@ ghost use Rattle.std.specs.Io.KnownBytes.{Appends};
 ghost use Rattle.wave_outside.specs.Counts.{Rose};
 ghost use Rattle.wave_program.specs.Load.{load_line, IsFront};
 
-use crate::output::write_all;
+use line_run::write_all;
 use doc_items::Memory;
 use load_script::{run_load, summary_line};
 use std::alloc::Global;

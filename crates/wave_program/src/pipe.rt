@@ -1,98 +1,70 @@
-// The loop over the input, a chunk at a time.
-ghost use Rattle.std.specs.Prelude.{◌≡◌, ◌≤◌, ℕ, List, take, OnOk, IfErr, IfOk, Bool, true, IsErrOf, ◌<◌, ◌++◌, [], length};
+// The lines of a source, answered over a shelf.
+ghost use Rattle.std.specs.Prelude.{◌≡◌, ◌⊎◌, [], None, IsTrue};
 ghost use Rattle.wave_outside.specs.Counts.{Rose};
-ghost use Rattle.wave_program.specs.Cut.{to_come};
-ghost use Rattle.wave_program.specs.Run.{IsServed, WhereTold};
-ghost use Rattle.wave_program.specs.Pipe.{status_of, IsPumped, IsCut};
+ghost use Rattle.line_run.specs.Run.{status_of};
+ghost use Rattle.line_run.specs.Told.{WhereTold, IsTold};
+ghost use Rattle.wavelet_shelf.specs.Shelves.{in_folder, entries_of, hosted_of};
+ghost use Rattle.pipe_machine.specs.Pipes.{store_faults};
+ghost use Rattle.wave_program.specs.Pipe.{answers_over, IsOver};
+ghost use Rattle.wave_program.specs.Run.{IsServing};
 
-use crate::cut::Cutter;
-use crate::output::write_all;
-use doc_items::Memory;
+use line_run::{Stop, run_lines};
+use pipe_machine::PipeMachine;
 use std::alloc::Global;
-use wave_outside::{Sink, Source};
+use wave_outside::{Clock, Folder, Sink, Source};
+use wavelet_shelf::Shelf;
 
-// The most bytes that one run reads.
-const BYTE_LIMIT: u64 = 1 << 62;
-
-// The most bytes that are read at once. The replies to them are written at once, too.
-const CHUNK: usize = 1 << 16;
-
-// Why a run stopped before the end of its input.
-#[derive(Clone, Copy)]
-pub enum Stop {
-    Source,
-    Sink,
-    Memory,
-    Limit,
-}
-
-// Answers the lines of the source until it ends.
-pub fn pipe<S: Source, W: Sink>(alloc: Global, source: &mut S, sink: &mut W) -> Result<(), Stop>
-    ensures served { WhereTold (S.left source.old) (S.left source.new) (W.written sink.old) (W.written sink.new)
-        (IsServed (status_of result)) }
-    ensures source_failed { IsErrOf result Stop.Source → Rose (S.faults source.old) (S.faults source.new) }
-    ensures sink_failed { IsErrOf result Stop.Sink → Rose (W.faults sink.old) (W.faults sink.new) }
+// The exit status of a run over lines.
+fn status(ending: Result<(), Stop>) -> u8
+    ensures { result ≡ status_of ending }
 {
-    let mut cutter = Cutter::new(alloc);
-    let mut taken: u64 = 0;
-    let mut buffer = [0u8; CHUNK];
-    while taken < BYTE_LIMIT {
-        let room = (BYTE_LIMIT - taken).min(CHUNK as u64) as usize;
-        let count = pump(alloc, &mut cutter, source, sink, &mut buffer[..room])?;
-        if count == 0 {
-            return Ok(());
-        }
-        taken += count as u64;
+    match ending {
+        Ok(()) => 0,
+        Err(Stop::Source) => 3,
+        Err(Stop::Sink) => 4,
+        Err(Stop::Store) => 5,
+        Err(Stop::Memory) => 8,
+        Err(Stop::Limit) => 10,
     }
-    Err(Stop::Limit)
 }
 
-// Reads some bytes, at most as many as the buffer takes, and writes the replies to the lines that end in them; at the
-// end of the input, the reply to the line that is open.
-fn pump<S: Source, W: Sink>(
+/// Answers the lines of the source on the sink, and gives the shelf as it then is, with the exit status.
+pub fn serve_over<S: Source, W: Sink, F: Folder + Drop, C: Clock>(
     alloc: Global,
-    cutter: &mut Cutter,
+    shelf: Shelf<F>,
     source: &mut S,
     sink: &mut W,
-    buffer: &mut [u8],
-) -> Result<usize, Stop>
-    requires { 0 < length buffer.old }
-    ensures ok { IfOk result (λ count.
-        WhereTold (S.left source.old) (S.left source.new) (W.written sink.old) (W.written sink.new)
-        (IsPumped cutter.old cutter.new count)) }
-    ensures err { IfErr result (λ e.
-        WhereTold (S.left source.old) (S.left source.new) (W.written sink.old) (W.written sink.new)
-        (IsCut (length buffer.old) cutter.old e)) }
-    ensures small { IfOk result (λ count. count ≤ length buffer.old) }
-    ensures source_later { S.faults source.old ≤ S.faults source.new }
-    ensures sink_later { W.faults sink.old ≤ W.faults sink.new }
-    ensures source_failed { IsErrOf result Stop.Source → Rose (S.faults source.old) (S.faults source.new) }
-    ensures sink_failed { IsErrOf result Stop.Sink → Rose (W.faults sink.old) (W.faults sink.new) }
-    ensures limit { IsErrOf result Stop.Limit → ⊥ }
+    clock: &mut C,
+) -> (Shelf<F>, u8)
+    ensures served { IsTrue C.tells → WhereTold (S.left source.old) (S.left source.new) (W.written sink.old) (W.written sink.new)
+        (IsTold (answers_over (hosted_of shelf)) (C.readings clock.old) result.1) }
+    ensures over { IsOver C.Clock shelf result.0 clock.old (S.left source.old) (S.left source.new) (W.written sink.old) (W.written sink.new) result.1 }
+    ensures source_failed { result.1 ≡ 3 → Rose (S.faults source.old) (S.faults source.new) }
+    ensures sink_failed { result.1 ≡ 4 → Rose (W.faults sink.old) (W.faults sink.new) }
+    ensures store_failed { result.1 ≡ 5 → Rose (store_faults shelf) (store_faults result.0) }
+    ensures known { IsServing result.1 }
 {
-    let Ok(count) = source.read(buffer) else {
-        return Err(Stop::Source);
-    };
-    let Ok(replies) = replies_to(alloc, cutter, &buffer[..count]) else {
-        return Err(Stop::Memory);
-    };
-    match write_all(sink, replies.as_slice()) {
-        Ok(()) => Ok(count),
-        Err(_) => Err(Stop::Sink),
-    }
+    let mut machine = PipeMachine::new(alloc, shelf);
+    let ending = run_lines(alloc, &mut machine, source, sink, clock);
+    (machine.into_shelf(), status(ending))
 }
 
-// The replies to the lines that end in these bytes; where there are none, the input has ended.
-fn replies_to(alloc: Global, cutter: &mut Cutter, bytes: &[u8]) -> Result<Vec<u8>, Memory>
-    ensures more { IfOk result (λ replies. 0 < length bytes.now → (all : Bool) (rest : List ℕ)
-        → to_come all cutter.old (bytes.now ++ rest) ≡ replies.items ++ to_come all cutter.new rest) }
-    ensures last { IfOk result (λ replies. length bytes.now ≡ 0 → to_come true cutter.old [] ≡ replies.items) }
+/// Answers the lines of the source on the sink, over histories that stand nowhere, and gives the exit status.
+pub fn serve<S: Source, W: Sink, F: Folder + Drop, C: Clock>(
+    alloc: Global,
+    shelf: Shelf<F>,
+    source: &mut S,
+    sink: &mut W,
+    clock: &mut C,
+) -> u8
+    requires plain { in_folder shelf ≡ None }
+    requires empty { entries_of shelf ≡ [] }
+    ensures served { IsTrue C.tells → WhereTold (S.left source.old) (S.left source.new) (W.written sink.old) (W.written sink.new)
+        (IsTold (answers_over []) (C.readings clock.old) result) }
+    ensures source_failed { result ≡ 3 → Rose (S.faults source.old) (S.faults source.new) }
+    ensures sink_failed { result ≡ 4 → Rose (W.faults sink.old) (W.faults sink.new) }
+    ensures known { (result ≡ 0) ⊎ ((result ≡ 3) ⊎ ((result ≡ 4) ⊎ ((result ≡ 8) ⊎ (result ≡ 10)))) }
 {
-    let mut replies = Vec::new(alloc);
-    if bytes.is_empty() {
-        cutter.end(alloc, &mut replies)?;
-        return Ok(replies);
-    }
-    cutter.take(alloc, bytes, &mut replies)?;
-    Ok(replies)
+    let (_shelf, status) = serve_over(alloc, shelf, source, sink, clock);
+    status
 }

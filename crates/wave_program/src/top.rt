@@ -1,34 +1,25 @@
 // The top call.
-ghost use Rattle.std.specs.Prelude.{◌≡◌, ◌⊎◌, ℕ, length, ◌++◌, ◌<◌, ◌≤◌, map, string_bytes, Some, None};
+ghost use Rattle.std.specs.Prelude.{◌≡◌, ◌⊎◌, ℕ, List, [], length, ◌++◌, ◌<◌, ◌≤◌, map, string_bytes, Some, None, IsTrue};
 ghost use Rattle.wave_outside.specs.Counts.{Rose};
 ghost use Rattle.command_words.specs.Commands.{command_of, Pipe, Load};
+ghost use Rattle.line_run.specs.Output.{IsWritten};
+ghost use Rattle.line_run.specs.Run.{byte_limit};
+ghost use Rattle.line_run.specs.Told.{WhereTold, IsTold};
+ghost use Rattle.wavelet_shelf.specs.Loads.{IsRefusedFile};
 ghost use Rattle.wave_program.specs.Load.{IsLoaded};
-ghost use Rattle.wave_program.specs.Output.{IsWritten};
-ghost use Rattle.wave_program.specs.Words.{IsOther, usage};
-ghost use Rattle.wave_program.specs.Run.{IsServed, IsStatus, WhereTold, byte_limit};
+ghost use Rattle.wave_program.specs.Pipe.{answers_over};
+ghost use Rattle.wave_program.specs.Run.{IsStatus};
+ghost use Rattle.wave_program.specs.Store.{IsStoredRun, IsUnloaded};
+ghost use Rattle.wave_program.specs.Words.{IsOther, IsStoring, usage};
 
 use crate::load::{LoadStop, load};
-use crate::pipe::{Stop, pipe};
+use crate::pipe::serve;
+use crate::store::serve_stored;
 use crate::words::write_usage;
 use command_words::{Command, WordsFault, read_words};
 use std::alloc::Global;
-use wave_outside::{Sink, Source};
-
-// Answers the lines of the source on the sink, and gives the exit status.
-fn serve<S: Source, W: Sink>(alloc: Global, source: &mut S, sink: &mut W) -> u8
-    ensures served { WhereTold (S.left source.old) (S.left source.new) (W.written sink.old) (W.written sink.new) (IsServed result) }
-    ensures source_failed { result ≡ 3 → Rose (S.faults source.old) (S.faults source.new) }
-    ensures sink_failed { result ≡ 4 → Rose (W.faults sink.old) (W.faults sink.new) }
-    ensures known { (result ≡ 0) ⊎ ((result ≡ 3) ⊎ ((result ≡ 4) ⊎ ((result ≡ 8) ⊎ (result ≡ 10)))) }
-{
-    match pipe(alloc, source, sink) {
-        Ok(()) => 0,
-        Err(Stop::Source) => 3,
-        Err(Stop::Sink) => 4,
-        Err(Stop::Memory) => 8,
-        Err(Stop::Limit) => 10,
-    }
-}
+use wave_outside::{Clock, Folder, Sink, Source};
+use wavelet_shelf::Shelf;
 
 // Runs the load of a number, writes its line, and gives the exit status.
 fn tell_load<W: Sink>(alloc: Global, count: u64, sink: &mut W) -> u8
@@ -46,23 +37,47 @@ fn tell_load<W: Sink>(alloc: Global, count: u64, sink: &mut W) -> u8
 /// Runs the command that the words name, and gives the exit status.
 ///
 /// On `pipe` it answers the lines of the source on the sink: 0 at the end of the input, 3 where the source failed, 4 where the sink
-/// did, 8 out of memory, and 10 where it read 2^62 bytes. On `load N`, with N up to 100,000, it runs the stated workload and writes
-/// its summary as a line: 0, 4 where the sink failed, 8 out of memory. With other words it writes the usage text and gives 2, or 8
-/// out of memory.
-pub fn run<S: Source, W: Sink>(
+/// did, 8 out of memory, and 10 where it read 2^62 bytes. On `pipe --store DIR` it does so over the wavelets that stand in the folder
+/// DIR: 5 where the folder or a file failed, and 6, with a line that tells of it, where a file isn't the journal of a legal history. On
+/// `load N`, with N up to 100,000, it runs the stated workload and writes its summary as a line: 0, 4 where the sink failed, 8 out of
+/// memory. With other words it writes the usage text and gives 2, or 8 out of memory.
+pub fn run<S: Source, W: Sink, F: Folder + Drop, C: Clock>(
     alloc: Global,
     words: &Vec<String>,
     source: &mut S,
     sink: &mut W,
+    folder: &mut F,
+    clock: &mut C,
 ) -> u8
-    ensures served { command_of (map string_bytes words.now.items) ≡ Some (Pipe None)
+    // Lines: they are answered, over no history.
+    ensures served { command_of (map string_bytes words.now.items) ≡ Some (Pipe None) → IsTrue C.tells
         → WhereTold (S.left source.old) (S.left source.new) (W.written sink.old) (W.written sink.new)
-        (IsServed result) }
+        (IsTold (answers_over []) (C.readings clock.old) result) }
+    ensures alone { command_of (map string_bytes words.now.items) ≡ Some (Pipe None) → folder.new ≡ folder.old }
+    ensures complete { command_of (map string_bytes words.now.items) ≡ Some (Pipe None) → IsTrue C.tells
+        → (Rose (S.faults source.old) (S.faults source.new) → ⊥)
+        → (Rose (W.faults sink.old) (W.faults sink.new) → ⊥)
+        → WhereTold (S.left source.old) (S.left source.new) (W.written sink.old) (W.written sink.new)
+        (λ read left written. length (read ++ left) < byte_limit → (result ≡ 0) ⊎ (result ≡ 8)) }
+
+    // Lines and a store: they are answered over the histories for which the folder's files stand, and what is sent stands there.
+    ensures stored { (path : List ℕ) → command_of (map string_bytes words.now.items) ≡ Some (Pipe (Some path)) → IsTrue F.tells → IsTrue F.Disk.tells
+        → IsStoredRun F.Folder F.Disk.Disk C.Clock folder.old folder.new clock.old (S.left source.old) (S.left source.new) (W.written sink.old) (W.written sink.new) result
+        ⊎ ((source.new ≡ source.old) × IsUnloaded F.Folder F.Disk.Disk folder.old (W.written sink.old) (W.written sink.new) (W.faults sink.old) (W.faults sink.new) result) }
+    ensures stored_complete { (path : List ℕ) → command_of (map string_bytes words.now.items) ≡ Some (Pipe (Some path)) → IsTrue C.tells → IsTrue F.tells → IsTrue F.Disk.tells
+        → ((file : List ℕ) (offset : ℕ) → IsRefusedFile F.Disk.view (F.files folder.old file) file offset → ⊥)
+        → (Rose (S.faults source.old) (S.faults source.new) → ⊥)
+        → (Rose (W.faults sink.old) (W.faults sink.new) → ⊥)
+        → (Rose (F.faults folder.old) (F.faults folder.new) → ⊥)
+        → WhereTold (S.left source.old) (S.left source.new) (W.written sink.old) (W.written sink.new)
+        (λ read left written. length (read ++ left) < byte_limit → (result ≡ 0) ⊎ (result ≡ 8)) }
 
     // A load: nothing is read, and the summary of the load is written.
     ensures loaded { (n : ℕ) → command_of (map string_bytes words.now.items) ≡ Some (Load n)
         → IsLoaded n result (W.written sink.old) (W.written sink.new) }
     ensures load_unread { (n : ℕ) → command_of (map string_bytes words.now.items) ≡ Some (Load n) → source.new ≡ source.old }
+    ensures load_complete { (n : ℕ) → command_of (map string_bytes words.now.items) ≡ Some (Load n)
+        → (Rose (W.faults sink.old) (W.faults sink.new) → ⊥) → (result ≡ 0) ⊎ (result ≡ 8) }
 
     // Other words: nothing is read, and the usage text is written.
     ensures usage { result ≡ 2 → IsOther (command_of (map string_bytes words.now.items)) }
@@ -71,22 +86,22 @@ pub fn run<S: Source, W: Sink>(
     ensures shown { result ≡ 2
         → IsWritten (W.written sink.old) (W.written sink.new) (W.faults sink.old) (W.faults sink.new) usage }
 
-    // Each further status has its cause, and without one the work is done.
+    // Each further status has its cause.
     ensures source_failed { result ≡ 3 → Rose (S.faults source.old) (S.faults source.new) }
     ensures sink_failed { result ≡ 4 → Rose (W.faults sink.old) (W.faults sink.new) }
-    ensures complete { command_of (map string_bytes words.now.items) ≡ Some (Pipe None)
-        → (Rose (S.faults source.old) (S.faults source.new) → ⊥)
-        → (Rose (W.faults sink.old) (W.faults sink.new) → ⊥)
-        → WhereTold (S.left source.old) (S.left source.new) (W.written sink.old) (W.written sink.new)
-        (λ read left written. length (read ++ left) < byte_limit → (result ≡ 0) ⊎ (result ≡ 8)) }
-    ensures load_complete { (n : ℕ) → command_of (map string_bytes words.now.items) ≡ Some (Load n)
-        → (Rose (W.faults sink.old) (W.faults sink.new) → ⊥) → (result ≡ 0) ⊎ (result ≡ 8) }
+    ensures store_failed { result ≡ 5 → Rose (F.faults folder.old) (F.faults folder.new) }
+    ensures damaged { result ≡ 6 → IsStoring (command_of (map string_bytes words.now.items)) }
     ensures known { IsStatus result }
 {
     match read_words(alloc, words.as_slice()) {
-        Ok(Command::Pipe { store: None }) => serve(alloc, source, sink),
+        Ok(Command::Pipe { store: None }) => {
+            serve(alloc, Shelf::<F>::new(alloc), source, sink, clock)
+        }
+        Ok(Command::Pipe { store: Some(path) }) => {
+            serve_stored(alloc, path, source, sink, folder, clock)
+        }
         Ok(Command::Load { count }) => tell_load(alloc, count, sink),
-        Ok(Command::Pipe { store: Some(_) }) | Err(WordsFault::Usage) => {
+        Err(WordsFault::Usage) => {
             write_usage(sink);
             2
         }

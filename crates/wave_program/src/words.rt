@@ -1,12 +1,12 @@
 // What is told where the words name no command.
 ghost use Rattle.std.specs.Prelude.{◌≡◌, codes};
-ghost use Rattle.wave_program.specs.Output.{IsWritten};
+ghost use Rattle.line_run.specs.Output.{IsWritten};
 ghost use Rattle.wave_program.specs.Words.{usage};
 
-use crate::output::write_all;
+use line_run::write_all;
 use wave_outside::Sink;
 
-const USAGE: &str = "usage: wave pipe\n       wave load N\n";
+const USAGE: &str = "usage: wave pipe [--store DIR]\n       wave load N\n";
 
 // Writes the usage text, as far as the sink takes it.
 pub fn write_usage<W: Sink>(sink: &mut W)

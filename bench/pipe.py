@@ -1,0 +1,101 @@
+#!/usr/bin/env python3
+"""Prints what a submission to `wave pipe` costs: python3 bench/pipe.py [PROGRAM]
+
+PROGRAM is crates/wave/out/wave unless it is given (`rt run` in crates/wave builds it). Sessions take turns: each inserts a letter at the
+front of a document of their wavelet, made on the beginning of a wavelet or on the last version that its session was told. Every
+session has its wavelet open, so it is sent each delta of it. For 1, 4, 16 and 64 sessions on one wavelet and 64 sessions on 64, with
+and without a store, a line has the microseconds of processor time for one submission and the peak memory. What it costs to start the
+program and to open the wavelets is measured by a run without submissions and taken off. The client waits for each answer.
+"""
+
+import json
+import os
+import subprocess
+import sys
+import tempfile
+from pathlib import Path
+
+PROGRAM = sys.argv[1] if len(sys.argv) > 1 else Path(__file__).resolve().parent.parent / "crates" / "wave" / "out" / "wave"
+RUNS = [(1, 1), (4, 1), (16, 1), (64, 1), (64, 64)]
+SUBMISSIONS = 2_000
+
+
+class Pipe:
+    """A running program, and the head of each wavelet as it was last told."""
+
+    def __init__(self, words):
+        self.process = subprocess.Popen([PROGRAM, *words], stdin=subprocess.PIPE, stdout=subprocess.PIPE)
+        self.heads = {}
+
+    def say(self, session, message, answers=1):
+        line = json.dumps({"session": session, "message": message}, separators=(",", ":"))
+        self.process.stdin.write(line.encode() + b"\n")
+        self.process.stdin.flush()
+        for _ in range(answers):
+            told = json.loads(self.process.stdout.readline())["message"]
+            if told["type"] == "ack":
+                self.heads[told["wavelet"]] = (told["version"], told["hash"])
+            elif told["type"] not in ("welcome", "snapshot", "update"):
+                sys.exit(f"unexpected: {told}")
+
+    def submit(self, session, wavelet, client, number, operations, answers):
+        version, host_hash = self.heads[wavelet]
+        self.say(session, {"type": "submit", "wavelet": wavelet, "client": client, "number": number, "version": version, "hash": host_hash, "operations": operations}, answers)
+
+    def end(self):
+        """The seconds of processor time, and the KiB."""
+        self.process.stdin.close()
+        _, status, usage = os.wait4(self.process.pid, 0)
+        if os.waitstatus_to_exitcode(status) != 0:
+            sys.exit(f"the program ended with status {os.waitstatus_to_exitcode(status)}")
+        return usage.ru_utime + usage.ru_stime, usage.ru_maxrss
+
+
+def zero_hash(wavelet):
+    """The hash of a wavelet before its first delta, as the program tells it in a refusal."""
+    pipe = Pipe(["pipe"])
+    pipe.process.stdin.write(json.dumps({"session": "s", "message": {"type": "hello", "user": "u@a.com"}}).encode() + b"\n")
+    add = [{"type": "add", "participant": "u@a.com"}]
+    wrong = {"type": "submit", "wavelet": wavelet, "client": 1, "number": 1, "version": 0, "hash": "A" * 43 + "=", "operations": add}
+    pipe.process.stdin.write(json.dumps({"session": "s", "message": wrong}).encode() + b"\n")
+    pipe.process.stdin.flush()
+    pipe.process.stdout.readline()
+    told = json.loads(pipe.process.stdout.readline())["message"]
+    pipe.end()
+    return told["hash"]
+
+
+def measured(sessions, wavelets, submissions, words):
+    """The cost of a run of so many submissions."""
+    pipe = Pipe(words)
+    names = [f"a.com/w{number}/a.com/conv+root" for number in range(wavelets)]
+    for number in range(sessions):
+        pipe.say(f"s{number}", {"type": "hello", "user": f"u{number}@a.com"})
+    for place, name in enumerate(names):
+        pipe.heads[name] = (0, ZEROS[name])
+        users = [number for number in range(sessions) if number % wavelets == place]
+        add = [{"type": "add", "participant": f"u{number}@a.com"} for number in users]
+        pipe.submit(f"s{users[0]}", name, 1_000_000, 1, add, 1)
+        for number in users:
+            pipe.say(f"s{number}", {"type": "open", "wavelet": name})
+    told = 1 + sessions // wavelets
+    for number in range(submissions):
+        session = number % sessions
+        letters = (number // wavelets,)
+        name = names[session % wavelets]
+        rest = [{"retain_item_count": letters[0]}] if letters[0] else []
+        change = {"type": "mutate", "document": "b+1", "operation": [{"characters": "x"}, *rest]}
+        pipe.submit(f"s{session}", name, session, number + 1, [change], told)
+    return pipe.end()
+
+
+ZEROS = {f"a.com/w{number}/a.com/conv+root": zero_hash(f"a.com/w{number}/a.com/conv+root") for number in range(64)}
+for stored in (False, True):
+    for sessions, wavelets in RUNS:
+        with tempfile.TemporaryDirectory() as folder:
+            words = ["pipe", "--store", os.path.join(folder, "a")] if stored else ["pipe"]
+            idle, _ = measured(sessions, wavelets, 0, words)
+            words = ["pipe", "--store", os.path.join(folder, "b")] if stored else ["pipe"]
+            busy, memory = measured(sessions, wavelets, SUBMISSIONS, words)
+        cost = (busy - idle) * 1e6 / SUBMISSIONS
+        print(f"{sessions} sessions on {wavelets} wavelets{' with a store' if stored else ''}: {cost:.0f} microseconds a submission, {memory} KiB")

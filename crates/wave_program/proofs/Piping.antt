@@ -1,0 +1,83 @@
+-- What a pipe answers, and what it does to its shelf.
+use Rattle.std.proofs.Common.{◌≡◌, ℕ, ◌⊎◌, inl, inr, List, [], ◌∷◌, ◌++◌, Result, Ok, Err, Option, Some, None, IsSome, ◌↔◌, true, false, refl, sym, ap, ◌∙◌, arith, append_assoc}
+use Rattle.std.specs.Prelude.{⊤, IsErrOf}
+use Rattle.wave_outside.specs.Counts.{Rose}
+use Rattle.line_run.specs.Lines.{IsPrefix}
+use Rattle.line_run.specs.Run.{status_of}
+use Rattle.line_run.specs.Turns.{Turn}
+use Rattle.line_run.specs.declared.run.Stop.{Stop}
+use Rattle.line_run.specs.declared.run.Stop.TheVariants.{Source, Sink, Store, Memory, Limit}
+use Rattle.pipe_machine.specs.Lines.{Sent, lines_of, line_of}
+use Rattle.pipe_machine.specs.Pipes.{faults_where}
+use Rattle.pipe_machine.specs.Machine.{Pipe, turn, sent, after}
+use Rattle.wave_program.specs.Run.{IsServing}
+
+sent_more : (p : Pipe) (ts us : List Turn) → sent p (ts ++ us) ≡ sent p ts ++ sent (after p ts) us
+sent_more p [] us = refl
+sent_more p (t ∷ ts) us =
+    let a = turn p t.time t.line in
+    ap (λ ss. a.sent ++ ss) (sent_more a.pipe ts us) ∙ sym (append_assoc a.sent (sent a.pipe ts) (sent (after a.pipe ts) us))
+
+lines_more : (xs ys : List Sent) → lines_of (xs ++ ys) ≡ lines_of xs ++ lines_of ys
+lines_more [] ys = refl
+lines_more (x ∷ xs) ys = ap (λ bytes. line_of x ++ bytes) (lines_more xs ys) ∙ sym (append_assoc (line_of x) (lines_of xs) (lines_of ys))
+
+-- the answers to more turns begin with those to the first
+pub answers_front : (p : Pipe) (ts us : List Turn) → IsPrefix (lines_of (sent p ts)) (lines_of (sent p (ts ++ us)))
+answers_front p ts us = (lines_of (sent (after p ts) us), sym (ap lines_of (sent_more p ts us) ∙ lines_more (sent p ts) (sent (after p ts) us)))
+
+-- ---- statuses
+
+module _ (P : Type 0) (s : ℕ) where
+  pub of_source : (r : Result ⊤ Stop) → s ≡ status_of r → (IsErrOf r Source → P) → s ≡ 3 → P
+  of_source (Ok done) e f three = absurd (omega (arith, e, three))
+  of_source (Err Source) e f three = f refl
+  of_source (Err Sink) e f three = absurd (omega (arith, e, three))
+  of_source (Err Store) e f three = absurd (omega (arith, e, three))
+  of_source (Err Memory) e f three = absurd (omega (arith, e, three))
+  of_source (Err Limit) e f three = absurd (omega (arith, e, three))
+
+  pub of_sink : (r : Result ⊤ Stop) → s ≡ status_of r → (IsErrOf r Sink → P) → s ≡ 4 → P
+  of_sink (Ok done) e f four = absurd (omega (arith, e, four))
+  of_sink (Err Source) e f four = absurd (omega (arith, e, four))
+  of_sink (Err Sink) e f four = f refl
+  of_sink (Err Store) e f four = absurd (omega (arith, e, four))
+  of_sink (Err Memory) e f four = absurd (omega (arith, e, four))
+  of_sink (Err Limit) e f four = absurd (omega (arith, e, four))
+
+  pub of_store : (r : Result ⊤ Stop) → s ≡ status_of r → (IsErrOf r Store → P) → s ≡ 5 → P
+  of_store (Ok done) e f five = absurd (omega (arith, e, five))
+  of_store (Err Source) e f five = absurd (omega (arith, e, five))
+  of_store (Err Sink) e f five = absurd (omega (arith, e, five))
+  of_store (Err Store) e f five = f refl
+  of_store (Err Memory) e f five = absurd (omega (arith, e, five))
+  of_store (Err Limit) e f five = absurd (omega (arith, e, five))
+
+pub serving : (r : Result ⊤ Stop) (s : ℕ) → s ≡ status_of r → IsServing s
+serving (Ok done) s e = inl e
+serving (Err Source) s e = inr (inl e)
+serving (Err Sink) s e = inr (inr (inl e))
+serving (Err Store) s e = inr (inr (inr (inl e)))
+serving (Err Memory) s e = inr (inr (inr (inr (inl e))))
+serving (Err Limit) s e = inr (inr (inr (inr (inr e))))
+
+-- without a folder nothing that stores failed
+none_rose : {F : Type 0} (o p : Option F) (a b : ℕ) → o ≡ None → (IsSome o ↔ IsSome p) → Rose (faults_where o a) (faults_where p b) → ⊥
+none_rose None None a b e f h = omega (arith, h)
+none_rose None (Some y) a b e f h = absurd (let e : false ≡ true = f.1 refl in cc)
+none_rose (Some x) p a b e f h = absurd (cc)
+
+pub not_store : {F : Type 0} (o p : Option F) (a b s : ℕ) → o ≡ None → (IsSome o ↔ IsSome p) → (s ≡ 5 → Rose (faults_where o a) (faults_where p b)) → IsServing s
+    → (s ≡ 0) ⊎ ((s ≡ 3) ⊎ ((s ≡ 4) ⊎ ((s ≡ 8) ⊎ (s ≡ 10))))
+not_store o p a b s e f rose (inl x) = inl x
+not_store o p a b s e f rose (inr (inl x)) = inr (inl x)
+not_store o p a b s e f rose (inr (inr (inl x))) = inr (inr (inl x))
+not_store o p a b s e f rose (inr (inr (inr (inl x)))) = absurd (none_rose o p a b e f (rose x))
+not_store o p a b s e f rose (inr (inr (inr (inr (inl x))))) = inr (inr (inr (inl x)))
+not_store o p a b s e f rose (inr (inr (inr (inr (inr x))))) = inr (inr (inr (inr x)))
+
+-- with one, it is the count of its shelf
+pub some_rose : {F : Type 0} (o p : Option F) (a b : ℕ) → IsSome o → (IsSome o ↔ IsSome p) → Rose (faults_where o a) (faults_where p b) → Rose a b
+some_rose None p a b e f h = absurd (cc)
+some_rose (Some x) None a b e f h = absurd (let w : false ≡ true = f.0 refl in cc)
+some_rose (Some x) (Some y) a b e f h = h

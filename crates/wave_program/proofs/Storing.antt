@@ -1,0 +1,264 @@
+-- What a run over a folder leaves there.
+use Rattle.std.proofs.Common.{◌≡◌, ◌≢◌, ◌⊎◌, inl, inr, ℕ, ◌+◌, ◌-◌, ◌^◌, min, ◌≤◌, List, [], ◌∷◌, ◌++◌, Bool, true, false, Option, Some, None, is_some, IsSome, IfSome, IsTrue, refl, sym, ap, subst, ◌∙◌, arith, append_assoc, append-nil}
+use Rattle.std.specs.List.{All, AllByRecursion}
+use Rattle.std.specs.Map.{lookup}
+use Rattle.std.specs.Option.{option_map, option_map_or}
+use Rattle.doc_items.specs.Maps.{Key, same_text}
+use Rattle.wavelet_op.specs.Deltas.{DeltaOf}
+use Rattle.wavelet_codec.specs.Spelling.{delta_bytes, IsDelta}
+use Rattle.delta_history.specs.Histories.{HistoryOf}
+use Rattle.delta_history.specs.Legal.{IsLegal}
+use Rattle.delta_history.proofs.Chains.{goes_on}
+use Rattle.disk_model.specs.Disk.{DiskView, Kept}
+use Rattle.disk_model.specs.declared.disk.Disk as disk_of
+use Rattle.delta_journal.specs.File.{StandsFor, StandsForEither}
+use Rattle.delta_journal.specs.Journal.{on_disk, left_over}
+use Rattle.delta_journal.specs.declared.journal.Journal.{Journal}
+use Rattle.delta_journal.proofs.Stages.{journal_stands}
+use Rattle.wave_outside.specs.Counts.{Rose}
+use Rattle.wave_outside.specs.Folders.{IsPutBack}
+use Rattle.wave_outside.specs.declared.clock.Clock as clock_of
+use Rattle.wave_outside.specs.declared.folder.Folder as folder_of
+use Rattle.wavelet_container.specs.Containers.{history_of, journal_of, IsHeld}
+use Rattle.wavelet_container.specs.Records.{records_of, StandsForHistory}
+use Rattle.wavelet_container.specs.Stores.{IsPending, IsStored}
+use Rattle.wavelet_container.specs.declared.container.Container.{Container}
+use Rattle.wavelet_container.proofs.Journals.{records_more, spelled_more}
+use Rattle.line_run.specs.Turns.{Turn}
+use Rattle.wavelet_shelf.specs.Entries.{found, hosting, histories, faults_in, AreInOrder, AreHeld}
+use Rattle.wavelet_shelf.specs.FileNames.{file_name_of}
+use Rattle.wavelet_shelf.specs.Hosting.{Hosted, deltas_in, names_of}
+use Rattle.wavelet_shelf.specs.Loads.{IsReadFrom, IsRefusedFile, IsStoredFile}
+use Rattle.wavelet_shelf.specs.Shelves.{in_folder, entries_of, container_in, hosted_of, folder_faults, fault_count, IsKept, IsSettled, AreApart}
+use Rattle.wavelet_shelf.specs.declared.filed.Filed.{Filed}
+use Rattle.wavelet_shelf.specs.declared.shelf.Shelf.{Shelf}
+use Rattle.wavelet_shelf.proofs.Growing.{shown_ascend}
+use Rattle.wavelet_shelf.proofs.Placing.{hist_ascends, deltas_hosting, all_found}
+use Rattle.wavelet_shelf.proofs.Sharing.{found_named}
+use Rattle.wavelet_shelf.proofs.Shelving.{deltas_of}
+use Rattle.pipe_machine.specs.Held as Held
+use Rattle.pipe_machine.specs.Keeping.{Begins, submitted_in, IsMoved}
+use Rattle.pipe_machine.specs.Machine.{start, sent}
+use Rattle.wave_program.specs.Pipe.{hosted_after, IsOver}
+use Rattle.wave_program.specs.Store.{GoesOn, StandsFrom, IsFileOf, IsStoredFrom, AreStored, AreStoredFrom, AreApartIn, IsLoaded, IsClosed, IsShelfRun, IsShelfUnloaded, IsStoredRun, IsUnloaded}
+
+pub damage_told : (o : Option (List ℕ × ℕ)) (P Q : List ℕ → ℕ → Type 0) → IsSome o → IfSome o (λ d. P d.0 d.1) → IfSome o (λ d. Q d.0 d.1) → (file : List ℕ) × (offset : ℕ) × P file offset × Q file offset
+damage_told None P Q e p q = absurd (cc)
+damage_told (Some d) P Q e p q = (d.0, d.1, p, q)
+
+-- ---- histories that go on
+
+begins_on : (ds es fs : List DeltaOf) → Begins ds es → Begins es fs → Begins ds fs
+begins_on ds es fs p q = (p.0 ++ q.0, sym (append_assoc ds p.0 q.0) ∙ ap (λ l. l ++ q.0) p.1 ∙ q.1)
+
+goes_on_from : (n : Key) (ds es : List DeltaOf) (bytes : List ℕ) → Begins ds es → GoesOn n es bytes → GoesOn n ds bytes
+goes_on_from n ds es bytes p q = (q.0, begins_on ds es q.0 p q.1, q.2)
+
+either_goes_on : (h : HistoryOf) (left : List (List ℕ)) (bytes : List ℕ) → IsLegal h.name h.deltas → AllByRecursion IsDelta h.deltas → IsPending h left → StandsForEither h.name (records_of h.deltas) left bytes → GoesOn h.name h.deltas bytes
+either_goes_on h left bytes l s p (inl stands) = (h.deltas, ([], append-nil h.deltas), record { stands = stands; legal = l; spelled = s })
+either_goes_on h left bytes l s (inl none) (inr stands) =
+    (h.deltas, ([], append-nil h.deltas), record { stands = subst (λ r. StandsFor h.name r bytes) (ap (λ z. records_of h.deltas ++ z) none ∙ append-nil (records_of h.deltas)) stands; legal = l; spelled = s })
+either_goes_on h left bytes l s (inr one) (inr stands) = (
+  h.deltas ++ one.0 ∷ [],
+  (one.0 ∷ [], refl),
+  record {
+    stands = subst (λ r. StandsFor h.name r bytes) (ap (λ z. records_of h.deltas ++ z) one.1 ∙ sym (records_more h.deltas one.0)) stands;
+    legal = goes_on h.name h.deltas one.0 l one.3;
+    spelled = spelled_more h.deltas one.0 s one.2;
+  },
+)
+
+put_back_from : {D : Type 0} (view : D → DiskView) (n : Key) (ds : List DeltaOf) (v : DiskView) (o : Option D) → Kept v (GoesOn n ds) → IsPutBack view v o → IsStoredFrom view o n ds
+put_back_from view n ds v None k back = absurd back
+put_back_from view n ds v (Some f) k back = record { seen = rw (back.seen) k.now; images = λ c left. k.left c (back.crash c left) }
+
+module _ {D : Type 0} {disk : disk_of.Ghosts D} where
+  stored_goes_on : (h : HistoryOf) (j : Journal D disk) → IsStored h j → Kept (on_disk j) (GoesOn h.name h.deltas)
+  stored_goes_on h j s =
+      let k = journal_stands h.name (records_of h.deltas) j s.held in
+      record {
+        now = either_goes_on h (left_over j) _ s.legal s.spelled s.pending k.now;
+        left = λ c left. either_goes_on h (left_over j) c s.legal s.spelled s.pending (k.left c left);
+      }
+
+  -- ---- containers by name
+
+  -- the container of a name that has a delta
+  pub record HasContainer (es : List (Key × Filed D disk)) (n : Key) : Type 0 where
+    pub filed : Filed D disk
+    pub is : lookup (same_text n) es ≡ Some filed
+    pub deltas : (history_of filed.container).deltas ≡ deltas_in (hosting es) n
+    pub named : (history_of filed.container).name ≡ n
+
+  has_container : (es : List (Key × Filed D disk)) (n : Key) → AreInOrder es → deltas_in (hosting es) n ≢ [] → HasContainer es n
+  has_container es n order some = go (lookup (same_text n) es) refl
+    where
+      go : (o : Option (Filed D disk)) → lookup (same_text n) es ≡ o → HasContainer es n
+      go None e = absurd (some (deltas_hosting deltas_of es n order.0 ∙ ap (λ x. option_map_or deltas_of x []) e))
+      go (Some f) e = record {
+        filed = f;
+        is = e;
+        deltas = sym (deltas_hosting deltas_of es n order.0 ∙ ap (λ x. option_map_or deltas_of x []) e);
+        named = found_named es n f order e;
+      }
+
+  found_is : (es : List (Key × Filed D disk)) (n : Key) (f : Filed D disk) → lookup (same_text n) es ≡ Some f → found es n ≡ Some f.container
+  found_is es n f e = ap (λ (o : Option (Filed D disk)). option_map (λ (x : Filed D disk). x.container) o) e
+
+  -- the deltas of a name that is there
+  deltas_there : (es : List (Key × Filed D disk)) (n : Key) (f : Filed D disk) → AreInOrder es → lookup (same_text n) es ≡ Some f → deltas_in (hosting es) n ≡ (history_of f.container).deltas
+  deltas_there es n f order e = deltas_hosting deltas_of es n order.0 ∙ ap (λ x. option_map_or deltas_of x []) e
+
+  there : (es : List (Key × Filed D disk)) (n : Key) → is_some (found es n) ≡ true → (f : Filed D disk) × (lookup (same_text n) es ≡ Some f)
+  there es n some = go (lookup (same_text n) es) refl some
+    where
+      go : (o : Option (Filed D disk)) → lookup (same_text n) es ≡ o → is_some (option_map (λ (x : Filed D disk). x.container) o) ≡ true → (f : Filed D disk) × (lookup (same_text n) es ≡ Some f)
+      go None e s = absurd (cc)
+      go (Some f) e s = (f, e)
+
+if_some_at : {X : Type 0} (P : X → Type 0) (o : Option X) (x : X) → o ≡ Some x → IfSome o P → P x
+if_some_at {X} P o x e h = subst (λ (p : Option X). IfSome p P) e h
+
+file_of : {D : Type 0} {disk : disk_of.Ghosts D} (o : Option D) (c : Container D disk) (n : Key) (ds : List DeltaOf) → (history_of c).name ≡ n → (history_of c).deltas ≡ ds → IsReadFrom o c → IsFileOf disk.view o n ds
+file_of None c n ds named same h = absurd h
+file_of (Some f) c n ds named same h = rw (← named, ← same) h.stands
+
+nothing_before : (ds es : List DeltaOf) → Begins ds es → es ≡ [] → ds ≡ []
+nothing_before [] es p e = refl
+nothing_before (d ∷ ds) es p e = absurd (let w : d ∷ (ds ++ p.0) ≡ [] = p.1 ∙ e in cc)
+
+-- ---- a run
+
+module _ {F D K : Type 0} (folder : folder_of.Ghosts F D) (disk : disk_of.Ghosts D) (clock : clock_of.Ghosts K) where
+  -- the names that the shelf has at the end were loaded, or were submitted to
+  from_either : (m b : Shelf F D folder disk) (ts : List Turn) → IsMoved (submitted_in ts) m b → (n : Key) → IsSome (container_in b n) → (is_some (container_in m n) ≡ true) ⊎ (submitted_in ts n ≡ true)
+  from_either m b ts moved n some = go (submitted_in ts n) refl
+    where
+      go : (t : Bool) → submitted_in ts n ≡ t → (is_some (container_in m n) ≡ true) ⊎ (submitted_in ts n ≡ true)
+      go true e = inr e
+      go false e = inl (subst (λ (o : Option (Container D disk)). is_some o ≡ true) (moved.others n e) some)
+
+  apart_at_end : (m b : Shelf F D folder disk) (ts : List Turn) → IsMoved (submitted_in ts) m b → AreApartIn (λ n. (is_some (container_in m n) ≡ true) ⊎ (submitted_in ts n ≡ true)) → AreApart b
+  apart_at_end m b ts moved apart n k p q e = apart n k (from_either m b ts moved n p) (from_either m b ts moved k q) e
+
+  -- the histories that there were when the machine ended, in the files
+  stored_from : (b : Shelf F D folder disk) (g : F) (hs : List Hosted) → IsTrue disk.tells → IsKept b → AreApart b → IsClosed b g → ((n : Key) → Begins (deltas_in hs n) (deltas_in (hosted_of b) n))
+      → AreStoredFrom disk.view (folder.files g) hs
+  stored_from b g hs tells kept apart closed grown n some =
+      let more : deltas_in (hosted_of b) n ≢ [] = λ none. some (nothing_before (deltas_in hs n) (deltas_in (hosted_of b) n) (grown n) none) in
+      let x = has_container (entries_of b) n b.containers.in_order more in
+      let c = x.filed.container in
+      let held : IsHeld c = all_found deltas_of (λ e. IsHeld e.1.container) (entries_of b) n x.filed kept.held x.is in
+      let back = if_some_at _ _ held.0 held.1 (if_some_at _ _ c (found_is (entries_of b) n x.filed x.is) (closed.back tells apart n)) in
+      let k : Kept (on_disk held.0) (GoesOn (history_of c).name (history_of c).deltas) = stored_goes_on (history_of c) held.0 held.2 in
+      let front : Begins (deltas_in hs n) (history_of c).deltas = subst (λ l. Begins (deltas_in hs n) l) (sym x.deltas) (grown n) in
+      put_back_from disk.view n (deltas_in hs n) (on_disk held.0) (folder.files g (file_name_of n))
+      (record {
+        now = goes_on_from n (deltas_in hs n) (history_of c).deltas _ front (subst (λ (m : Key). GoesOn m (history_of c).deltas (on_disk held.0).seen) x.named k.now);
+        left = λ bytes left. goes_on_from n (deltas_in hs n) (history_of c).deltas bytes front (subst (λ (m : Key). GoesOn m (history_of c).deltas bytes) x.named (k.left bytes left));
+      })
+      back
+
+  stored_whole : (b : Shelf F D folder disk) (g : F) (hs : List Hosted) → IsKept b → IsSettled b → AreApart b → IsClosed b g → hosted_of b ≡ hs → AreStored disk.view (folder.files g) hs
+  stored_whole b g hs kept settled apart closed is n some =
+      let x = has_container (entries_of b) n b.containers.in_order (rw (is) some) in
+      rw (← is, ← x.deltas) (if_some_at _ _ x.filed.container (found_is (entries_of b) n x.filed x.is) (closed.stored kept settled apart n))
+
+  stand_for : (a m : Shelf F D folder disk) (f : F) → IsTrue disk.tells → in_folder a ≡ Some f → IsLoaded a m → (n : Key) → is_some (container_in m n) ≡ true → IsFileOf disk.view (folder.files f (file_name_of n)) n (deltas_in (hosted_of m) n)
+  stand_for a m f tells is loaded n some =
+      let x = there (entries_of m) n some in
+      let order = m.containers.in_order in
+      file_of (folder.files f (file_name_of n)) x.0.container n (deltas_in (hosted_of m) n) (found_named (entries_of m) n x.0 order x.1) (sym (deltas_there (entries_of m) n x.0 order x.1))
+      (if_some_at _ _ x.0.container (found_is (entries_of m) n x.0 x.1) (if_some_at _ _ f is (loaded.read tells) n))
+
+  are_loaded : (m : Shelf F D folder disk) (n : Key) → deltas_in (hosted_of m) n ≢ [] → is_some (container_in m n) ≡ true
+  are_loaded m n some =
+      let x = has_container (entries_of m) n m.containers.in_order some in
+      ap is_some (found_is (entries_of m) n x.filed x.is)
+
+  pub stored_run : (a b : Shelf F D folder disk) (f g : F) (was : K) (left0 left1 held0 held1 : Option (List ℕ)) (status : ℕ)
+      → IsTrue disk.tells → in_folder a ≡ Some f → ((m : Shelf F D folder disk) (ts : List Turn) → All (λ s. Held.IsHeld (hosted_after (hosted_of m) ts) s.message) (sent (start (hosted_of m)) ts))
+      → IsShelfRun clock a b was left0 left1 held0 held1 status → IsClosed b g → IsStoredRun folder disk clock f g was left0 left1 held0 held1 status
+  stored_run a b f g was left0 left1 held0 held1 status tells is held r closed =
+      let m = r.shelf in
+      let o = r.over in
+      let kept = r.loaded.kept tells in
+      record {
+        hosted = hosted_of m;
+        loaded = λ n. is_some (container_in m n);
+        stand = stand_for a m f tells is r.loaded;
+        are_loaded = are_loaded m;
+        all = if_some_at _ _ f is (r.loaded.all tells);
+        apart = λ n k p q e. r.loaded.apart n k p q e;
+        known = o.known;
+        told = r.told;
+        read = o.read;
+        written = o.written;
+        consumed = o.consumed;
+        appended = o.appended;
+        turns = o.turns;
+        tried = o.tried;
+        timed = o.timed;
+        lines = o.lines;
+        answers = o.answers;
+        held = held m o.turns;
+        stored = λ apart. stored_from b g (hosted_after (hosted_of m) o.turns) tells (o.moved.kept kept.0) (apart_at_end m b (o.turns ++ o.tried) o.moved apart) closed o.grown;
+        done = λ zero apart.
+            stored_whole b g (hosted_after (hosted_of m) o.turns) (o.moved.kept kept.0) ((o.done zero).1 kept.0 kept.1) (apart_at_end m b (o.turns ++ o.tried) o.moved apart) closed (o.done zero).0;
+      }
+
+  -- whatever was sent is so of the histories
+  pub all_held : Held.SentIsHeld → (m : Shelf F D folder disk) (ts : List Turn) → All (λ s. Held.IsHeld (hosted_after (hosted_of m) ts) s.message) (sent (start (hosted_of m)) ts)
+  all_held law m ts = law.all_held (start (hosted_of m)) ts (shown_ascend (histories (entries_of m)) (hist_ascends deltas_of (entries_of m) m.containers.in_order.0))
+
+  -- a run that ended before its first line
+  pub unloaded_run : (a : Shelf F D folder disk) (f : F) (held0 held1 : Option (List ℕ)) (before now status : ℕ) → in_folder a ≡ Some f → IsShelfUnloaded a held0 held1 before now status
+      → IsUnloaded folder disk f held0 held1 before now status
+  unloaded_run a f held0 held1 before now status is u = record {
+    known = u.known;
+    silent = u.silent;
+    damaged = λ six. let d = u.damaged six in (d.0, d.1, d.2, λ folder_tells tells. if_some_at _ _ f is (d.3 tells));
+  }
+
+  -- faults of the folder, where those of its shelf rose
+  pub folder_rose : (a b : Shelf F D folder disk) (f g : F) → in_folder a ≡ Some f → entries_of a ≡ [] → IsClosed b g → Rose (fault_count a) (fault_count b) → Rose (folder.faults f) (folder.faults g)
+  folder_rose a b f g is empty closed rose =
+      let count : fault_count a ≡ min (folder.faults f + 0) (2 ^ 64 - 1) =
+      ap (λ o. min (folder_faults folder.faults o + faults_in (entries_of a)) (2 ^ 64 - 1)) is ∙ ap (λ es. min (folder.faults f + faults_in {disk = disk} es) (2 ^ 64 - 1)) empty in
+      omega (arith, count, closed.counted, rose)
+
+  -- over files that read the same
+  pub same_run : (f e g : F) (was : K) (left0 left1 held0 held1 : Option (List ℕ)) (status : ℕ) → ((m : List ℕ) → folder.files e m ≡ folder.files f m) → IsStoredRun folder disk clock e g was left0 left1 held0 held1 status
+      → IsStoredRun folder disk clock f g was left0 left1 held0 held1 status
+  same_run f e g was left0 left1 held0 held1 status same r = record {
+    hosted = r.hosted;
+    loaded = r.loaded;
+    stand = λ n is. subst (λ (o : Option D). IsFileOf disk.view o n (deltas_in r.hosted n)) (same (file_name_of n)) (r.stand n is);
+    are_loaded = r.are_loaded;
+    all = record {
+      each = λ n ds name some. subst (λ (o : Option D). IfSome o (λ d. StandsForHistory n ds (disk.view d).seen → deltas_in r.hosted n ≡ ds)) (same (file_name_of n)) (r.all.each n ds name some);
+    };
+    apart = r.apart;
+    known = r.known;
+    told = r.told;
+    read = r.read;
+    written = r.written;
+    consumed = r.consumed;
+    appended = r.appended;
+    turns = r.turns;
+    tried = r.tried;
+    timed = r.timed;
+    lines = r.lines;
+    answers = r.answers;
+    held = r.held;
+    stored = r.stored;
+    done = r.done;
+  }
+
+  pub same_unloaded : (f e : F) (held0 held1 : Option (List ℕ)) (before now status : ℕ) → ((m : List ℕ) → folder.files e m ≡ folder.files f m) → IsUnloaded folder disk e held0 held1 before now status
+      → IsUnloaded folder disk f held0 held1 before now status
+  same_unloaded f e held0 held1 before now status same u = record {
+    known = u.known;
+    silent = u.silent;
+    damaged = λ six. let d = u.damaged six in (d.0, d.1, d.2, λ folder_tells tells. subst (λ (o : Option D). IsRefusedFile disk.view o d.0 d.1) (same d.0) (d.3 folder_tells tells));
+  }

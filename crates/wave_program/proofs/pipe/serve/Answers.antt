@@ -1,0 +1,5 @@
+use Rattle.wave_program.proofs.Piping.{not_store}
+use Rattle.wave_program.proofs.pipe.serve.Goals as goal
+
+pub returns-clause-known : goal.returns-clause-known
+returns-clause-known g c = not_store _ _ _ _ _ c.requires.plain c.serve_over-shelf.ensures.over.moved.filed c.serve_over-shelf.ensures.store_failed c.serve_over-shelf.ensures.known
