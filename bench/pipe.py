@@ -2,10 +2,10 @@
 """Prints what a submission to `wave pipe` costs: python3 bench/pipe.py [PROGRAM]
 
 PROGRAM is crates/wave/out/wave unless it is given (`rt run` in crates/wave builds it). Sessions take turns: each inserts a letter at the
-front of a document of their wavelet, made on the beginning of a wavelet or on the last version that its session was told. Every
+front of a document of its wavelet, made on the last version that was told. Every
 session has its wavelet open, so it is sent each delta of it. For 1, 4, 16 and 64 sessions on one wavelet and 64 sessions on 64, with
-and without a store, a line has the microseconds of processor time for one submission and the peak memory. What it costs to start the
-program and to open the wavelets is measured by a run without submissions and taken off. The client waits for each answer.
+and without a store, a line has the microseconds of processor time for one submission. What it costs to start the program and to open
+the wavelets is measured by a run without submissions and taken off. The client waits for each answer.
 """
 
 import json
@@ -43,12 +43,12 @@ class Pipe:
         self.say(session, {"type": "submit", "wavelet": wavelet, "client": client, "number": number, "version": version, "hash": host_hash, "operations": operations}, answers)
 
     def end(self):
-        """The seconds of processor time, and the KiB."""
+        """The seconds of processor time."""
         self.process.stdin.close()
         _, status, usage = os.wait4(self.process.pid, 0)
         if os.waitstatus_to_exitcode(status) != 0:
             sys.exit(f"the program ended with status {os.waitstatus_to_exitcode(status)}")
-        return usage.ru_utime + usage.ru_stime, usage.ru_maxrss
+        return usage.ru_utime + usage.ru_stime
 
 
 def zero_hash(wavelet):
@@ -81,9 +81,9 @@ def measured(sessions, wavelets, submissions, words):
     told = 1 + sessions // wavelets
     for number in range(submissions):
         session = number % sessions
-        letters = (number // wavelets,)
+        letters = number // wavelets
         name = names[session % wavelets]
-        rest = [{"retain_item_count": letters[0]}] if letters[0] else []
+        rest = [{"retain_item_count": letters}] if letters else []
         change = {"type": "mutate", "document": "b+1", "operation": [{"characters": "x"}, *rest]}
         pipe.submit(f"s{session}", name, session, number + 1, [change], told)
     return pipe.end()
@@ -94,8 +94,8 @@ for stored in (False, True):
     for sessions, wavelets in RUNS:
         with tempfile.TemporaryDirectory() as folder:
             words = ["pipe", "--store", os.path.join(folder, "a")] if stored else ["pipe"]
-            idle, _ = measured(sessions, wavelets, 0, words)
+            idle = measured(sessions, wavelets, 0, words)
             words = ["pipe", "--store", os.path.join(folder, "b")] if stored else ["pipe"]
-            busy, memory = measured(sessions, wavelets, SUBMISSIONS, words)
+            busy = measured(sessions, wavelets, SUBMISSIONS, words)
         cost = (busy - idle) * 1e6 / SUBMISSIONS
-        print(f"{sessions} sessions on {wavelets} wavelets{' with a store' if stored else ''}: {cost:.0f} microseconds a submission, {memory} KiB")
+        print(f"{sessions} sessions on {wavelets} wavelets{' with a store' if stored else ''}: {cost:.0f} microseconds a submission")

@@ -4,8 +4,8 @@ ghost use Rattle.std.specs.Io.KnownBytes.{Appends};
 ghost use Rattle.wave_outside.specs.Counts.{Rose};
 ghost use Rattle.wave_program.specs.Load.{load_line, IsFront};
 
-use line_run::write_all;
 use doc_items::Memory;
+use line_run::write_all;
 use load_script::{run_load, summary_line};
 use std::alloc::Global;
 use wave_outside::Sink;

@@ -14,7 +14,7 @@ use Rattle.wave_program.proofs.pipe.serve_over.Goals as goal
 pub returns-clause-served : goal.returns-clause-served
 returns-clause-served g c = λ tells.
     subst (λ (p : Pipe). WhereTold (g.S.Source.left c.args.source.now) (g.S.Source.left c.run_lines-ending.new.source) (g.W.Sink.written c.args.sink.now) (g.W.Sink.written c.run_lines-ending.new.sink)
-            (IsTold (λ ts. lines_of (sent p ts)) (g.C.Clock.readings c.args.clock.now) c.status.result)) c.new-machine.ensures.pipe
+    (IsTold (λ ts. lines_of (sent p ts)) (g.C.Clock.readings c.args.clock.now) c.status.result)) c.new-machine.ensures.pipe
     (rw (c.status.ensures) (told_run _ g.C.Clock tells _ _ _ _ _ _ _ _ (answers_front (pipe_of c.new-machine.result)) c.run_lines-ending.ensures.served))
 
 pub returns-clause-over : goal.returns-clause-over

@@ -19,11 +19,14 @@ returns-in-Ok-clause-run g c = inl (record {
 })
 
 pub returns-in-Err-clause-run : goal.returns-in-Err-clause-run
-returns-in-Err-clause-run g c = inr (refl, record {
-  known = c.tell-status.ensures.known;
-  silent = λ s. ap g.W.Sink.written (c.tell-status.ensures.silent s);
-  damaged = λ six. let d = c.tell-status.ensures.damaged six in damage_told _ _ _ d.0 d.1 c.in-Err.ensures.damaged;
-})
+returns-in-Err-clause-run g c = inr (
+  refl,
+  record {
+    known = c.tell-status.ensures.known;
+    silent = λ s. ap g.W.Sink.written (c.tell-status.ensures.silent s);
+    damaged = λ six. let d = c.tell-status.ensures.damaged six in damage_told _ _ _ d.0 d.1 c.in-Err.ensures.damaged;
+  },
+)
 
 pub returns-in-Ok-clause-store_failed : goal.returns-in-Ok-clause-store_failed
 returns-in-Ok-clause-store_failed g c = λ five.
