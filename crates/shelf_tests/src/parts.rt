@@ -2,7 +2,7 @@
 use crate::words::{FIRST, answer, folder, name, version};
 use std::process::Abort;
 use std::test::Fail;
-use wave_outside::{Folder, MemoryFolder};
+use wave_outside::MemoryFolder;
 use wavelet_shelf::Shelf;
 
 // Names, and the first byte of each one's SHA-256 modulo 16, as `sha256sum` gives it.

@@ -1,0 +1,139 @@
+// Histories of letters, and what is done with them.
+ghost use Rattle.std.specs.Prelude.{◌≤◌};
+
+use disk_model::MemoryDisk;
+use std::alloc::Global;
+use wave_base::{HashedVersion, WaveletName};
+use wavelet_container::Container;
+use wavelet_op::Verdict;
+use wavelet_words::submission;
+
+/// A container over a disk in memory, or without one.
+#[derive(Drop)]
+pub struct Stored {
+    container: Container<MemoryDisk>,
+}
+
+/// What is done, and how often.
+#[derive(Clone, Copy)]
+pub enum Work {
+    /// Submissions at the head, with a journal.
+    Head(u32),
+    /// Submissions at the head, without one.
+    Plain(u32),
+    /// Submissions that were made so many deltas before the head.
+    Behind(u32),
+    /// A history of so many deltas is read from its disk.
+    Open(u32),
+}
+
+// How many submissions are made below the head.
+const TIMES: u32 = 20;
+
+fn name(alloc: Global) -> Option<WaveletName> {
+    WaveletName::parse(alloc, "a.com/w1/a.com/conv+root").ok()
+}
+
+// Alice submits these operations, made at this point.
+fn submit(
+    alloc: Global,
+    container: &mut Container<MemoryDisk>,
+    number: u64,
+    at: HashedVersion,
+    words: &str,
+) -> Option<u64>
+    requires { number ≤ 4294967296 }
+{
+    let made = submission(alloc, "alice@a.com", number, at, words).ok()?;
+    match container.submit(alloc, &made, 1000).ok()? {
+        Verdict::Ack { to, .. } => Some(to.version),
+        _ => None,
+    }
+}
+
+// So many letters, each typed at the front by a delta at the head, from a number of items on.
+fn type_letters(
+    alloc: Global,
+    container: &mut Container<MemoryDisk>,
+    from: u32,
+    count: u32,
+) -> Option<()> {
+    for index in from..count {
+        let words = format!(in alloc; "b+1: +a {}", index).ok()?;
+        let words = if index == 0 {
+            "b+1: +a"
+        } else {
+            words.as_str()
+        };
+        let at = container.history().head();
+        submit(alloc, container, 1 + index as u64, at, words)?;
+    }
+    Some(())
+}
+
+impl Work {
+    /// The work of this name.
+    pub fn named(word: &str, count: u32) -> Option<Work> {
+        match word {
+            "head" => Some(Work::Head(count)),
+            "plain" => Some(Work::Plain(count)),
+            "behind" => Some(Work::Behind(count)),
+            "open" => Some(Work::Open(count)),
+            _ => None,
+        }
+    }
+
+    // How many deltas there are before the work.
+    fn before(&self) -> u32 {
+        match *self {
+            Work::Head(_) => 0,
+            Work::Plain(_) => 0,
+            Work::Behind(count) => count,
+            Work::Open(count) => count,
+        }
+    }
+
+    /// The version that the history is at then, and how often the work was done.
+    pub fn done(&self, alloc: Global, stored: Stored) -> Option<(u64, u32)> {
+        let mut container = stored.container;
+        match *self {
+            Work::Head(count) | Work::Plain(count) => {
+                type_letters(alloc, &mut container, 0, count)?;
+                Some((container.history().head().version, count))
+            }
+            Work::Behind(_) => behind(alloc, &mut container),
+            Work::Open(_) => {
+                let disk = container.close()?;
+                let loaded = Container::load(alloc, name(alloc)?, disk).ok()?;
+                Some((loaded.history().head().version, 1))
+            }
+        }
+    }
+}
+
+// Submissions that were made behind the first delta.
+fn behind(alloc: Global, container: &mut Container<MemoryDisk>) -> Option<(u64, u32)> {
+    let hash = container.history().hash_at(1)?;
+    let at = HashedVersion { version: 1, hash };
+    for index in 0..TIMES {
+        submit(alloc, container, (1 << 31) + index as u64, at, "b+1: +b")?;
+    }
+    Some((container.history().head().version, TIMES))
+}
+
+impl Stored {
+    /// The history that the work is done on.
+    pub fn made(alloc: Global, work: &Work) -> Option<Stored> {
+        let mut container = match work {
+            Work::Plain(_) => Container::new(alloc, name(alloc)?),
+            _ => {
+                let disk = MemoryDisk::new(alloc, Vec::new(alloc), Vec::new(alloc), None);
+                Container::start(alloc, name(alloc)?, disk).ok()?
+            }
+        };
+        let start = container.history().head();
+        submit(alloc, &mut container, 0, start, "add alice@a.com")?;
+        type_letters(alloc, &mut container, 0, work.before())?;
+        Some(Stored { container })
+    }
+}
