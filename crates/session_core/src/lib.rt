@@ -11,4 +11,5 @@ mod session;
 pub use delta_history::Copies;
 pub use lists::{Domains, Openings, Tellings, Waitings};
 pub use request::{Request, SubmitAnswer};
+pub use rules::reason_of;
 pub use session::{Opening, Party, Session, Telling, Waiting};

@@ -22,7 +22,8 @@ fn bad(reason: BadReason) -> Request
     Request::Reply(Message::Bad(reason))
 }
 
-fn reason_of(kind: Kind) -> BadReason
+/// Why a message that could not be read was bad, as its sender is told.
+pub fn reason_of(kind: Kind) -> BadReason
     ensures { result ≡ reason_of kind }
 {
     match kind {
