@@ -125,6 +125,7 @@ fn erasing_on(
 }
 
 // The n-th letter is typed at a place.
+#[tactic(auto, unfolding(crate::specs::Edits::typed))]
 fn type_letter(
     alloc: Global,
     follower: &mut Follower,
@@ -143,6 +144,7 @@ fn type_letter(
 }
 
 // The item at a place is erased, if it is a character.
+#[tactic(auto, unfolding(crate::specs::Edits::erased))]
 fn erase_letter(
     alloc: Global,
     follower: &mut Follower,

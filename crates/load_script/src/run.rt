@@ -33,7 +33,6 @@ pub fn run_load(alloc: Global, count: u64) -> Result<Summary, Memory>
 {
     let mut script = Script::founded(alloc, count)?;
     run(alloc, &mut script, count)?;
-    script.settle(alloc, count)?;
-    script.level(alloc)?;
+    script.finish(alloc, count)?;
     script.summary(alloc)
 }

@@ -17,16 +17,17 @@ const WRONG: HashedVersion = HashedVersion {
 };
 
 // The deltas of the history, each with its author.
-const DELTAS: [(&str, &str); 5] = [
+const DELTAS: [(&str, &str); 6] = [
     ("alice@a.com", "add alice@a.com; b+1: +hi"),
     ("alice@a.com", "add bob@b.com"),
     ("bob@b.com", "b+1: 2 +!"),
     ("alice@a.com", "remove bob@b.com"),
     ("alice@a.com", "add bob@b.com"),
+    ("alice@a.com", "role bob@b.com full read"),
 ];
 
 // How many of the deltas there are, what is done, and what is answered or sent.
-const USER: [(usize, &str, &str); 21] = [
+const USER: [(usize, &str, &str); 22] = [
     (0, "attach", "unopened absent;"),
     (1, "attach", "unopened absent;"),
     (2, "attach", "snapshot 3 of 2;"),
@@ -47,6 +48,7 @@ const USER: [(usize, &str, &str); 21] = [
     (5, "drop", "closed;"),
     (5, "deliver", ""),
     (5, "attach", "snapshot 6 of 3;"),
+    (6, "deliver", "update 6;"),
     (4, "drop", "closed;"),
 ];
 
@@ -93,7 +95,7 @@ fn moment(alloc: Global, count: usize, dropped: bool) -> Result<MemoryCopies, Fa
 
 // The version with the hash that the whole history has there.
 fn version(alloc: Global, version: u64) -> Result<HashedVersion, Fail> {
-    let whole = history(alloc, 5)?;
+    let whole = history(alloc, 6)?;
     let hash = whole.hash_at(version).unwrap_or([0; 32]);
     Ok(HashedVersion { version, hash })
 }
