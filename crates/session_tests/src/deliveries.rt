@@ -95,6 +95,9 @@ fn moment(alloc: Global, count: usize, dropped: bool) -> Result<MemoryCopies, Fa
 
 // The version with the hash that the whole history has there.
 fn version(alloc: Global, version: u64) -> Result<HashedVersion, Fail> {
+    if version > 1000 {
+        return Err(Fail::new("a version above 1000"));
+    }
     let whole = history(alloc, 6)?;
     let hash = whole.hash_at(version).unwrap_or([0; 32]);
     Ok(HashedVersion { version, hash })
@@ -224,6 +227,19 @@ fn peers(alloc: Global) -> Result<Vec<Domain>, Fail> {
     Ok(peers)
 }
 
+/// A session of a server for a.com, with the peer b.com.
+pub fn server(alloc: Global) -> Result<Session, Fail> {
+    let own = Domain::parse(alloc, "a.com")?;
+    Ok(Session::new(alloc, Some(own), peers(alloc)?))
+}
+
+// The session of b.com.
+fn peer(alloc: Global) -> Result<Session, Fail> {
+    let mut session = server(alloc)?;
+    let _request = session.take_message(alloc, b"{\"type\":\"peer\",\"domain\":\"b.com\"}")?;
+    Ok(session)
+}
+
 #[test]
 fn a_user_is_sent_what_it_may_see(rt: HostRuntime) -> Result<(), Fail> {
     let alloc = rt.alloc();
@@ -240,9 +256,7 @@ fn a_user_is_sent_what_it_may_see(rt: HostRuntime) -> Result<(), Fail> {
 #[test]
 fn a_peer_is_sent_what_its_users_may_see(rt: HostRuntime) -> Result<(), Fail> {
     let alloc = rt.alloc();
-    let own = Domain::parse(alloc, "a.com")?;
-    let mut session = Session::new(alloc, Some(own), peers(alloc)?);
-    let _request = session.take_message(alloc, b"{\"type\":\"peer\",\"domain\":\"b.com\"}")?;
+    let mut session = peer(alloc)?;
     for (count, what, wanted) in PEER {
         assert!(rt;
             is_answered(alloc, &mut session, count, what, wanted)?,

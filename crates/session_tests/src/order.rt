@@ -32,6 +32,9 @@ fn open(
     name: &str,
     version: u64,
 ) -> Result<(), Fail> {
+    if version > 1000 {
+        return Err(Fail::new("a version above 1000"));
+    }
     let name = WaveletName::parse(alloc, name)?;
     let hash = match copies.copy_of(&name) {
         Some(history) => history.hash_at(version).unwrap_or([0; 32]),

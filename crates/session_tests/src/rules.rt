@@ -2,11 +2,11 @@
 ghost use Rattle.std.specs.Prelude.{IsTrue};
 ghost use Rattle.message_table.specs.Write.{IsShort};
 
+use crate::deliveries::{server, user};
 use doc_items::Memory;
 use session_core::{Request, Session};
 use std::alloc::Global;
 use std::test::Fail;
-use wave_base::Domain;
 use wave_messages::{Message, write};
 
 // A session of a pipe.
@@ -275,11 +275,16 @@ fn submission(alloc: Global, operations: usize, length: usize) -> Result<String,
     Ok(text)
 }
 
-fn domain(alloc: Global, text: &str) -> Result<Domain, Fail> {
-    match Domain::parse(alloc, text) {
-        Ok(domain) => Ok(domain),
-        Err(_) => Err(Fail::new("no domain")),
-    }
+// Whether a submission of this many operations, filled up to a length, asks a session for this.
+fn submits(
+    alloc: Global,
+    session: &mut Session,
+    operations: usize,
+    length: usize,
+    wanted: &str,
+) -> Result<bool, Memory> {
+    let text = submission(alloc, operations, length)?;
+    asks(alloc, session, text.as_str(), wanted)
 }
 
 #[test]
@@ -295,9 +300,7 @@ fn a_pipe_takes_clients_alone(rt: HostRuntime) -> Result<(), Fail> {
 #[test]
 fn a_server_takes_users_of_its_domain(rt: HostRuntime) -> Result<(), Fail> {
     let alloc = rt.alloc();
-    let mut peers = Vec::new(alloc);
-    peers.push(domain(alloc, "b.com")?)?;
-    let mut session = Session::new(alloc, Some(domain(alloc, "a.com")?), peers);
+    let mut session = server(alloc)?;
     for (bytes, wanted) in SERVER {
         assert!(rt; asks(alloc, &mut session, bytes, wanted)?, "{bytes}");
     }
@@ -307,9 +310,7 @@ fn a_server_takes_users_of_its_domain(rt: HostRuntime) -> Result<(), Fail> {
 #[test]
 fn a_server_takes_its_peers(rt: HostRuntime) -> Result<(), Fail> {
     let alloc = rt.alloc();
-    let mut peers = Vec::new(alloc);
-    peers.push(domain(alloc, "b.com")?)?;
-    let mut session = Session::new(alloc, Some(domain(alloc, "a.com")?), peers);
+    let mut session = server(alloc)?;
     for (bytes, wanted) in PEER {
         assert!(rt; asks(alloc, &mut session, bytes, wanted)?, "{bytes}");
     }
@@ -319,12 +320,10 @@ fn a_server_takes_its_peers(rt: HostRuntime) -> Result<(), Fail> {
 #[test]
 fn a_session_has_its_limits(rt: HostRuntime) -> Result<(), Fail> {
     let alloc = rt.alloc();
-    let mut session = Session::new(alloc, None, Vec::new(alloc));
-    let _request = session.take_message(alloc, br#"{"type":"hello","user":"alice@a.com"}"#)?;
+    let mut session = user(alloc)?;
     for (operations, length, wanted) in LENGTHS {
-        let text = submission(alloc, operations, length)?;
         assert!(rt;
-            asks(alloc, &mut session, text.as_str(), wanted)?,
+            submits(alloc, &mut session, operations, length, wanted)?,
             "{operations} {length}"
         );
     }
