@@ -28,7 +28,7 @@ use Rattle.wave_world.specs.Worlds.{Mem, World, grown, take_answer}
 use Rattle.wave_world.proofs.Events.{IsGood}
 use Rattle.wave_world.proofs.Members.{mem_right}
 use Rattle.wave_world.proofs.Places.{below}
-use Rattle.load_script.specs.Exchanges.{Meeting, meeting, lacking, caught_up, submitted, level, handed, exchanged, settling}
+use Rattle.load_script.specs.Exchanges.{Meeting, meeting, lacking, caught_up, submitted, level, exchanged, settling}
 use Rattle.load_script.specs.Names.{the_wavelet}
 use Rattle.load_script.proofs.Catching.{IsCaughtUp, catches_up}
 use Rattle.load_script.proofs.Events.{IsPooled, Leads, stays, on_to, drop_leads, receive_leads, answer_to, submit_leads}
@@ -156,7 +156,7 @@ landed w k n h f g i v e a c = record { none = none g.flight refl; few = (let q 
         absurd (z.fresh d.0 (subst (λ u. Mem d.0 u) (sym v) d.1) low (d.2 ∙ ap (λ (u : Submission). u.id) (sym x.2)))
 
 pub exchange_leads : (w : World) (k : ClientOf) (f : FollowerOf) (n t : ℕ) → IsGood the_wavelet w → IsPooled w → w.followers k ≡ Some f → IsIdle n f → IsExchanged w k (n - 1) (exchanged t (meeting w.host f))
-unfolding exchanged handed
+unfolding exchanged
 exchange_leads w k f n t i p e idle = go (submitted t (meeting w.host f) (submit f)) (submitted_leads w k f n t i p e idle)
   where
     go : (c : Meeting) → IsSubmitted w k (n - 1) c → IsExchanged w k (n - 1) (level c)

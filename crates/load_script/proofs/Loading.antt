@@ -21,9 +21,9 @@ use Rattle.wave_world.specs.Texts.{AreTextActs, AreTextsIn}
 use Rattle.wave_world.specs.Worlds.{Mem, World, Event, Starts, world_of}
 use Rattle.wave_world.proofs.Events.{IsGood, good}
 use Rattle.load_script.specs.Draws.{next, drawn}
-use Rattle.load_script.specs.Edits.{letters, unless_refused, changed, mutated, typed, erasure_of, erasure, erased, invited, types, erases_one, erases}
+use Rattle.load_script.specs.Edits.{letters, unless_refused, changed, mutated, erasure_of, erasure, erased, invited, types, erases_one, erases}
 use Rattle.load_script.specs.Exchanges.{meeting, caught_up, level, exchanged}
-use Rattle.load_script.specs.Loads.{Load, client, first, each, founding, founded, choice_of, edited, turned, with_draws, step, steps, settles, finished, loaded, Shows}
+use Rattle.load_script.specs.Loads.{Load, client, first, each, founding, founded, choice_of, edited, turned, with_draws, step, steps, settles, loaded, Shows}
 use Rattle.load_script.specs.declared.choice.Choice.{Choice}
 use Rattle.load_script.specs.declared.choice.Choice.TheVariants.{Types, Erases, Exchanges}
 use Rattle.load_script.specs.Names.{the_wavelet, the_document, user0, user1, user2, user3, users}
@@ -61,14 +61,13 @@ edit_moves : (n : ℕ) (w : World) (k : ClientOf) (f : FollowerOf) (acts : List 
 edit_moves n w k f acts i p e t idle = record { leads = edit_leads the_wavelet w k f (Mutates the_document acts ∷ []) i p e refl t; kept = tt; holds = changed_idle n f (Mutates the_document acts ∷ []) idle }
 
 types_moves : (n x : ℕ) → Moves Any (IsIdle n) (IsIdle (suc n)) (λ c. (edited c (types x c.follower)).1)
-unfolding types typed
+unfolding types
 types_moves n x w k f i p e u idle = edit_moves n w k f _ i p e (typing_text (letters f) _ _ (letters_text w k f i e)) idle
 
 less : (n : ℕ) (f : FollowerOf) → IsIdle n f → IsIdle (suc n) f
 less n f idle = record { none = idle.none; few = omega (arith, idle.few) }
 
 erased_moves : (n place : ℕ) (w : World) (k : ClientOf) (f : FollowerOf) → IsGood the_wavelet w → IsPooled w → w.followers k ≡ Some f → IsIdle n f → IsMoved Any (IsIdle (suc n)) w k (meeting w.host (erased f place))
-unfolding erased
 erased_moves n place w k f i p e idle = by_item (slice_get (letters f) place)
   where
     same : IsMoved Any (IsIdle (suc n)) w k (meeting w.host f)
@@ -209,7 +208,7 @@ end_moves h w k f i p e u d =
     record { leads = m.leads; kept = u; holds = (none_pending (caught_up w.host f) m.holds, ap (replay (start the_wavelet)) (sym u) ∙ c.here) }
 
 pub each_shows : (n : ℕ) → All (Shows (loaded n)) (loaded n).followers
-unfolding loaded finished
+unfolding loaded
 each_shows n = λ i d q. shows i _ (slice_get-get_or (each level l).followers i d q)
   where
     l : Load

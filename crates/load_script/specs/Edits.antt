@@ -40,7 +40,7 @@ mutated f acts = changed f (Mutates the_document acts ∷ [])
 abbrev pub letter : ℕ → ℕ
 letter n = 97 + n
 
-unfoldable pub typed : FollowerOf → ℕ → ℕ → FollowerOf
+abbrev pub typed : FollowerOf → ℕ → ℕ → FollowerOf
 typed f place n = mutated f (typing (letters f) place (letter n ∷ []))
 
 abbrev pub erasure_of : List Item → ℕ → Content → Option (List Action)
@@ -52,7 +52,7 @@ abbrev pub erasure : List Item → ℕ → Option Item → Option (List Action)
 erasure items place None = None
 erasure items place (Some i) = erasure_of items place i.content
 
-unfoldable pub erased : FollowerOf → ℕ → FollowerOf
+abbrev pub erased : FollowerOf → ℕ → FollowerOf
 erased f place = option_map_or (mutated f) (erasure (letters f) place (slice_get (letters f) place)) f
 
 unfoldable pub invited : FollowerOf → FollowerOf

@@ -4,8 +4,7 @@
 --     received f ds      the follower behind deltas that it receives in turn
 --     caught_up h f      behind all that it lacks
 --     answered c f s j   behind the verdict on its submission; where that is a refusal, nothing is pending any more
---     handed t c         a submission is taken, if there is one, and submitted at the time t
---     exchanged t c      so, and then the follower catches up
+--     exchanged t c      a submission is taken, if there is one, and submitted at the time t; then the follower catches up
 --     settling t n c     so again, at most n times, until nothing is pending
 use Rattle.std.specs.Prelude.{ℕ, zero, suc, cond, List, [], ◌∷◌, drop, Some, None, Ok, Err}
 use Rattle.wavelet_op.specs.Deltas.{DeltaOf}
@@ -51,11 +50,8 @@ submitted t c (Err e) = meeting c.host (dropped c.follower)
 abbrev pub level : Meeting → Meeting
 level c = meeting c.host (caught_up c.host c.follower)
 
-unfoldable pub handed : ℕ → Meeting → Meeting
-handed t c = submitted t c (submit c.follower)
-
 unfoldable pub exchanged : ℕ → Meeting → Meeting
-exchanged t c = level (handed t c)
+exchanged t c = level (submitted t c (submit c.follower))
 
 unfoldable pub settling : ℕ → ℕ → Meeting → Meeting
 settling t zero c = c

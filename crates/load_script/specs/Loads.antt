@@ -8,8 +8,7 @@
 --     turned i choice x c    what a follower does at the time i
 --     step i l           a turn of a follower that is drawn
 --     steps n l          the steps from 1 to n
---     finished n l       all followers settled and level, which have made at most n edits
---     loaded n           so, behind the steps
+--     loaded n           behind them, with all followers settled and level
 --     Shows l f          a follower's screen is the host's state
 --     summary l          the version, the number of letters and the hash at the head
 use Rattle.std.specs.Prelude.{◌≡◌, ℕ, zero, suc, List, [], length, map, slice_get, slice_set, Option, Some, None}
@@ -91,11 +90,8 @@ steps (suc n) l = step (suc n) (steps n l)
 abbrev pub settles : ℕ → Meeting → Meeting
 settles n = settling (suc n) (suc n)
 
-unfoldable pub finished : ℕ → Load → Load
-finished n l = each level (each (settles n) l)
-
 unfoldable pub loaded : ℕ → Load
-loaded n = finished n (steps n (founded n))
+loaded n = each level (each (settles n) (steps n (founded n)))
 
 abbrev pub head : Load → Point
 head l = end_of the_wavelet l.host

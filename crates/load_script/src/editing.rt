@@ -125,7 +125,6 @@ fn erasing_on(
 }
 
 // The n-th letter is typed at a place.
-#[tactic(auto, unfolding(crate::specs::Edits::typed))]
 fn type_letter(
     alloc: Global,
     follower: &mut Follower,
@@ -144,7 +143,6 @@ fn type_letter(
 }
 
 // The item at a place is erased, if it is a character.
-#[tactic(auto, unfolding(crate::specs::Edits::erased))]
 fn erase_letter(
     alloc: Global,
     follower: &mut Follower,

@@ -3,9 +3,10 @@ ghost use Rattle.std.specs.Prelude.{◌≡◌, ◌≤◌, nat_lt, length, IfOk, 
 ghost use Rattle.delta_history.specs.Places.{started_below, IsRisingFrom};
 ghost use Rattle.delta_history.specs.Verdicts.{judge};
 ghost use Rattle.node_rules.specs.Followers.{refuse};
+ghost use Rattle.node_rules.specs.Submitting.{submit};
 ghost use Rattle.wave_world.specs.Worlds.{take_answer};
 ghost use Rattle.client_control.specs.Parts.{follower_of};
-ghost use Rattle.load_script.specs.Exchanges.{meeting, lacking, received, caught_up, answered, handed, exchanged, settling};
+ghost use Rattle.load_script.specs.Exchanges.{meeting, lacking, received, caught_up, answered, submitted, exchanged, settling};
 ghost use Rattle.load_script.specs.Names.{the_wavelet};
 
 use crate::host::Host;
@@ -105,9 +106,8 @@ fn answer(
 }
 
 // What waits is submitted at the time, if a submission can be taken of it.
-#[tactic(auto, unfolding(crate::specs::Exchanges::handed))]
 fn submit(alloc: Global, host: &mut Host, follower: &mut Follower, time: u64) -> Result<(), Memory>
-    ensures { OnOk result (meeting host.new (follower_of follower.new) ≡ handed time (meeting host.old (follower_of follower.old))) }
+    ensures { OnOk result (meeting host.new (follower_of follower.new) ≡ submitted time (meeting host.old (follower_of follower.old)) (submit (follower_of follower.old))) }
 {
     match follower.take_submission(alloc) {
         Ok(Some(submission)) => answer(alloc, host, follower, &submission, time),

@@ -33,6 +33,7 @@ pub fn run_load(alloc: Global, count: u64) -> Result<Summary, Memory>
 {
     let mut script = Script::founded(alloc, count)?;
     run(alloc, &mut script, count)?;
-    script.finish(alloc, count)?;
+    script.settle(alloc, count)?;
+    script.level(alloc)?;
     script.summary(alloc)
 }

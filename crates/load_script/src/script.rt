@@ -4,7 +4,7 @@ ghost use Rattle.doc_items.specs.Maps.{Key};
 ghost use Rattle.node_rules.specs.Followers.{new_follower};
 ghost use Rattle.client_control.specs.Parts.{follower_of};
 ghost use Rattle.load_script.specs.Exchanges.{meeting, level};
-ghost use Rattle.load_script.specs.Loads.{client, first, edited, founding, on, each, founded, turned, step, settles, finished, summary};
+ghost use Rattle.load_script.specs.Loads.{client, first, edited, founding, on, each, founded, turned, step, settles, summary};
 ghost use Rattle.load_script.specs.Names.{the_wavelet, users};
 ghost use Rattle.load_script.specs.Scripts.{load_of};
 
@@ -161,9 +161,9 @@ impl Script {
         }
     }
 
-    // The followers exchange, in order, until each is settled.
+    /// The followers exchange, in order, until each is settled.
     #[tactic(auto, unfolding(crate::specs::Loads::each))]
-    fn settle(&mut self, alloc: Global, count: u64) -> Result<(), Memory>
+    pub fn settle(&mut self, alloc: Global, count: u64) -> Result<(), Memory>
         requires { count < 1000000 }
         ensures { OnOk result (load_of self.new ≡ each (settles count) (load_of self.old)) }
     {
@@ -171,16 +171,6 @@ impl Script {
         self.settle_one(alloc, count, 1)?;
         self.settle_one(alloc, count, 2)?;
         self.settle_one(alloc, count, 3)
-    }
-
-    /// The followers settle, and then each receives all that it lacks.
-    #[tactic(auto, unfolding(crate::specs::Loads::finished))]
-    pub fn finish(&mut self, alloc: Global, count: u64) -> Result<(), Memory>
-        requires { count < 1000000 }
-        ensures { OnOk result (load_of self.new ≡ finished count (load_of self.old)) }
-    {
-        self.settle(alloc, count)?;
-        self.level(alloc)
     }
 
     /// What the load came to.
