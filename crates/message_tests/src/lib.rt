@@ -4,6 +4,8 @@
 #[cfg(test)]
 mod lines;
 #[cfg(test)]
+mod members;
+#[cfg(test)]
 mod refused;
 #[cfg(test)]
 mod short;

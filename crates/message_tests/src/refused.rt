@@ -297,8 +297,8 @@ const REFUSED: [(Kind, &str, &str); 62] = [
     ),
 ];
 
-// Whether bytes are refused for this reason.
-fn is_refused(alloc: Global, bytes: &[u8], limit: u64, kind: Kind) -> bool {
+/// Whether bytes are refused for this reason.
+pub fn is_refused(alloc: Global, bytes: &[u8], limit: u64, kind: Kind) -> bool {
     match read(alloc, bytes, limit) {
         Ok(_) => false,
         Err(fault) => fault == MessageFault::BadMessage(kind),

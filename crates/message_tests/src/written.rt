@@ -5,8 +5,8 @@ use std::alloc::Global;
 use std::test::Fail;
 use wave_messages::{MAX_PEER, read};
 
-// A message of each kind.
-const MESSAGES: [(&str, &str); 42] = [
+/// A message of each kind, and of each reason.
+pub const MESSAGES: [(&str, &str); 46] = [
     ("hello", r#"{"type":"hello","user":"alice@a.com"}"#),
     ("hello with any text", r#"{"type":"hello","user":"né 😀"}"#),
     (
@@ -134,6 +134,22 @@ const MESSAGES: [(&str, &str); 42] = [
     (
         "relayed: invalid",
         r#"{"author":"bob@b.com","client":1,"number":1,"type":"relayed","verdict":{"index":0,"reason":"Invalid"},"wavelet":"a.com/w1/a.com/conv+root"}"#,
+    ),
+    (
+        "relayed: no participant",
+        r#"{"author":"bob@b.com","client":1,"number":1,"type":"relayed","verdict":{"reason":"NotParticipant"},"wavelet":"a.com/w1/a.com/conv+root"}"#,
+    ),
+    (
+        "relayed: reads only",
+        r#"{"author":"bob@b.com","client":1,"number":1,"type":"relayed","verdict":{"reason":"ReadOnly"},"wavelet":"a.com/w1/a.com/conv+root"}"#,
+    ),
+    (
+        "relayed: unknown version",
+        r#"{"author":"bob@b.com","client":1,"number":1,"type":"relayed","verdict":{"hash":"i8ATQT3M+Urv/HnqWnjTSivG7CEZhXaWvCB8fefaUBo=","reason":"UnknownVersion","version":2},"wavelet":"a.com/w1/a.com/conv+root"}"#,
+    ),
+    (
+        "relayed: full",
+        r#"{"author":"bob@b.com","client":1,"number":1,"type":"relayed","verdict":{"hash":"i8ATQT3M+Urv/HnqWnjTSivG7CEZhXaWvCB8fefaUBo=","reason":"Full","version":2},"wavelet":"a.com/w1/a.com/conv+root"}"#,
     ),
     (
         "dropped",

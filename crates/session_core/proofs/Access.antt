@@ -1,7 +1,7 @@
 -- Whoever it is is sent nothing that it may not see.
 --     attached_may_see      in the answer to an `open`
 --     all_may_see           in what is delivered
-use Rattle.std.proofs.Common.{◌≡◌, ◌==◌, ℕ, Bool, true, false, if◌then◌else◌, List, [], ◌∷◌, ◌++◌, take, drop, refl, sym, subst, ◌∙◌, append_assoc, Option, None, Some}
+use Rattle.std.proofs.Common.{◌≡◌, ◌==◌, ℕ, Bool, true, false, if◌then◌else◌, List, [], ◌∷◌, ◌++◌, take, refl, sym, subst, ◌∙◌, append_assoc, Option, None, Some}
 use Rattle.std.specs.Cmp.Lexicographic.{pointwise}
 use Rattle.std.specs.List.{All}
 use Rattle.std.proofs.lemmas.List.{take-append-drop}
@@ -11,12 +11,11 @@ use Rattle.wave_base.specs.Versions.{VersionAt}
 use Rattle.wavelet_op.specs.Deltas.{DeltaOf}
 use Rattle.wavelet_op.specs.declared.verdict.Verdict.{Verdict}
 use Rattle.wavelet_op.specs.declared.verdict.Verdict.TheVariants as verdict
-use Rattle.wavelet_state.specs.Snapshots.{SnapshotOf}
 use Rattle.delta_history.specs.Histories.{HistoryOf, head_of, hash_found}
 use Rattle.delta_history.specs.Places.{started_below}
 use Rattle.message_table.specs.declared.message.Message.{Message}
 use Rattle.message_parts.specs.declared.reason.UnopenedReason.TheVariants as unopened
-use Rattle.message_table.specs.declared.message.Message.TheVariants.{Opened, Unopened, Update, Snapshot, Closed, Applied, Dropped}
+use Rattle.message_table.specs.declared.message.Message.TheVariants.{Opened, Unopened, Update, Snapshot, Applied, Dropped}
 use Rattle.session_core.specs.declared.session.Party.{Party}
 use Rattle.session_core.specs.declared.session.Party.TheVariants.{Nobody, User, Domain}
 use Rattle.session_core.specs.declared.session.Opening.{Opening}

@@ -1,5 +1,5 @@
 -- What stands at each place, gathered one by one.
-use Rattle.std.proofs.Common.{◌≡◌, ◌+◌, ℕ, zero, suc, List, [], ◌∷◌, ◌++◌, length, map, take, refl, sym, ap, ◌∙◌, arith, slice_get, Option, None, Some, length-append}
+use Rattle.std.proofs.Common.{◌≡◌, ℕ, zero, suc, List, [], ◌∷◌, ◌++◌, length, map, take, refl, sym, ap, ◌∙◌, arith, slice_get, None, Some, length-append}
 use Rattle.std.proofs.lemmas.List.{map-append}
 
 module _ {K : Type 0} where

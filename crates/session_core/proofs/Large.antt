@@ -1,7 +1,7 @@
 -- A snapshot is refused for its length alone.
 --     large_seen      what is answered on a history that may be shown
 --     large_is        so to any `open`
-use Rattle.std.proofs.Common.{◌≡◌, ◌<◌, ◌≤◌, ◌==◌, ℕ, Bool, true, false, ◌&&◌, nat_le, if◌then◌else◌, List, refl, sym, ap, subst, ◌∙◌, arith, Option, None, Some}
+use Rattle.std.proofs.Common.{◌≡◌, ◌<◌, ◌≤◌, ◌==◌, ℕ, Bool, true, false, ◌&&◌, nat_le, if◌then◌else◌, List, refl, sym, ap, subst, arith, Option, None, Some}
 use Rattle.std.specs.Prelude.{◌↔◌, IfSome}
 use Rattle.std.specs.Cmp.Lexicographic.{pointwise}
 use Rattle.std.proofs.lemmas.Bool.Decides.{nat_tests}
@@ -14,7 +14,7 @@ use Rattle.message_table.specs.declared.message.Message.{Message}
 use Rattle.message_table.specs.declared.message.Message.TheVariants.{Opened, Snapshot, Unopened}
 use Rattle.session_core.specs.declared.session.Session.{Session}
 use Rattle.session_core.specs.Access.{Shown}
-use Rattle.session_core.specs.Answers.{with_sent, snapshot_of, written_len, is_sendable, attached_head, attached_hash, attached_seen, seen_for, attached, IsLongHead, HasLongHead}
+use Rattle.session_core.specs.Answers.{with_sent, snapshot_of, written_len, attached_head, attached_hash, attached_seen, seen_for, attached, IsLongHead, HasLongHead}
 use Rattle.session_core.specs.Rules.{max_peer}
 
 within : (a b : ℕ) → nat_le a b ≡ true → a ≤ b

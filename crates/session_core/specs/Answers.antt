@@ -12,7 +12,7 @@
 --     HasLongHead c p n         the snapshot of the head of that history is written with more than max_peer bytes
 --     told_at n v ts            a peer counts as told of a wavelet, its deltas sent up to a version
 --     had c s n v               after a `have`
-use Rattle.std.specs.Prelude.{ℕ, ◌+◌, ◌<◌, slice_set, slice_index_or, option_map, Bool, true, false, ◌&&◌, ◌||◌, ◌==◌, nat_le, cond, if◌then◌else◌, List, [], ◌∷◌, ◌++◌, length, Option, Some, None}
+use Rattle.std.specs.Prelude.{ℕ, ◌+◌, ◌<◌, slice_set, slice_index_or, option_map, Bool, true, false, ◌&&◌, ◌||◌, ◌==◌, nat_le, if◌then◌else◌, List, [], ◌∷◌, ◌++◌, length, Option, Some, None}
 use Rattle.std.specs.Cmp.Lexicographic.{pointwise}
 use Rattle.serde_json.specs.Written.{compact_text}
 use Rattle.doc_items.specs.Maps.{Key, same_text}

@@ -1,0 +1,61 @@
+// Open wavelets keep their order.
+use crate::deliveries::{deliver, user};
+use crate::held::{NAME, copies, empty, held, push};
+use delta_history::Copies;
+use memory_copies::{MemoryCopies, Notes};
+use session_core::Session;
+use std::alloc::Global;
+use std::test::Fail;
+use wave_base::{HashedVersion, WaveletName};
+
+const SECOND: &str = "a.com/w2/a.com/conv+root";
+
+// A wavelet with deltas at 0 and 2, and one with deltas at 0 and 1.
+fn both(alloc: Global) -> Result<MemoryCopies, Fail> {
+    let mut first = empty(alloc, NAME)?;
+    push(alloc, &mut first, 1, "bob@b.com", "add bob@b.com; b+1: +hi")?;
+    push(alloc, &mut first, 2, "bob@b.com", "b+1: 2 +!")?;
+    let mut second = empty(alloc, SECOND)?;
+    push(alloc, &mut second, 1, "bob@b.com", "add bob@b.com")?;
+    push(alloc, &mut second, 2, "bob@b.com", "b+1: +ho")?;
+    let mut list = Vec::new(alloc);
+    list.push(held(first, false, Notes::from_vec(Vec::new(alloc))))?;
+    list.push(held(second, false, Notes::from_vec(Vec::new(alloc))))?;
+    copies(list)
+}
+
+// The wavelet is opened at a version.
+fn open(
+    alloc: Global,
+    session: &mut Session,
+    copies: &MemoryCopies,
+    name: &str,
+    version: u64,
+) -> Result<(), Fail> {
+    if version > 1000 {
+        return Err(Fail::new("a version above 1000"));
+    }
+    let name = WaveletName::parse(alloc, name)?;
+    let hash = match copies.copy_of(&name) {
+        Some(history) => history.hash_at(version).unwrap_or([0; 32]),
+        None => [0; 32],
+    };
+    if session.has_user() {
+        let from = HashedVersion { version, hash };
+        session.answer_attach(alloc, copies, &name, Some(&from))?;
+    }
+    Ok(())
+}
+
+#[test]
+fn a_wavelet_opened_again_keeps_its_place(rt: HostRuntime) -> Result<(), Fail> {
+    let alloc = rt.alloc();
+    let copies = both(alloc)?;
+    let mut session = user(alloc)?;
+    open(alloc, &mut session, &copies, NAME, 0)?;
+    open(alloc, &mut session, &copies, SECOND, 0)?;
+    open(alloc, &mut session, &copies, NAME, 2)?;
+    let sent = deliver(alloc, &mut session, &copies)?;
+    assert!(rt; sent.as_str() == "update 2;update 0;update 1;");
+    Ok(())
+}
