@@ -81,6 +81,11 @@ fn each_line_is_answered(rt: HostRuntime) -> Result<(), Fail> {
         (BOTH_ADD_IN.as_slice(), BOTH_ADD_OUT.as_slice()),
         (ELEMENTS_IN.as_slice(), ELEMENTS_OUT.as_slice()),
         (READ_ONLY_IN.as_slice(), READ_ONLY_OUT.as_slice()),
+        (
+            ROLE_OF_REMOVED_IN.as_slice(),
+            ROLE_OF_REMOVED_OUT.as_slice(),
+        ),
+        (TWO_ROLES_IN.as_slice(), TWO_ROLES_OUT.as_slice()),
         (SNAPSHOT_IN.as_slice(), SNAPSHOT_OUT.as_slice()),
         (HOSTILE_IN.as_slice(), HOSTILE_OUT.as_slice()),
     ];

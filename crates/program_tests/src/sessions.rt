@@ -153,6 +153,52 @@ pub const READ_ONLY_OUT: [&str; 10] = [
     r#"{"message":{"author":"alice@a.com","client":1,"hash":"OCs30I7xniu9timws5OYiok22PCUViwEOKZJS92uWzw=","number":4,"operations":[{"document":"b+1","operation":[{"retain_item_count":2},{"characters":"!"}],"type":"mutate"}],"time":1000,"type":"update","version":4,"wavelet":"a.com/w1/a.com/conv+root"},"session":"s2"}"#,
 ];
 
+// Alice removes bob, and at the same version dave sets his role: dave's is applied as one that does nothing.
+pub const ROLE_OF_REMOVED_IN: [&str; 7] = [
+    r#"{"session":"s1","message":{"type":"hello","user":"alice@a.com"}}"#,
+    r#"{"session":"s1","message":{"type":"submit","wavelet":"a.com/w1/a.com/conv+root","client":1,"number":1,"version":0,"hash":"eYTheTdCZGp0Bp8vDI5vHWkA/zj+heZDeOT2uSFhOqs=","operations":[{"type":"add","participant":"alice@a.com"},{"type":"mutate","document":"b+1","operation":[{"characters":"hi"}]}]}}"#,
+    r#"{"session":"s2","message":{"type":"hello","user":"dave@a.com"}}"#,
+    r#"{"session":"s1","message":{"type":"submit","wavelet":"a.com/w1/a.com/conv+root","client":1,"number":2,"version":2,"hash":"i8ATQT3M+Urv/HnqWnjTSivG7CEZhXaWvCB8fefaUBo=","operations":[{"type":"add","participant":"bob@a.com"},{"type":"add","participant":"dave@a.com"}]}}"#,
+    r#"{"session":"s2","message":{"type":"open","wavelet":"a.com/w1/a.com/conv+root","version":4,"hash":"yQTYTi066ZoFEO4uPTTPuq86jg7oiRB314LNNSy5DNM="}}"#,
+    r#"{"session":"s1","message":{"type":"submit","wavelet":"a.com/w1/a.com/conv+root","client":1,"number":3,"version":4,"hash":"yQTYTi066ZoFEO4uPTTPuq86jg7oiRB314LNNSy5DNM=","operations":[{"type":"remove","participant":"bob@a.com"}]}}"#,
+    r#"{"session":"s2","message":{"type":"submit","wavelet":"a.com/w1/a.com/conv+root","client":2,"number":1,"version":4,"hash":"yQTYTi066ZoFEO4uPTTPuq86jg7oiRB314LNNSy5DNM=","operations":[{"type":"set_role","participant":"bob@a.com","old":"full","new":"read"}]}}"#,
+];
+
+pub const ROLE_OF_REMOVED_OUT: [&str; 9] = [
+    r#"{"message":{"type":"welcome","user":"alice@a.com"},"session":"s1"}"#,
+    r#"{"message":{"at":0,"client":1,"hash":"i8ATQT3M+Urv/HnqWnjTSivG7CEZhXaWvCB8fefaUBo=","number":1,"type":"ack","version":2,"wavelet":"a.com/w1/a.com/conv+root"},"session":"s1"}"#,
+    r#"{"message":{"type":"welcome","user":"dave@a.com"},"session":"s2"}"#,
+    r#"{"message":{"at":2,"client":1,"hash":"yQTYTi066ZoFEO4uPTTPuq86jg7oiRB314LNNSy5DNM=","number":2,"type":"ack","version":4,"wavelet":"a.com/w1/a.com/conv+root"},"session":"s1"}"#,
+    r#"{"message":{"type":"opened","version":4,"wavelet":"a.com/w1/a.com/conv+root"},"session":"s2"}"#,
+    r#"{"message":{"at":4,"client":1,"hash":"pUku6YnQcDePPIwUieWMlxl1wHCDv1l/9x0hYRw7M6o=","number":3,"type":"ack","version":5,"wavelet":"a.com/w1/a.com/conv+root"},"session":"s1"}"#,
+    r#"{"message":{"author":"alice@a.com","client":1,"hash":"yQTYTi066ZoFEO4uPTTPuq86jg7oiRB314LNNSy5DNM=","number":3,"operations":[{"participant":"bob@a.com","type":"remove"}],"time":1000,"type":"update","version":4,"wavelet":"a.com/w1/a.com/conv+root"},"session":"s2"}"#,
+    r#"{"message":{"at":5,"client":2,"hash":"YT05OaO1/KINFLMeXgDBa1ZYNzOA/ehB+VJvNqJd6LM=","number":1,"type":"ack","version":6,"wavelet":"a.com/w1/a.com/conv+root"},"session":"s2"}"#,
+    r#"{"message":{"author":"dave@a.com","client":2,"hash":"pUku6YnQcDePPIwUieWMlxl1wHCDv1l/9x0hYRw7M6o=","number":1,"operations":[{"type":"noop"}],"time":1000,"type":"update","version":5,"wavelet":"a.com/w1/a.com/conv+root"},"session":"s2"}"#,
+];
+
+// Alice and dave set bob's role at one version: dave's is applied to what alice's made of it.
+pub const TWO_ROLES_IN: [&str; 7] = [
+    r#"{"session":"s1","message":{"type":"hello","user":"alice@a.com"}}"#,
+    r#"{"session":"s1","message":{"type":"submit","wavelet":"a.com/w1/a.com/conv+root","client":1,"number":1,"version":0,"hash":"eYTheTdCZGp0Bp8vDI5vHWkA/zj+heZDeOT2uSFhOqs=","operations":[{"type":"add","participant":"alice@a.com"},{"type":"mutate","document":"b+1","operation":[{"characters":"hi"}]}]}}"#,
+    r#"{"session":"s2","message":{"type":"hello","user":"dave@a.com"}}"#,
+    r#"{"session":"s1","message":{"type":"submit","wavelet":"a.com/w1/a.com/conv+root","client":1,"number":2,"version":2,"hash":"i8ATQT3M+Urv/HnqWnjTSivG7CEZhXaWvCB8fefaUBo=","operations":[{"type":"add","participant":"bob@a.com"},{"type":"add","participant":"dave@a.com"}]}}"#,
+    r#"{"session":"s2","message":{"type":"open","wavelet":"a.com/w1/a.com/conv+root","version":4,"hash":"yQTYTi066ZoFEO4uPTTPuq86jg7oiRB314LNNSy5DNM="}}"#,
+    r#"{"session":"s1","message":{"type":"submit","wavelet":"a.com/w1/a.com/conv+root","client":1,"number":3,"version":4,"hash":"yQTYTi066ZoFEO4uPTTPuq86jg7oiRB314LNNSy5DNM=","operations":[{"type":"set_role","participant":"bob@a.com","old":"full","new":"read"}]}}"#,
+    r#"{"session":"s2","message":{"type":"submit","wavelet":"a.com/w1/a.com/conv+root","client":2,"number":1,"version":4,"hash":"yQTYTi066ZoFEO4uPTTPuq86jg7oiRB314LNNSy5DNM=","operations":[{"type":"set_role","participant":"bob@a.com","old":"full","new":"full"}]}}"#,
+];
+
+pub const TWO_ROLES_OUT: [&str; 9] = [
+    r#"{"message":{"type":"welcome","user":"alice@a.com"},"session":"s1"}"#,
+    r#"{"message":{"at":0,"client":1,"hash":"i8ATQT3M+Urv/HnqWnjTSivG7CEZhXaWvCB8fefaUBo=","number":1,"type":"ack","version":2,"wavelet":"a.com/w1/a.com/conv+root"},"session":"s1"}"#,
+    r#"{"message":{"type":"welcome","user":"dave@a.com"},"session":"s2"}"#,
+    r#"{"message":{"at":2,"client":1,"hash":"yQTYTi066ZoFEO4uPTTPuq86jg7oiRB314LNNSy5DNM=","number":2,"type":"ack","version":4,"wavelet":"a.com/w1/a.com/conv+root"},"session":"s1"}"#,
+    r#"{"message":{"type":"opened","version":4,"wavelet":"a.com/w1/a.com/conv+root"},"session":"s2"}"#,
+    r#"{"message":{"at":4,"client":1,"hash":"SdiUZjc0btjoGQ9EoTxENSviLc/FaiVTyS+xMvhg5VA=","number":3,"type":"ack","version":5,"wavelet":"a.com/w1/a.com/conv+root"},"session":"s1"}"#,
+    r#"{"message":{"author":"alice@a.com","client":1,"hash":"yQTYTi066ZoFEO4uPTTPuq86jg7oiRB314LNNSy5DNM=","number":3,"operations":[{"new":"read","old":"full","participant":"bob@a.com","type":"set_role"}],"time":1000,"type":"update","version":4,"wavelet":"a.com/w1/a.com/conv+root"},"session":"s2"}"#,
+    r#"{"message":{"at":5,"client":2,"hash":"zpahmHe7TKoR2AprMloj0tf3dfvFCiXYsJSXBTg6sjM=","number":1,"type":"ack","version":6,"wavelet":"a.com/w1/a.com/conv+root"},"session":"s2"}"#,
+    r#"{"message":{"author":"dave@a.com","client":2,"hash":"SdiUZjc0btjoGQ9EoTxENSviLc/FaiVTyS+xMvhg5VA=","number":1,"operations":[{"new":"full","old":"read","participant":"bob@a.com","type":"set_role"}],"time":1000,"type":"update","version":5,"wavelet":"a.com/w1/a.com/conv+root"},"session":"s2"}"#,
+];
+
 // A wavelet opened without a version is sent as it is.
 pub const SNAPSHOT_IN: [&str; 3] = [
     r#"{"session":"s1","message":{"type":"hello","user":"alice@a.com"}}"#,
