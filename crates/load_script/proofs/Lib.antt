@@ -9,3 +9,4 @@ pub mod Settling
 pub mod Erasures
 pub mod Letters
 pub mod Stepping
+pub mod Rounds

@@ -162,7 +162,6 @@ impl Script {
     }
 
     /// The followers exchange, in order, until each is settled.
-    #[tactic(auto, unfolding(crate::specs::Loads::each))]
     pub fn settle(&mut self, alloc: Global, count: u64) -> Result<(), Memory>
         requires { count < 1000000 }
         ensures { OnOk result (load_of self.new ≡ each (settles count) (load_of self.old)) }
