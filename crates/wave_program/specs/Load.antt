@@ -7,7 +7,7 @@ use Rattle.std.specs.Io.KnownBytes.{Appends}
 use Rattle.load_script.specs.Line.{line}
 use Rattle.load_script.specs.Loads.{loaded, summary}
 
-abbrev pub load_line : ℕ → List ℕ
+unfoldable pub load_line : ℕ → List ℕ
 load_line n = line n (summary (loaded n))
 
 abbrev pub IsFront : List ℕ → (old new : Option (List ℕ)) → Type 0

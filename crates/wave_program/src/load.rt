@@ -18,6 +18,7 @@ pub enum LoadStop {
 }
 
 // The line that tells of the load of a number.
+#[tactic(auto, unfolding(crate::specs::Load::load_line))]
 fn told(alloc: Global, count: u64) -> Result<String, Memory>
     requires { count ≤ 100000 }
     ensures { IfOk result (λ t. string_bytes t ≡ load_line count) }
