@@ -201,3 +201,25 @@ fn each_status_has_its_cause(rt: HostRuntime) -> Result<(), Fail> {
     assert!(rt; sink.bytes().is_empty());
     Ok(())
 }
+
+// The lines were reckoned by another program.
+#[test]
+fn a_load_is_told(rt: HostRuntime) -> Result<(), Fail> {
+    let alloc = rt.alloc();
+    for (number, line) in [
+        (
+            "0",
+            "load 0 version 4 items 0 hash 0Eet6cMWJJZxvsVtdBSJZAsPG2XNNTJGkd7elSmspks=\n",
+        ),
+        (
+            "1",
+            "load 1 version 5 items 1 hash RZ2GM7AaTXZrTiHJfj8lEY8D9mqypic7sZlT8m8gD2w=\n",
+        ),
+    ] {
+        let words = ["load", number];
+        let (status, sink) = outcome(alloc, &words, b"", &[0], &[], &mut no_files(alloc))?;
+        assert_eq!(rt; status, 0);
+        assert_eq!(rt; sink.bytes(), line.as_bytes());
+    }
+    Ok(())
+}
