@@ -59,7 +59,7 @@ use Rattle.pipe_machine.specs.Keeping.{Begins}
 use Rattle.pipe_machine.specs.Lines.{Sent, sent_to}
 use Rattle.pipe_machine.specs.Machine.{Pipe, Reply, Answer, outcome_in, shown_in, asked, replied, answered_read, answered, delivered as delivered_all, turn, sent, after}
 use Rattle.pipe_machine.specs.Seats.{place_in, seated, seat_in, seats_sent}
-use Rattle.pipe_machine.proofs.Moving.{begins_itself, begins_added}
+use Rattle.pipe_machine.proofs.Moving.{begins_itself, begins_added, begins_on}
 
 -- ---- longer histories
 
@@ -424,9 +424,6 @@ turn_fair p t line up =
       grown = fair.grown;
       ascends = fair.ascends;
     }
-
-begins_on : (ds es fs : List DeltaOf) → Begins ds es → Begins es fs → Begins ds fs
-begins_on ds es fs (a, e) (b, f) = (a ++ b, sym (append_assoc ds a b) ∙ ap (λ l. l ++ b) e ∙ f)
 
 pub after_begins : (p : Pipe) (ts : List Turn) → AreAscending (names_of p.hosted) → (n : Key) → Begins (deltas_in p.hosted n) (deltas_in (after p ts).hosted n)
 after_begins p [] up n = begins_itself (deltas_in p.hosted n)

@@ -1,9 +1,10 @@
 -- How a shelf moves.
 --     same_shown            what sessions see of it is what they see of its histories
+--     begins_itself, begins_added, begins_on     deltas that are the first of others
 --     stays                 one that stays as it is
 --     only_if               one that may move at fewer names
 --     taken_in, refused_in  one that took a submission; one where it was refused
-use Rattle.std.proofs.Common.{◌≡◌, ◌≢◌, ◌⊎◌, inl, inr, ◌↔◌, ◌≤◌, ℕ, Bool, false, List, [], ◌∷◌, ◌++◌, Option, None, Some, IsSome, refl, sym, ap, subst, ◌∙◌, option_map, append-nil, arith, true≢false}
+use Rattle.std.proofs.Common.{◌≡◌, ◌≢◌, ◌⊎◌, inl, inr, ◌↔◌, ◌≤◌, ℕ, Bool, false, List, [], ◌∷◌, ◌++◌, Option, None, Some, IsSome, refl, sym, ap, subst, ◌∙◌, option_map, append-nil, arith, true≢false, append_assoc}
 use Rattle.doc_items.specs.Maps.{Key, same_text}
 use Rattle.wave_base.specs.Versions.{IdOf}
 use Rattle.wavelet_op.specs.Deltas.{DeltaOf}
@@ -34,6 +35,9 @@ kept_alike (Some g) (Some h) i e = (λ k. kept i (start (e.0 k)) (e.1 k))
 
 pub begins_itself : (ds : List DeltaOf) → Begins ds ds
 begins_itself ds = ([], append-nil ds)
+
+pub begins_on : (ds es fs : List DeltaOf) → Begins ds es → Begins es fs → Begins ds fs
+begins_on ds es fs (a, e) (b, f) = (a ++ b, sym (append_assoc ds a b) ∙ ap (λ l. l ++ b) e ∙ f)
 
 begins_grown : (hs : List Hosted) (n : Key) (d : DeltaOf) (m : Key) → AreAscending (names_of hs) → (m ≡ n) ⊎ (m ≢ n) → Begins (deltas_in hs m) (deltas_in (with_added hs n (Some d)) m)
 begins_grown hs n d m up (inl e) = (d ∷ [], subst (λ k. deltas_in hs k ++ d ∷ [] ≡ deltas_in (with_added hs n (Some d)) k) (sym e) (sym (grows_alone.there hs n d up)))

@@ -22,6 +22,7 @@ use Rattle.pipe_machine.specs.Keeping.{Begins, submits_to, submitted_in, IsMoved
 use Rattle.pipe_machine.specs.Lines.{lines_of}
 use Rattle.pipe_machine.specs.Machine.{Pipe, Answer, delivered, turned, turn, sent, after}
 use Rattle.pipe_machine.proofs.Gathering.{lines_append}
+use Rattle.pipe_machine.proofs.Moving.{begins_on}
 
 pub after_more : (p : Pipe) (ts : List Turn) (time : ℕ) (line : List ℕ) → after p (ts ++ turn_at time line ∷ []) ≡ (turn (after p ts) time line).pipe
 after_more p [] time line = refl
@@ -37,9 +38,6 @@ answered_on (Err x) p q out one time line e f = tt
 pub turn_sent : (one two out : List ℕ) (a : Answer) (p : Pipe) → p ≡ a.pipe → one ≡ out ++ lines_of a.sent → two ≡ one ++ lines_of (delivered p).sent → two ≡ out ++ lines_of (turned a).sent
 turn_sent one two out a p e f h =
     h ∙ (λ i. f i ++ lines_of (delivered (e i)).sent) ∙ append_assoc out (lines_of a.sent) (lines_of (delivered a.pipe).sent) ∙ ap (λ l. out ++ l) (sym (lines_append a.sent (delivered a.pipe).sent))
-
-begins_on : (ds es fs : List DeltaOf) → Begins ds es → Begins es fs → Begins ds fs
-begins_on ds es fs (a, e) (b, f) = (a ++ b, sym (append_assoc ds a b) ∙ ap (λ l. l ++ b) e ∙ f)
 
 none_of : (a b : Bool) → (a || b) ≡ false → (a ≡ false) × (b ≡ false)
 none_of true b e = absurd (true≢false e)
