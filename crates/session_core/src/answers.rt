@@ -1,9 +1,9 @@
 // What is answered to what a message asked for.
-ghost use Rattle.std.specs.Prelude.{◌≡◌, ◌↔◌, true, cond, Some, None, IfOk, OnOk, OnErr};
+ghost use Rattle.std.specs.Prelude.{◌≡◌, ◌↔◌, true, cond, nat_le, length, Some, None, IfOk, OnOk, OnErr};
 ghost use Rattle.std.specs.Option.{option_copied};
 ghost use Rattle.delta_history.specs.Histories.{head_of, hash_found};
 ghost use Rattle.wavelet_state.specs.Snapshots.{is_snapshot};
-ghost use Rattle.session_core.specs.Rules.{has_user, has_peer};
+ghost use Rattle.session_core.specs.Rules.{has_user, has_peer, max_peer};
 ghost use Rattle.session_core.specs.Access.{shown, seen_by, MaySee};
 ghost use Rattle.session_core.specs.Answers.{verdict_message, told_verdict, is_waiting, with_waiting, answered, sent_at, with_sent, snapshot_of, is_sendable, attached_head, attached_hash, attached_seen, seen_for, attached, HasLongHead, told_at, had_hash, had_copy, had};
 ghost use Rattle.message_parts.specs.declared.reason.UnopenedReason.TheVariants.{TooLarge};
@@ -214,6 +214,12 @@ fn snapshot_of(
     Ok(Snapshot::new(name, history.head(), history.inserted(), state))
 }
 
+fn may_be_sent(bytes: &[u8]) -> bool
+    ensures { result ≡ nat_le (length bytes.now) max_peer }
+{
+    bytes.len() as u64 <= MAX_PEER
+}
+
 // The message with the snapshot, where it may be sent.
 #[tactic(auto, unfolding(crate::specs::Answers::written_len))]
 fn sendable(alloc: Global, name: &WaveletName, history: &History) -> Result<Option<Message>, Memory>
@@ -224,7 +230,7 @@ fn sendable(alloc: Global, name: &WaveletName, history: &History) -> Result<Opti
     };
     let message = Message::Snapshot(snapshot);
     let bytes = write(alloc, &message)?;
-    if bytes.len() as u64 <= MAX_PEER {
+    if may_be_sent(&bytes) {
         Ok(Some(message))
     } else {
         Ok(None)

@@ -2,7 +2,6 @@
 ghost use Rattle.std.specs.Prelude.{◌≡◌, ◌≤◌, ◌++◌, nat_lt, length, map, IfOk, OnOk, OnErr};
 ghost use Rattle.std.specs.List.{list_any, All};
 ghost use Rattle.std.specs.Option.{option_copied};
-ghost use Rattle.std.specs.FinMap.{keys};
 ghost use Rattle.delta_history.specs.Histories.{head_of};
 ghost use Rattle.delta_history.specs.Places.{started_below, IsRisingFrom};
 ghost use Rattle.session_core.specs.Access.{shown, has_domain, is_of_domain, seen_by, seen_from, MaySee};
@@ -17,7 +16,6 @@ use std::alloc::Global;
 use wave_base::{Address, Domain, WaveletName};
 use wave_messages::{ClosedReason, Message};
 use wavelet_op::{AppliedDelta, Verdict};
-use wavelet_state::WaveletState;
 
 // ---- deltas
 
@@ -225,17 +223,6 @@ impl Openings {
 
 // ---- hosted wavelets, for a peer
 
-// The participants, in byte order.
-fn participants(alloc: Global, state: &WaveletState) -> Result<Vec<&Address>, Memory>
-    ensures { IfOk result (λ list. map (λ a. a.now) list.items ≡ keys state.entry.now.roles) }
-{
-    let mut list = Vec::new(alloc);
-    while let Some(address) = state.participant(list.len() as u64) {
-        list.push(address)?;
-    }
-    Ok(list)
-}
-
 fn is_of_domain(address: &Address, domain: &Domain) -> bool
     ensures { result ≡ is_of_domain domain.now address.now }
 {
@@ -258,7 +245,7 @@ fn any_of(list: &[&Address], domain: &Domain) -> bool
 fn has_domain(alloc: Global, history: &History, domain: &Domain) -> Result<bool, Memory>
     ensures { IfOk result (λ b. b ≡ has_domain history.now domain.now) }
 {
-    let list = participants(alloc, history.state())?;
+    let list = history.state().participants(alloc)?;
     Ok(any_of(list.as_slice(), domain))
 }
 

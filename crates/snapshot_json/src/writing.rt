@@ -95,7 +95,7 @@ fn member_list(alloc: Global, state: &WaveletState) -> Result<Vec<Value>, Memory
     ensures back { IfOk result (λ _. All (IsMemberBack state.now) (keys state.now.roles)) }
 {
     let mut list = Vec::new(alloc);
-    while let Some(address) = state.participant(list.len() as u64) {
+    for address in state.participants(alloc)? {
         list.push(member_value(alloc, state, address)?)?;
     }
     Ok(list)
@@ -141,7 +141,7 @@ fn document_list(alloc: Global, state: &WaveletState) -> Result<Vec<Value>, Memo
     ensures back { IfOk result (λ _. All (IsDocumentBack state.now) (keys state.now.documents)) }
 {
     let mut list = Vec::new(alloc);
-    while let Some(name) = state.document_name(list.len() as u64) {
+    for name in state.document_names(alloc)? {
         list.push(document_value(alloc, state, name)?)?;
     }
     Ok(list)

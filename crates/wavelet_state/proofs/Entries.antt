@@ -5,7 +5,8 @@
 --     keys-entries     the keys, in their order
 --     insert_next      entries are copied one by one, in their order
 --     at_first, at_next, at_end     a walk to a place
-use Rattle.std.proofs.Common.{Less, Greater, ◌≡◌, ℕ, zero, suc, cond, List, [], ◌∷◌, length, refl, sym, ap, ◌∙◌, Option, None, Some, BTreeMap, is_eq, slice_get, IsSome, arith, subst, append_assoc, ◌++◌, ◌-◌, true≢false}
+--     at_whole         a walk to the end
+use Rattle.std.proofs.Common.{Less, Greater, ◌≡◌, ℕ, zero, suc, cond, List, [], ◌∷◌, length, refl, sym, ap, ◌∙◌, Option, None, Some, BTreeMap, is_eq, slice_get, IsSome, arith, subst, append_assoc, append-nil, ◌++◌, ◌-◌, true≢false}
 use Rattle.std.specs.Ordering.{nat_cmp, eq_by_cmp, ordering_reverse, match_ordering}
 use Rattle.std.specs.List.{AllByRecursion}
 use Rattle.std.specs.Cmp.Lexicographic.{slice_cmp}
@@ -110,3 +111,6 @@ at_next left rest k (suc n) g h e z = ap (slice_get rest) (omega arith) ∙ sym 
 
 pub at_end : (left : List Key) (n : ℕ) (g : Option Key) → slice_get left n ≡ g → left ≡ [] → None ≡ g
 at_end left n g h e = sym (ap (λ l. slice_get l n) e) ∙ h
+
+pub at_whole : (done left all : List Key) → done ++ left ≡ all → left ≡ [] → done ≡ all
+at_whole done left all h e = sym (append-nil done) ∙ ap (λ l. done ++ l) (sym e) ∙ h

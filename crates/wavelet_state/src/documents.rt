@@ -1,5 +1,5 @@
 // A wavelet's documents.
-ghost use Rattle.std.specs.Prelude.{◌≡◌, ◌≢◌, ◌+◌, ◌≤◌, List, length, IsSome, IfSome, Option, Some, None, [], ◌↔◌, OnOk, OnErr, IfOk, IfErr, IsTrue, is_some, slice_get};
+ghost use Rattle.std.specs.Prelude.{◌≡◌, ◌≢◌, ◌+◌, ◌≤◌, List, length, map, IsSome, IfSome, Option, Some, None, [], ◌↔◌, OnOk, OnErr, IfOk, IfErr, IsTrue, is_some, slice_get};
 ghost use Rattle.std.specs.Option.{option_copied};
 ghost use Rattle.std.specs.FinMap as finite;
 ghost use Rattle.doc_items.specs.Balance.{Balanced};
@@ -93,6 +93,17 @@ impl Documents {
             left -= 1;
         }
         None
+    }
+
+    /// The names in byte order. The error is want of memory.
+    pub fn names(&self, alloc: Global) -> Result<Vec<&DocumentName>, Memory>
+        ensures { IfOk result (λ list. map (λ name. name.now) list.items ≡ finite.keys self.entry.now) }
+    {
+        let mut list = Vec::new(alloc);
+        for name in self.map.keys() {
+            list.push(name)?;
+        }
+        Ok(list)
     }
 
     /// Equal documents.

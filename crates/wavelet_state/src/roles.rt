@@ -71,6 +71,17 @@ impl Roles {
         None
     }
 
+    /// The addresses in byte order. The error is want of memory.
+    pub fn addresses(&self, alloc: Global) -> Result<Vec<&Address>, Memory>
+        ensures { IfOk result (λ list. map (λ a. a.now) list.items ≡ finite.keys self.entry.now) }
+    {
+        let mut list = Vec::new(alloc);
+        for address in self.map.keys() {
+            list.push(address)?;
+        }
+        Ok(list)
+    }
+
     /// Equal roles.
     pub fn copy(&self, alloc: Global) -> Result<Roles, Memory>
         ensures { IfOk result (λ r. r ≡ self.now) }

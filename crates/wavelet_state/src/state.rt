@@ -1,7 +1,8 @@
 // The state of a wavelet.
-ghost use Rattle.std.specs.Prelude.{◌≡◌, ◌↔◌, ◌≤◌, IsTrue, IsSome, is_some, Some, IfSome, IfOk, IfErr, OnOk, OnErr, slice_get, length};
+ghost use Rattle.std.specs.Prelude.{◌≡◌, ◌↔◌, ◌≤◌, IsTrue, IsSome, is_some, Some, IfSome, IfOk, IfErr, OnOk, OnErr, slice_get, length, map};
 ghost use Rattle.std.specs.Option.{option_copied};
 ghost use Rattle.std.specs.FinMap as finite;
+ghost use Rattle.std.specs.List.{All};
 ghost use Rattle.doc_items.specs.Balance.{Balanced};
 ghost use Rattle.wavelet_op.specs.Acts.{meaning, meanings};
 ghost use Rattle.wavelet_op.specs.States.{apply_act, document_of, empty_state, kept, role_of, run};
@@ -79,6 +80,13 @@ impl WaveletState {
         self.draft.roles.at(place as usize)
     }
 
+    /// The participants in byte order, in one walk. The error is want of memory.
+    pub fn participants(&self, alloc: Global) -> Result<Vec<&Address>, Memory>
+        ensures { IfOk result (λ list. map (λ a. a.now) list.items ≡ finite.keys self.entry.now.roles) }
+    {
+        self.draft.roles.addresses(alloc)
+    }
+
     /// A copy of the document; None exactly where it is empty. The error is want of memory.
     pub fn document(&self, alloc: Global, name: &DocumentName) -> Result<Option<Document>, Memory>
         ensures value { IfOk result (λ d. d ≡ kept (document_of self.now name.now)) }
@@ -105,6 +113,14 @@ impl WaveletState {
         ensures some { IfSome result (λ name. IsSome (kept (document_of self.now name.now))) }
     {
         self.draft.documents.at(place as usize)
+    }
+
+    /// The names of the documents that aren't empty, in byte order, in one walk. The error is want of memory.
+    pub fn document_names(&self, alloc: Global) -> Result<Vec<&DocumentName>, Memory>
+        ensures value { IfOk result (λ list. map (λ name. name.now) list.items ≡ finite.keys self.entry.now.documents) }
+        ensures there { All (λ name. IsSome (kept (document_of self.entry.now name))) (finite.keys self.entry.now.documents) }
+    {
+        self.draft.documents.names(alloc)
     }
 
     /// Whether all documents together have at most so many items.

@@ -1,16 +1,15 @@
-use Rattle.std.proofs.Common.{◌≡◌, ◌-◌, map, take, length}
+use Rattle.std.proofs.Common.{◌≡◌, ◌++◌, map, IsSome}
 use Rattle.std.specs.FinMap.{keys}
 use Rattle.std.specs.List.{All}
 use Rattle.serde_json.specs.View.{view}
+use Rattle.wavelet_op.specs.States.{document_of, kept}
 use Rattle.snapshot_json.specs.Back.{IsDocumentBack}
 use Rattle.snapshot_json.specs.Write.{document_data}
 use Rattle.snapshot_json.proofs.writing.document_list.Given as goal
 
 abbrev pub invariant-loop-name : goal.invariant-loop-name
 invariant-loop-name l = record {
-  listed : map view l.list.items ≡ map (document_data l.state) (take (length l.list.items) (keys l.state.documents));
-  back : All (IsDocumentBack l.state) (take (length l.list.items) (keys l.state.documents));
+  listed : map view l.list.items ++ map (λ k. document_data l.state k.now) l.name-iterator ≡ map (document_data l.state) (keys l.state.documents);
+  back : All (IsDocumentBack l.state) (map (λ k. k.now) l.name-iterator) → All (IsDocumentBack l.state) (keys l.state.documents);
+  there : All (λ k. IsSome (kept (document_of l.state k))) (map (λ k. k.now) l.name-iterator);
 }
-
-abbrev pub decreases-loop-name : goal.decreases-loop-name
-decreases-loop-name l = length (keys l.state.documents) - length l.list.items
