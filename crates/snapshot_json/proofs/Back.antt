@@ -1,23 +1,21 @@
 -- What is written of a state is read as the state.
 --     member_back, document_back     one participant, one document
 --     members_back, documents_back   all of them
---     back_next, back_all            a list of which each is read back, item by item
-use Rattle.std.proofs.Common.{Ordering, Less, Equal, Greater, ◌≡◌, ℕ, zero, suc, true, if◌then◌else◌, List, [], ◌∷◌, ◌++◌, map, refl, sym, ap, subst, ◌∙◌, slice_get, take, length, Option, None, Some, Ok, is_some, unwrap_or, option_and_then, append-nil, arith}
+use Rattle.std.proofs.Common.{Ordering, Less, Equal, Greater, ◌≡◌, true, if◌then◌else◌, List, [], ◌∷◌, map, refl, sym, ap, subst, ◌∙◌, Option, None, Some, Ok, is_some, unwrap_or, option_and_then, append-nil}
 use Rattle.std.specs.Cmp.{eq_by_cmp_equiv}
 use Rattle.std.specs.Cmp.Lexicographic.{slice_cmp}
 use Rattle.std.specs.FinMap.{get, insert, empty, entries, keys, get-empty}
 use Rattle.std.specs.List.{All}
 use Rattle.std.specs.Ordering.{nat_cmp, is_lt, is_eq}
 use Rattle.std.proofs.lemmas.Cmp.{nat_list_cmp_total}
-use Rattle.std.proofs.lemmas.List.Elements.{All-nil, All-cons, All-head, All-tail, All-append}
+use Rattle.std.proofs.lemmas.List.Elements.{All-head, All-tail}
 use Rattle.serde_json.specs.Data.{Data}
-use Rattle.serde_json.specs.View.{items_of, view}
-use Rattle.serde_json.specs.declared.value.Value.{Value}
+use Rattle.serde_json.specs.View.{items_of}
 use Rattle.doc_items.specs.Balance.{Balanced}
 use Rattle.doc_items.specs.Maps.{Key, Map, is_next, set_key}
 use Rattle.doc_items.specs.declared.item.Item.{Item}
 use Rattle.doc_items.proofs.Rising.{Follow, goes_before, entries_rise, rising_follow, insert_all, all_inserted}
-use Rattle.doc_op.specs.Actions.{Action, Ins, actions}
+use Rattle.doc_op.specs.Actions.{Ins, actions}
 use Rattle.doc_op.specs.Apply.{apply}
 use Rattle.doc_op.specs.Structure.{Structured}
 use Rattle.doc_op.specs.declared.component.Component.{Component}
@@ -26,8 +24,8 @@ use Rattle.op_json.specs.Back.{IsReadBack}
 use Rattle.op_json.specs.Read.{operation_of}
 use Rattle.op_json.specs.Write.{op_data}
 use Rattle.wave_base.specs.Grammar.{is_address, is_id}
-use Rattle.wavelet_op.specs.Acts.{Adds, Sets, Mutates}
-use Rattle.wavelet_op.specs.States.{State, role_of, role_set, added, on_role, with_document, kept, mutate, apply_act, document_of as items_of_document}
+use Rattle.wavelet_op.specs.Acts.{Sets}
+use Rattle.wavelet_op.specs.States.{State, role_set, added, on_role, with_document, kept, mutate, apply_act, document_of as items_of_document}
 use Rattle.wavelet_op.specs.declared.role.Role.{Role}
 use Rattle.wavelet_op.specs.declared.role.Role.TheVariants.{Full}
 use Rattle.wavelet_op.proofs.Maps.{set_same, set_other, set_twice}
@@ -36,7 +34,6 @@ use Rattle.message_parts.specs.Operations.{role_of as role_read, role_data}
 use Rattle.snapshot_json.specs.Back.{role_at, IsMemberBack, IsDocumentBack, AreMembersBack, AreDocumentsBack}
 use Rattle.snapshot_json.specs.Read.{member_of, document_of, joined, not_empty, opened, states_from}
 use Rattle.snapshot_json.specs.Write.{insertion_of, member_data, document_data}
-use Rattle.snapshot_json.proofs.Listings.{one_more, take_next, take_whole}
 
 -- ---- one
 
@@ -198,15 +195,3 @@ module _ (s : State) where
   documents_back h r =
       documents_from r empty None (entries s.documents) (rising_follow (entries s.documents) (entries_rise s.documents)) (below_none (List Item)) h
       ∙ ap (λ x. Some (whole r x)) (with_entries items s.documents own_items)
-
--- ---- lists
-
-pub back_next : (P : Key → Type 0) (ks : List Key) (vs all : List Value) (n : ℕ) (v : Value) (k : Key) → All P (take (length vs) ks) → n ≡ length vs → Some k ≡ slice_get ks n → P k → all ≡ vs ++ v ∷ []
-    → All P (take (length all) ks)
-back_next P ks vs all n v k h l e p g =
-    let longer : length all ≡ suc (length vs) = ap length g ∙ one_more vs v in
-    subst (λ z. All P z) (sym (ap (λ m. take m ks) longer ∙ take_next ks (length vs) k (e ∙ ap (slice_get ks) l)))
-    (All-append P (take (length vs) ks) (k ∷ []) h (All-cons P k [] p (All-nil P)))
-
-pub back_all : (P : Key → Type 0) (ks : List Key) (vs : List Value) (n : ℕ) → All P (take (length vs) ks) → n ≡ length vs → None ≡ slice_get ks n → All P ks
-back_all P ks vs n h l e = subst (λ z. All P z) (take_whole ks (length vs) (e ∙ ap (slice_get ks) l)) h

@@ -5,7 +5,7 @@
 --     opened s e                 the state with one document more, where the operation applies and the document isn't empty
 --     states_from read step s last ds     the state after a step for each item; the keys rise in byte order, the first behind `last`
 --     state_of d                 the state whose participants and documents stand in these members
-use Rattle.std.specs.Prelude.{ℕ, if◌then◌else◌, List, Option, Some, None, is_some, option_and_then, option_map, codes}
+use Rattle.std.specs.Prelude.{if◌then◌else◌, List, Option, Some, None, is_some, option_and_then, option_map, codes}
 use Rattle.serde_json.specs.Data.{Data, Items, no_items, item}
 use Rattle.serde_json.specs.Find.{as_array}
 use Rattle.doc_items.specs.Maps.{Key, is_next}

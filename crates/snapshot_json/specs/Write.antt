@@ -3,7 +3,7 @@
 --     member_data s a        a participant's address and role
 --     document_data s d      a document's name, and the operation that makes it
 --     members_data s, documents_data s     so of all
-use Rattle.std.specs.Prelude.{ℕ, List, map, unwrap_or, codes}
+use Rattle.std.specs.Prelude.{List, map, unwrap_or, codes}
 use Rattle.std.specs.FinMap.{keys}
 use Rattle.serde_json.specs.Data.{Data, string, object, no_members, member}
 use Rattle.doc_items.specs.Maps.{Key}

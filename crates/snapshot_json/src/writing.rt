@@ -95,7 +95,8 @@ fn member_list(alloc: Global, state: &WaveletState) -> Result<Vec<Value>, Memory
     ensures back { IfOk result (λ _. All (IsMemberBack state.now) (keys state.now.roles)) }
 {
     let mut list = Vec::new(alloc);
-    for address in state.participants(alloc)? {
+    let members = state.participants(alloc)?;
+    for address in members.as_slice() {
         list.push(member_value(alloc, state, address)?)?;
     }
     Ok(list)
@@ -141,7 +142,8 @@ fn document_list(alloc: Global, state: &WaveletState) -> Result<Vec<Value>, Memo
     ensures back { IfOk result (λ _. All (IsDocumentBack state.now) (keys state.now.documents)) }
 {
     let mut list = Vec::new(alloc);
-    for name in state.document_names(alloc)? {
+    let names = state.document_names(alloc)?;
+    for name in names.as_slice() {
         list.push(document_value(alloc, state, name)?)?;
     }
     Ok(list)

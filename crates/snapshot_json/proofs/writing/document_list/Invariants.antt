@@ -1,4 +1,4 @@
-use Rattle.std.proofs.Common.{◌≡◌, ◌++◌, map, IsSome}
+use Rattle.std.proofs.Common.{◌≡◌, ◌++◌, map, drop, IsSome}
 use Rattle.std.specs.FinMap.{keys}
 use Rattle.std.specs.List.{All}
 use Rattle.serde_json.specs.View.{view}
@@ -9,7 +9,7 @@ use Rattle.snapshot_json.proofs.writing.document_list.Given as goal
 
 abbrev pub invariant-loop-name : goal.invariant-loop-name
 invariant-loop-name l = record {
-  listed : map view l.list.items ++ map (λ k. document_data l.state k.now) l.name-iterator ≡ map (document_data l.state) (keys l.state.documents);
-  back : All (IsDocumentBack l.state) (map (λ k. k.now) l.name-iterator) → All (IsDocumentBack l.state) (keys l.state.documents);
-  there : All (λ k. IsSome (kept (document_of l.state k))) (map (λ k. k.now) l.name-iterator);
+  listed : map view l.list.items ++ map (document_data l.state) (map (λ k. k.now) (drop l.name-index l.name-items)) ≡ map (document_data l.state) (keys l.state.documents);
+  back : All (IsDocumentBack l.state) (map (λ k. k.now) (drop l.name-index l.name-items)) → All (IsDocumentBack l.state) (keys l.state.documents);
+  there : All (λ k. IsSome (kept (document_of l.state k))) (map (λ k. k.now) (drop l.name-index l.name-items));
 }
