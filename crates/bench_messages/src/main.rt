@@ -16,24 +16,43 @@ use work::{Inputs, Work};
 const ALL: [&str; 2] = ["read", "write"];
 
 fn main(rt: HostRuntime) -> io::Result<()> {
-    let alloc = rt.alloc();
-    let mut bytes = Vec::new(alloc);
-    rt.reader().read_to_end(&mut bytes)?;
-    let inputs = Inputs::read(alloc, bytes).ok_or(io::ErrorKind::InvalidData)?;
+    let bytes = input(&rt)?;
     let mut words = env::args(&rt)?.skip(1);
     match (words.next(), words.next()) {
         (Some(word), Some(repeats)) => {
             let repeats = repeats.parse::<u32>().unwrap_or(1);
-            timed(&rt, &inputs, &word, repeats)
+            many(&rt, bytes, &word, repeats)
         }
-        _ => {
-            for word in ALL {
-                let size = repeat(alloc, &inputs, word, 1)?;
-                println!(rt; "{word}: {size}")?;
-            }
-            Ok(())
-        }
+        _ => once(&rt, bytes),
     }
+}
+
+fn input(rt: &HostRuntime) -> io::Result<Vec<u8>> {
+    let mut bytes = Vec::new(rt.alloc());
+    rt.reader().read_to_end(&mut bytes)?;
+    Ok(bytes)
+}
+
+fn made(alloc: Global, bytes: Vec<u8>) -> io::Result<Inputs> {
+    Ok(Inputs::read(alloc, bytes).ok_or(io::ErrorKind::InvalidData)?)
+}
+
+fn once(rt: &HostRuntime, bytes: Vec<u8>) -> io::Result<()> {
+    let inputs = made(rt.alloc(), bytes)?;
+    told(rt, &inputs)
+}
+
+fn told(rt: &HostRuntime, inputs: &Inputs) -> io::Result<()> {
+    for word in ALL {
+        let size = repeat(rt.alloc(), inputs, word, 1)?;
+        println!(rt; "{word}: {size}")?;
+    }
+    Ok(())
+}
+
+fn many(rt: &HostRuntime, bytes: Vec<u8>, word: &str, repeats: u32) -> io::Result<()> {
+    let inputs = made(rt.alloc(), bytes)?;
+    timed(rt, &inputs, word, repeats)
 }
 
 fn timed(rt: &HostRuntime, inputs: &Inputs, word: &str, repeats: u32) -> io::Result<()> {
