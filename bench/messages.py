@@ -1,5 +1,5 @@
 #!/usr/bin/env python3
-"""Prints the microseconds of processor time to read and to write a submit of one letter and one of 1,000 operations.
+"""Prints the microseconds of processor time to read and to write a submit of one letter and ones of 100 and of 1,000 operations.
 
     python3 bench/messages.py [PROGRAM]
 
@@ -9,7 +9,7 @@ PROGRAM is crates/bench_messages/out/bench_messages unless it is given (`rt run`
 import subprocess
 import sys
 
-REPEATS = [(1, 20_000), (1_000, 100)]
+REPEATS = [(1, 20_000), (100, 1_000), (1_000, 100)]
 
 
 def submit(operations):
