@@ -80,13 +80,31 @@ fn is_whole(alloc: Global, text: &str) -> Result<bool, Memory> {
     Ok(is_none(alloc, more.as_str()))
 }
 
+// Whether each member is needed.
+fn are_needed(alloc: Global, text: &str) -> Result<bool, Fail> {
+    for name in names(alloc, text)?.as_slice() {
+        if !is_needed(alloc, text, name.as_str())? {
+            return Ok(false);
+        }
+    }
+    Ok(true)
+}
+
+// Whether no member has another value than its own, and none may be added.
+fn are_bound(alloc: Global, text: &str) -> Result<bool, Fail> {
+    for name in names(alloc, text)?.as_slice() {
+        if !is_bound(alloc, text, name.as_str())? {
+            return Ok(false);
+        }
+    }
+    Ok(is_whole(alloc, text)?)
+}
+
 #[test]
 fn each_member_is_needed(rt: HostRuntime) -> Result<(), Fail> {
     let alloc = rt.alloc();
     for (what, text) in MESSAGES {
-        for name in names(alloc, text)?.as_slice() {
-            assert!(rt; is_needed(alloc, text, name.as_str())?, "{what}: {name}");
-        }
+        assert!(rt; are_needed(alloc, text)?, "{what}");
     }
     Ok(())
 }
@@ -95,10 +113,7 @@ fn each_member_is_needed(rt: HostRuntime) -> Result<(), Fail> {
 fn no_other_value_is_read(rt: HostRuntime) -> Result<(), Fail> {
     let alloc = rt.alloc();
     for (what, text) in MESSAGES {
-        for name in names(alloc, text)?.as_slice() {
-            assert!(rt; is_bound(alloc, text, name.as_str())?, "{what}: {name}");
-        }
-        assert!(rt; is_whole(alloc, text)?, "{what}");
+        assert!(rt; are_bound(alloc, text)?, "{what}");
     }
     Ok(())
 }

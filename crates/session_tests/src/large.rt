@@ -38,14 +38,18 @@ fn history(alloc: Global, more: bool) -> Result<History, Fail> {
     Ok(history)
 }
 
+// What an `open` of that wavelet is answered.
+fn answer(alloc: Global, more: bool) -> Result<String, Fail> {
+    let copies = alone(alloc, history(alloc, more)?)?;
+    let mut session = user(alloc)?;
+    attach(alloc, &mut session, &copies, None)
+}
+
 #[test]
 fn a_snapshot_of_one_byte_more_is_too_large(rt: HostRuntime) -> Result<(), Fail> {
     let alloc = rt.alloc();
     for (more, wanted) in [(false, "snapshot 5 of 7;"), (true, "unopened large;")] {
-        let mut session = user(alloc)?;
-        let copies = alone(alloc, history(alloc, more)?)?;
-        let found = attach(alloc, &mut session, &copies, None)?;
-        assert!(rt; found.as_str() == wanted);
+        assert!(rt; answer(alloc, more)?.as_str() == wanted);
     }
     Ok(())
 }

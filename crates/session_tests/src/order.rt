@@ -47,15 +47,20 @@ fn open(
     Ok(())
 }
 
+// What is sent once the first wavelet is open, the second, and the first again, further on.
+fn sent(alloc: Global, session: &mut Session, copies: &MemoryCopies) -> Result<String, Fail> {
+    open(alloc, session, copies, NAME, 0)?;
+    open(alloc, session, copies, SECOND, 0)?;
+    open(alloc, session, copies, NAME, 2)?;
+    deliver(alloc, session, copies)
+}
+
 #[test]
 fn a_wavelet_opened_again_keeps_its_place(rt: HostRuntime) -> Result<(), Fail> {
     let alloc = rt.alloc();
     let copies = both(alloc)?;
     let mut session = user(alloc)?;
-    open(alloc, &mut session, &copies, NAME, 0)?;
-    open(alloc, &mut session, &copies, SECOND, 0)?;
-    open(alloc, &mut session, &copies, NAME, 2)?;
-    let sent = deliver(alloc, &mut session, &copies)?;
+    let sent = sent(alloc, &mut session, &copies)?;
     assert!(rt; sent.as_str() == "update 2;update 0;update 1;");
     Ok(())
 }

@@ -293,19 +293,6 @@ fn reply(
     }
 }
 
-// What both are sent.
-fn sent(
-    alloc: Global,
-    out: &mut Vec<u8>,
-    first: &mut Session,
-    second: &mut Session,
-    history: &History,
-) -> Result<(), Fail> {
-    let copies = copied(alloc, history)?;
-    hear(alloc, out, "1 ", first, &copies)?;
-    hear(alloc, out, "2 ", second, &copies)
-}
-
 // What the speaker is replied.
 fn replied(
     alloc: Global,
@@ -319,35 +306,66 @@ fn replied(
     say(alloc, out, who, &message)
 }
 
+// The sessions of both, and the wavelet's history.
+#[derive(Drop)]
+struct Talk {
+    first: Session,
+    second: Session,
+    history: History,
+}
+
+impl Talk {
+    fn new(alloc: Global) -> Result<Talk, Fail> {
+        Ok(Talk {
+            first: Session::new(alloc, None, Vec::new(alloc)),
+            second: Session::new(alloc, None, Vec::new(alloc)),
+            history: empty(alloc, NAME)?,
+        })
+    }
+
+    // What the speaker is replied.
+    fn answer(
+        &mut self,
+        alloc: Global,
+        out: &mut Vec<u8>,
+        who: usize,
+        row: (&str, &str),
+    ) -> Result<(), Fail> {
+        if who == 1 {
+            replied(alloc, out, &mut self.first, &mut self.history, "1 ", row)
+        } else {
+            replied(alloc, out, &mut self.second, &mut self.history, "2 ", row)
+        }
+    }
+
+    // What both are sent.
+    fn deliver(&mut self, alloc: Global, out: &mut Vec<u8>) -> Result<(), Fail> {
+        let copies = copied(alloc, &self.history)?;
+        hear(alloc, out, "1 ", &mut self.first, &copies)?;
+        hear(alloc, out, "2 ", &mut self.second, &copies)
+    }
+
+    // Whether these lines are told after one message.
+    fn is_told(
+        &mut self,
+        alloc: Global,
+        who: usize,
+        row: (&str, &str),
+        wanted: &str,
+    ) -> Result<bool, Fail> {
+        let mut out = Vec::new(alloc);
+        self.answer(alloc, &mut out, who, row)?;
+        self.deliver(alloc, &mut out)?;
+        Ok(out.as_slice() == wanted.as_bytes())
+    }
+}
+
 #[test]
 fn two_users_are_told_what_they_may_see(rt: HostRuntime) -> Result<(), Fail> {
     let alloc = rt.alloc();
-    let mut first = Session::new(alloc, None, Vec::new(alloc));
-    let mut second = Session::new(alloc, None, Vec::new(alloc));
-    let mut history = empty(alloc, NAME)?;
+    let mut talk = Talk::new(alloc)?;
     for (who, text, what, wanted) in TALK {
-        let mut out = Vec::new(alloc);
-        if who == 1 {
-            replied(
-                alloc,
-                &mut out,
-                &mut first,
-                &mut history,
-                "1 ",
-                (text, what),
-            )?;
-        } else {
-            replied(
-                alloc,
-                &mut out,
-                &mut second,
-                &mut history,
-                "2 ",
-                (text, what),
-            )?;
-        }
-        sent(alloc, &mut out, &mut first, &mut second, &history)?;
-        assert!(rt; out.as_slice() == wanted.as_bytes(), "{text}");
+        assert!(rt; talk.is_told(alloc, who, (text, what), wanted)?, "{text}");
     }
     Ok(())
 }
