@@ -240,41 +240,70 @@ fn peer(alloc: Global) -> Result<Session, Fail> {
     Ok(session)
 }
 
+// The first act after which another answer comes.
+fn first_wrong(
+    alloc: Global,
+    session: &mut Session,
+    rows: &[(usize, &'static str, &str)],
+) -> Result<Option<&'static str>, Fail> {
+    for (count, act, wanted) in rows {
+        if !is_answered(alloc, session, *count, act, wanted)? {
+            return Ok(Some(act));
+        }
+    }
+    Ok(None)
+}
+
+fn wrong_for_user(alloc: Global) -> Result<Option<&'static str>, Fail> {
+    let mut session = user(alloc)?;
+    first_wrong(alloc, &mut session, &USER)
+}
+
+fn wrong_for_peer(alloc: Global) -> Result<Option<&'static str>, Fail> {
+    let mut session = peer(alloc)?;
+    first_wrong(alloc, &mut session, &PEER)
+}
+
+// The first of these submissions that isn't told to wait.
+fn first_not_queued(
+    alloc: Global,
+    session: &mut Session,
+    numbers: &[u64],
+) -> Result<Option<u64>, Fail> {
+    for number in numbers {
+        if !is_queued(alloc, session, *number)? {
+            return Ok(Some(*number));
+        }
+    }
+    Ok(None)
+}
+
+// Whether three submissions wait, and whether their two outcomes are told, and told once.
+fn outcomes_told(alloc: Global, session: &mut Session) -> Result<(bool, bool, bool), Fail> {
+    let waits = first_not_queued(alloc, session, &[2, 9, 5])?.is_none();
+    let (told, again) = outcomes(alloc, session)?;
+    Ok((waits, told, again))
+}
+
+fn outcomes_of_user(alloc: Global) -> Result<(bool, bool, bool), Fail> {
+    let mut session = user(alloc)?;
+    outcomes_told(alloc, &mut session)
+}
+
 #[test]
 fn a_user_is_sent_what_it_may_see(rt: HostRuntime) -> Result<(), Fail> {
-    let alloc = rt.alloc();
-    let mut session = user(alloc)?;
-    for (count, what, wanted) in USER {
-        assert!(rt;
-            is_answered(alloc, &mut session, count, what, wanted)?,
-            "{count} {what}"
-        );
-    }
+    assert_eq!(rt; wrong_for_user(rt.alloc())?, None);
     Ok(())
 }
 
 #[test]
 fn a_peer_is_sent_what_its_users_may_see(rt: HostRuntime) -> Result<(), Fail> {
-    let alloc = rt.alloc();
-    let mut session = peer(alloc)?;
-    for (count, what, wanted) in PEER {
-        assert!(rt;
-            is_answered(alloc, &mut session, count, what, wanted)?,
-            "{count} {what}"
-        );
-    }
+    assert_eq!(rt; wrong_for_peer(rt.alloc())?, None);
     Ok(())
 }
 
 #[test]
 fn an_outcome_is_told_once(rt: HostRuntime) -> Result<(), Fail> {
-    let alloc = rt.alloc();
-    let mut session = user(alloc)?;
-    for number in [2u64, 9, 5] {
-        assert!(rt; is_queued(alloc, &mut session, number)?, "{number}");
-    }
-    let (told, again) = outcomes(alloc, &mut session)?;
-    assert!(rt; told);
-    assert!(rt; again);
+    assert_eq!(rt; outcomes_of_user(rt.alloc())?, (true, true, true));
     Ok(())
 }

@@ -3,6 +3,7 @@ use crate::deliveries::{attach, user};
 use crate::held::{NAME, alone, empty, push};
 use delta_history::History;
 use doc_items::Memory;
+use memory_copies::MemoryCopies;
 use std::alloc::Global;
 use std::test::Fail;
 
@@ -38,11 +39,15 @@ fn history(alloc: Global, more: bool) -> Result<History, Fail> {
     Ok(history)
 }
 
+fn answer_over(alloc: Global, copies: &MemoryCopies) -> Result<String, Fail> {
+    let mut session = user(alloc)?;
+    attach(alloc, &mut session, copies, None)
+}
+
 // What an `open` of that wavelet is answered.
 fn answer(alloc: Global, more: bool) -> Result<String, Fail> {
     let copies = alone(alloc, history(alloc, more)?)?;
-    let mut session = user(alloc)?;
-    attach(alloc, &mut session, &copies, None)
+    answer_over(alloc, &copies)
 }
 
 #[test]

@@ -55,12 +55,19 @@ fn sent(alloc: Global, session: &mut Session, copies: &MemoryCopies) -> Result<S
     deliver(alloc, session, copies)
 }
 
+fn sent_to_user(alloc: Global, copies: &MemoryCopies) -> Result<String, Fail> {
+    let mut session = user(alloc)?;
+    sent(alloc, &mut session, copies)
+}
+
+fn sent_of_both(alloc: Global) -> Result<String, Fail> {
+    let copies = both(alloc)?;
+    sent_to_user(alloc, &copies)
+}
+
 #[test]
 fn a_wavelet_opened_again_keeps_its_place(rt: HostRuntime) -> Result<(), Fail> {
-    let alloc = rt.alloc();
-    let copies = both(alloc)?;
-    let mut session = user(alloc)?;
-    let sent = sent(alloc, &mut session, &copies)?;
+    let sent = sent_of_both(rt.alloc())?;
     assert!(rt; sent.as_str() == "update 2;update 0;update 1;");
     Ok(())
 }

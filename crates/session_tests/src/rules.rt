@@ -287,45 +287,71 @@ fn submits(
     asks(alloc, session, text.as_str(), wanted)
 }
 
+// The first message that asks for something else.
+fn first_wrong(
+    alloc: Global,
+    session: &mut Session,
+    rows: &[(&'static str, &str)],
+) -> Result<Option<&'static str>, Fail> {
+    for (bytes, wanted) in rows {
+        if !asks(alloc, session, bytes, wanted)? {
+            return Ok(Some(bytes));
+        }
+    }
+    Ok(None)
+}
+
+fn wrong_at_pipe(alloc: Global) -> Result<Option<&'static str>, Fail> {
+    let mut session = Session::new(alloc, None, Vec::new(alloc));
+    first_wrong(alloc, &mut session, &PIPE)
+}
+
+fn wrong_at_server(
+    alloc: Global,
+    rows: &[(&'static str, &str)],
+) -> Result<Option<&'static str>, Fail> {
+    let mut session = server(alloc)?;
+    first_wrong(alloc, &mut session, rows)
+}
+
+// The first numbers of operations and bytes at which a submission asks for something else.
+fn first_wrong_length(
+    alloc: Global,
+    session: &mut Session,
+) -> Result<Option<(usize, usize)>, Fail> {
+    for (operations, length, wanted) in LENGTHS {
+        if !submits(alloc, session, operations, length, wanted)? {
+            return Ok(Some((operations, length)));
+        }
+    }
+    Ok(None)
+}
+
+fn wrong_length(alloc: Global) -> Result<Option<(usize, usize)>, Fail> {
+    let mut session = user(alloc)?;
+    first_wrong_length(alloc, &mut session)
+}
+
 #[test]
 fn a_pipe_takes_clients_alone(rt: HostRuntime) -> Result<(), Fail> {
-    let alloc = rt.alloc();
-    let mut session = Session::new(alloc, None, Vec::new(alloc));
-    for (bytes, wanted) in PIPE {
-        assert!(rt; asks(alloc, &mut session, bytes, wanted)?, "{bytes}");
-    }
+    assert_eq!(rt; wrong_at_pipe(rt.alloc())?, None);
     Ok(())
 }
 
 #[test]
 fn a_server_takes_users_of_its_domain(rt: HostRuntime) -> Result<(), Fail> {
-    let alloc = rt.alloc();
-    let mut session = server(alloc)?;
-    for (bytes, wanted) in SERVER {
-        assert!(rt; asks(alloc, &mut session, bytes, wanted)?, "{bytes}");
-    }
+    assert_eq!(rt; wrong_at_server(rt.alloc(), &SERVER)?, None);
     Ok(())
 }
 
 #[test]
 fn a_server_takes_its_peers(rt: HostRuntime) -> Result<(), Fail> {
-    let alloc = rt.alloc();
-    let mut session = server(alloc)?;
-    for (bytes, wanted) in PEER {
-        assert!(rt; asks(alloc, &mut session, bytes, wanted)?, "{bytes}");
-    }
+    assert_eq!(rt; wrong_at_server(rt.alloc(), &PEER)?, None);
     Ok(())
 }
 
 #[test]
 fn a_session_has_its_limits(rt: HostRuntime) -> Result<(), Fail> {
-    let alloc = rt.alloc();
-    let mut session = user(alloc)?;
-    for (operations, length, wanted) in LENGTHS {
-        assert!(rt;
-            submits(alloc, &mut session, operations, length, wanted)?,
-            "{operations} {length}"
-        );
-    }
+    assert_eq!(rt; wrong_length(rt.alloc())?, None);
     Ok(())
 }
