@@ -1,6 +1,7 @@
 use doc_items::{Attributes, Content, Document, Item, Notes, Text};
 use doc_rope::{Reader, Rope};
 use std::alloc::{AllocError, Global};
+use std::process::Abort;
 use std::test::Fail;
 
 fn letter(number: u32) -> char {
@@ -111,48 +112,90 @@ fn is_list(alloc: Global, rope: &Rope, plain: &[char]) -> Result<bool, AllocErro
     Ok(are_letters(list.as_slice(), plain) && rope.item(past).is_none() && rope.run(past).is_none())
 }
 
-#[test]
-fn letters_put_in_front_come_in_reverse(rt: HostRuntime) -> Result<(), Fail> {
-    let alloc = rt.alloc();
-    let mut rope = Rope::new(alloc);
+// 1,025 letters, each put in front of the others.
+fn put_in_front(alloc: Global, rope: &mut Rope) -> Result<(), AllocError> {
     for index in 0..1025u32 {
-        splice(&mut rope, 0, 0, letters(alloc, 19_968 + index, 1)?)?;
+        splice(rope, 0, 0, letters(alloc, 19_968 + index, 1)?)?;
     }
-    let mut plain = plain_letters(alloc, 19_968, 1025)?;
-    plain.reverse();
-    assert!(rt; is_list(alloc, &rope, plain.as_slice())?);
-    splice(&mut rope, 511, 2, Document::new(alloc))?;
-    assert_eq!(rt; rope.len(), 1023);
-    assert!(rt; holds(&rope, 510, letter(19_968 + 514)));
-    assert!(rt; holds(&rope, 511, letter(19_968 + 511)));
     Ok(())
 }
 
+fn reversed(alloc: Global) -> Result<Vec<char>, AllocError> {
+    let mut plain = plain_letters(alloc, 19_968, 1025)?;
+    plain.reverse();
+    Ok(plain)
+}
+
+fn is_reversed(alloc: Global, rope: &Rope) -> Result<bool, AllocError> {
+    let plain = reversed(alloc)?;
+    is_list(alloc, rope, plain.as_slice())
+}
+
+fn take_two_out(rt: &impl Abort, alloc: Global, rope: &mut Rope) -> Result<(), AllocError> {
+    splice(rope, 511, 2, Document::new(alloc))?;
+    assert_eq!(rt; rope.len(), 1023);
+    assert!(rt; holds(rope, 510, letter(19_968 + 514)));
+    assert!(rt; holds(rope, 511, letter(19_968 + 511)));
+    Ok(())
+}
+
+fn letters_in_reverse(rt: &impl Abort, alloc: Global, rope: &mut Rope) -> Result<(), AllocError> {
+    put_in_front(alloc, rope)?;
+    assert!(rt; is_reversed(alloc, rope)?);
+    take_two_out(rt, alloc, rope)
+}
+
 #[test]
-fn splices_are_those_of_a_plain_list(rt: HostRuntime) -> Result<(), Fail> {
-    let alloc = rt.alloc();
-    let mut rope = Rope::from_list(alloc, letters(alloc, 48, 1537)?)?;
+fn letters_put_in_front_come_in_reverse(rt: HostRuntime) -> Result<(), Fail> {
+    let mut rope = Rope::new(rt.alloc());
+    letters_in_reverse(&rt, rt.alloc(), &mut rope)?;
+    Ok(())
+}
+
+// A stretch of a list of this length, and how many letters come in its place, by a number drawn.
+fn stretch(random: u32, len: usize) -> (usize, usize, u32) {
+    let from = (random >> 8) as usize % (len.min(1_000_000) + 1);
+    let left = len.saturating_sub(from).min(1_000_000);
+    let count = (random >> 5) as usize % 700 % (left + 1);
+    (from, count, (random >> 11) % 650)
+}
+
+fn splice_both(
+    alloc: Global,
+    rope: &mut Rope,
+    plain: &[char],
+    random: u32,
+) -> Result<Vec<char>, AllocError> {
+    let (from, count, more) = stretch(random, plain.len());
+    let items = letters(alloc, 19_968, more)?;
+    splice(rope, from as u64, count as u64, items)?;
+    let items = plain_letters(alloc, 19_968, more)?;
+    splice_plain(alloc, plain, from, count, items.as_slice())
+}
+
+fn splice_often(rt: &impl Abort, alloc: Global, rope: &mut Rope) -> Result<(), AllocError> {
     let mut plain = plain_letters(alloc, 48, 1537)?;
     let mut random: u32 = 1;
     for _ in 0..40 {
         random = random.wrapping_mul(1_664_525).wrapping_add(1_013_904_223);
-        let from = (random >> 8) as usize % (plain.len() + 1);
-        let count = (random >> 5) as usize % 700 % (plain.len() - from + 1);
-        let more = (random >> 11) % 650;
-        splice(
-            &mut rope,
-            from as u64,
-            count as u64,
-            letters(alloc, 19_968, more)?,
-        )?;
-        let items = plain_letters(alloc, 19_968, more)?;
-        plain = splice_plain(alloc, plain.as_slice(), from, count, items.as_slice())?;
-        assert!(rt; is_list(alloc, &rope, plain.as_slice())?);
+        plain = splice_both(alloc, rope, plain.as_slice(), random)?;
+        assert!(rt; is_list(alloc, rope, plain.as_slice())?);
     }
     Ok(())
 }
 
-// `<` is a start and `>` an end.
+fn of_letters(alloc: Global) -> Result<Rope, AllocError> {
+    let letters = letters(alloc, 48, 1537)?;
+    Rope::from_list(alloc, letters)
+}
+
+#[test]
+fn splices_are_those_of_a_plain_list(rt: HostRuntime) -> Result<(), Fail> {
+    let mut rope = of_letters(rt.alloc())?;
+    splice_often(&rt, rt.alloc(), &mut rope)?;
+    Ok(())
+}
+
 fn elements(alloc: Global, contents: &str) -> Result<Document, AllocError> {
     let mut items = Vec::new(alloc);
     for c in contents.chars() {
@@ -175,6 +218,11 @@ fn elements(alloc: Global, contents: &str) -> Result<Document, AllocError> {
     Ok(Document::from_vec(items))
 }
 
+fn nests(alloc: Global, contents: &str) -> Result<bool, AllocError> {
+    let items = elements(alloc, contents)?;
+    Ok(Rope::from_list(alloc, items)?.is_balanced())
+}
+
 #[test]
 fn balance_is_kept(rt: HostRuntime) -> Result<(), Fail> {
     let alloc = rt.alloc();
@@ -187,19 +235,32 @@ fn balance_is_kept(rt: HostRuntime) -> Result<(), Fail> {
         ("<>>", false),
     ];
     for (contents, want) in rows {
-        let rope = Rope::from_list(alloc, elements(alloc, contents)?)?;
-        assert_eq!(rt; rope.is_balanced(), want, "{contents}");
+        assert_eq!(rt; nests(alloc, contents)?, want, "{contents}");
     }
-    // The element's start and end stand in different pieces.
-    let mut rope = Rope::from_list(alloc, letters(alloc, 48, 1537)?)?;
-    splice(&mut rope, 0, 0, elements(alloc, "<")?)?;
+    Ok(())
+}
+
+fn put(alloc: Global, rope: &mut Rope, from: u64, contents: &str) -> Result<(), AllocError> {
+    splice(rope, from, 0, elements(alloc, contents)?)
+}
+
+// The element's start and end stand in different pieces.
+fn nest_pieces(rt: &impl Abort, alloc: Global, rope: &mut Rope) -> Result<(), AllocError> {
+    put(alloc, rope, 0, "<")?;
     assert!(rt; !rope.is_balanced());
-    splice(&mut rope, 1538, 0, elements(alloc, ">")?)?;
+    put(alloc, rope, 1538, ">")?;
     assert!(rt; rope.is_balanced());
-    splice(&mut rope, 700, 1, elements(alloc, "><")?)?;
+    splice(rope, 700, 1, elements(alloc, "><")?)?;
     assert!(rt; rope.is_balanced());
-    splice(&mut rope, 0, 1, Document::new(alloc))?;
+    splice(rope, 0, 1, Document::new(alloc))?;
     assert!(rt; !rope.copy(alloc)?.is_balanced());
+    Ok(())
+}
+
+#[test]
+fn balance_is_kept_across_pieces(rt: HostRuntime) -> Result<(), Fail> {
+    let mut rope = of_letters(rt.alloc())?;
+    nest_pieces(&rt, rt.alloc(), &mut rope)?;
     Ok(())
 }
 
@@ -210,10 +271,7 @@ fn first_is(reader: &Reader<'_>, letter: char) -> bool {
     }
 }
 
-#[test]
-fn a_reader_passes_over_pieces(rt: HostRuntime) -> Result<(), Fail> {
-    let alloc = rt.alloc();
-    let rope = Rope::from_list(alloc, letters(alloc, 19_968, 1537)?)?;
+fn read_over(rt: &impl Abort, rope: &Rope) {
     let mut reader = rope.reader();
     let mut place = 0u32;
     for count in [1u32, 511, 0, 512, 500, 12, 1] {
@@ -225,5 +283,12 @@ fn a_reader_passes_over_pieces(rt: HostRuntime) -> Result<(), Fail> {
     }
     assert_eq!(rt; reader.len(), 0);
     assert!(rt; reader.first().is_none());
+}
+
+#[test]
+fn a_reader_passes_over_pieces(rt: HostRuntime) -> Result<(), Fail> {
+    let letters = letters(rt.alloc(), 19_968, 1537)?;
+    let rope = Rope::from_list(rt.alloc(), letters)?;
+    read_over(&rt, &rope);
     Ok(())
 }

@@ -1,6 +1,7 @@
 // A history of a few deltas. The hash behind the first one is what `sha256sum` gives for its 87 bytes behind the zero hash.
 use delta_history::{History, HistoryFault};
 use std::alloc::Global;
+use std::process::Abort;
 use std::test::Fail;
 use wave_base::{HashedVersion, WaveletName};
 use wavelet_op::AppliedDelta;
@@ -36,23 +37,35 @@ fn is_same(at: HashedVersion, other: HashedVersion) -> bool {
     at == other
 }
 
-#[test]
-fn versions_and_ids_are_found(rt: HostRuntime) -> Result<(), Fail> {
-    let alloc = rt.alloc();
-    let history = after_first(alloc)?;
+fn find_versions(rt: &impl Abort, alloc: Global, history: &History) -> Result<(), Fail> {
     assert!(rt; is_same(history.head(), BEHIND_FIRST));
     assert!(rt; history.inserted() == 2);
     assert!(rt; history.hash_at(1).is_none());
     assert!(rt; history.hash_at(2) == Some(BEHIND_FIRST.hash));
     assert!(rt; history.state_at(alloc, 1)?.is_none());
-    let Some(kept) = history.kept(&id(alloc, "alice@a.com", 1)?) else {
-        assert!(rt; false, "the id is kept");
-        return Ok(());
-    };
-    assert!(rt; kept.at == 0 && is_same(kept.to, BEHIND_FIRST));
+    Ok(())
+}
+
+fn find_ids(rt: &impl Abort, alloc: Global, history: &History) -> Result<(), Fail> {
+    match history.kept(&id(alloc, "alice@a.com", 1)?) {
+        Some(kept) => assert!(rt; kept.at == 0 && is_same(kept.to, BEHIND_FIRST)),
+        None => assert!(rt; false, "the id is kept"),
+    }
     assert!(rt; history.kept(&id(alloc, "alice@a.com", 2)?).is_none());
     assert!(rt; history.kept(&id(alloc, "bob@a.com", 1)?).is_none());
     Ok(())
+}
+
+#[test]
+fn versions_are_found(rt: HostRuntime) -> Result<(), Fail> {
+    let history = after_first(rt.alloc())?;
+    find_versions(&rt, rt.alloc(), &history)
+}
+
+#[test]
+fn ids_are_found(rt: HostRuntime) -> Result<(), Fail> {
+    let history = after_first(rt.alloc())?;
+    find_ids(&rt, rt.alloc(), &history)
 }
 
 fn is_not_next(outcome: Result<(), HistoryFault>) -> bool {
@@ -155,15 +168,23 @@ fn leads_to(
     })
 }
 
+// The first delta that isn't taken as wanted.
+fn first_wrong(alloc: Global, history: &mut History) -> Result<Option<usize>, Fail> {
+    for (number, row) in ROWS.iter().enumerate() {
+        if !leads_to(alloc, history, number as u64, row)? {
+            return Ok(Some(number));
+        }
+    }
+    Ok(None)
+}
+
+fn wrong_in_turn(alloc: Global) -> Result<Option<usize>, Fail> {
+    let mut history = empty(alloc)?;
+    first_wrong(alloc, &mut history)
+}
+
 #[test]
 fn deltas_in_turn(rt: HostRuntime) -> Result<(), Fail> {
-    let alloc = rt.alloc();
-    let mut history = empty(alloc)?;
-    for (number, row) in ROWS.iter().enumerate() {
-        assert!(rt;
-            leads_to(alloc, &mut history, number as u64, row)?,
-            "at {number}"
-        );
-    }
+    assert_eq!(rt; wrong_in_turn(rt.alloc())?, None);
     Ok(())
 }

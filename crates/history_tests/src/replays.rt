@@ -85,16 +85,37 @@ impl Replay {
     }
 }
 
+fn edit_document(
+    alloc: Global,
+    told: &mut Replay,
+    document: &str,
+    row: &(&str, &str, &str),
+) -> Result<(), Fail> {
+    let (begin, second, third) = *row;
+    told.edit(alloc, document, begin)?;
+    told.edit(alloc, document, second)?;
+    told.edit(alloc, document, third)
+}
+
+// The documents whose names begin with a letter.
+fn edit_all(alloc: Global, told: &mut Replay, letter: &str) -> Result<(), Fail> {
+    for (number, row) in EDITS.iter().enumerate() {
+        let document = format!(in alloc; "{letter}+{number}")?;
+        edit_document(alloc, told, document.as_str(), row)?;
+    }
+    Ok(())
+}
+
+fn edit_letters(alloc: Global, told: &mut Replay) -> Result<(), Fail> {
+    for letter in ["a", "b", "c"] {
+        edit_all(alloc, told, letter)?;
+    }
+    Ok(())
+}
+
 fn told(alloc: Global) -> Result<Replay, Fail> {
     let mut told = Replay::new(alloc)?;
-    for letter in ["a", "b", "c"] {
-        for (number, (begin, second, third)) in EDITS.iter().enumerate() {
-            let document = format!(in alloc; "{letter}+{number}")?;
-            told.edit(alloc, document.as_str(), begin)?;
-            told.edit(alloc, document.as_str(), second)?;
-            told.edit(alloc, document.as_str(), third)?;
-        }
-    }
+    edit_letters(alloc, &mut told)?;
     Ok(told)
 }
 
@@ -115,17 +136,20 @@ fn is_told(
     Ok(())
 }
 
-#[test]
-fn each_version_has_its_state(rt: HostRuntime) -> Result<(), Fail> {
-    let alloc = rt.alloc();
-    let told = told(alloc)?;
+fn are_told(rt: &impl Abort, alloc: Global, told: &Replay) -> Result<(), Fail> {
     assert!(rt; told.history.deltas().len() == 352);
-    is_told(&rt, alloc, &told, 0, "")?;
+    is_told(rt, alloc, told, 0, "")?;
     let mut version = 0u64;
     for state in told.states.iter() {
         version = version.wrapping_add(1);
-        is_told(&rt, alloc, &told, version, state.as_str())?;
+        is_told(rt, alloc, told, version, state.as_str())?;
     }
     assert!(rt; told.history.state_at(alloc, 353)?.is_none());
     Ok(())
+}
+
+#[test]
+fn each_version_has_its_state(rt: HostRuntime) -> Result<(), Fail> {
+    let told = told(rt.alloc())?;
+    are_told(&rt, rt.alloc(), &told)
 }

@@ -30,6 +30,68 @@ fn after_both(alloc: Global, start: &str, first: &DocOp, second: &DocOp) -> Resu
 }
 
 // The document, the later and the earlier operation, both results, and the document both ways round.
+// Two operations past each other.
+fn past(
+    rt: &impl Abort,
+    alloc: Global,
+    later: &str,
+    earlier: &str,
+) -> Result<Result<Pair, TransformFault>, Fail> {
+    let later = operation(alloc, later)?;
+    let earlier = operation(alloc, earlier)?;
+    Ok(transformed(rt, alloc, &later, &earlier))
+}
+
+fn show_pair(alloc: Global, pair: &Pair) -> Result<(String, String), Fail> {
+    let later = shown(alloc, &pair.later)?;
+    Ok((later, shown(alloc, &pair.earlier)?))
+}
+
+fn shown_past(
+    rt: &impl Abort,
+    alloc: Global,
+    later: &str,
+    earlier: &str,
+) -> Result<(String, String), Fail> {
+    let pair = past(rt, alloc, later, earlier)??;
+    show_pair(alloc, &pair)
+}
+
+fn ends_of(
+    alloc: Global,
+    start: &str,
+    later: &DocOp,
+    earlier: &DocOp,
+    pair: &Pair,
+) -> Result<(String, String), Fail> {
+    let one_way = after_both(alloc, start, earlier, &pair.later)?;
+    Ok((one_way, after_both(alloc, start, later, &pair.earlier)?))
+}
+
+fn both_ends(
+    rt: &impl Abort,
+    alloc: Global,
+    start: &str,
+    later: &DocOp,
+    earlier: &DocOp,
+) -> Result<(String, String), Fail> {
+    let pair = transformed(rt, alloc, later, earlier)?;
+    ends_of(alloc, start, later, earlier, &pair)
+}
+
+// The document after both operations, both ways round.
+fn ends(
+    rt: &impl Abort,
+    alloc: Global,
+    start: &str,
+    later: &str,
+    earlier: &str,
+) -> Result<(String, String), Fail> {
+    let later = operation(alloc, later)?;
+    let earlier = operation(alloc, earlier)?;
+    both_ends(rt, alloc, start, &later, &earlier)
+}
+
 #[test]
 fn worked_rows(rt: HostRuntime) -> Result<(), Fail> {
     let alloc = rt.alloc();
@@ -65,15 +127,12 @@ fn worked_rows(rt: HostRuntime) -> Result<(), Fail> {
         ("+ab", "1 +X 1", "-ab", "+X", "-a 1 -b", "X"),
     ];
     for (start, later, earlier, later_want, earlier_want, end) in rows {
-        let later = operation(alloc, later)?;
-        let earlier = operation(alloc, earlier)?;
-        let pair = transformed(&rt, alloc, &later, &earlier)?;
-        assert_eq!(rt; shown(alloc, &pair.later)?.as_str(), later_want);
-        assert_eq!(rt; shown(alloc, &pair.earlier)?.as_str(), earlier_want);
-        let one_way = after_both(alloc, start, &earlier, &pair.later)?;
+        let (one_way, other_way) = ends(&rt, alloc, start, later, earlier)?;
         assert_eq!(rt; one_way.as_str(), end);
-        let other_way = after_both(alloc, start, &later, &pair.earlier)?;
         assert_eq!(rt; other_way.as_str(), end);
+        let (later, earlier) = shown_past(&rt, alloc, later, earlier)?;
+        assert_eq!(rt; later.as_str(), later_want);
+        assert_eq!(rt; earlier.as_str(), earlier_want);
     }
     Ok(())
 }
@@ -97,11 +156,9 @@ fn further_rows(rt: HostRuntime) -> Result<(), Fail> {
         ("/a=_:1,b=_:2 1 /!a,!b", "1", "/a=_:1,b=_:2 1 /!a,!b", "1"),
     ];
     for (later, earlier, later_want, earlier_want) in rows {
-        let later = operation(alloc, later)?;
-        let earlier = operation(alloc, earlier)?;
-        let pair = transformed(&rt, alloc, &later, &earlier)?;
-        assert_eq!(rt; shown(alloc, &pair.later)?.as_str(), later_want);
-        assert_eq!(rt; shown(alloc, &pair.earlier)?.as_str(), earlier_want);
+        let (later, earlier) = shown_past(&rt, alloc, later, earlier)?;
+        assert_eq!(rt; later.as_str(), later_want);
+        assert_eq!(rt; earlier.as_str(), earlier_want);
     }
     Ok(())
 }
@@ -127,14 +184,15 @@ fn refusals(rt: HostRuntime) -> Result<(), Fail> {
         ),
     ];
     for (later, earlier, want) in rows {
-        let later = operation(alloc, later)?;
-        let earlier = operation(alloc, earlier)?;
-        let got = transformed(&rt, alloc, &later, &earlier);
-        assert_eq!(rt; got.err(), Some(want));
+        assert_eq!(rt; past(&rt, alloc, later, earlier)?.err(), Some(want));
     }
-    let later = operation(alloc, "9007199254740990")?;
-    let earlier = operation(alloc, "+a 9007199254740990")?;
-    let pair = transformed(&rt, alloc, &later, &earlier)?;
-    assert_eq!(rt; shown(alloc, &pair.later)?.as_str(), "9007199254740991");
+    Ok(())
+}
+
+#[test]
+fn a_document_may_become_of_the_greatest_length(rt: HostRuntime) -> Result<(), Fail> {
+    let later = "9007199254740990";
+    let (later, _) = shown_past(&rt, rt.alloc(), later, "+a 9007199254740990")?;
+    assert_eq!(rt; later.as_str(), "9007199254740991");
     Ok(())
 }

@@ -1,9 +1,11 @@
 // Operations and documents stand here as words of `op_words`. Whatever happens to a plain document happens to one in pieces.
 use doc_items::Document;
+use doc_op::DocOp;
 use doc_rope::Rope;
 use op_validity::{CheckFault, apply, apply_rope, check, check_rope};
 use op_words::{operation, shown_document};
 use std::alloc::Global;
+use std::process::Abort;
 use std::test::Fail;
 
 fn document(alloc: Global, words: &str) -> Result<Document, Fail> {
@@ -14,6 +16,44 @@ fn document(alloc: Global, words: &str) -> Result<Document, Fail> {
 
 // A document as the operation that makes it, an operation, and the document afterwards; the first five were computed by another
 // program.
+fn pieces(alloc: Global, words: &str) -> Result<Rope, Fail> {
+    Ok(Rope::from_list(alloc, document(alloc, words)?)?)
+}
+
+fn show_pieces(alloc: Global, rope: &Rope) -> Result<String, Fail> {
+    let list = rope.list(alloc)?;
+    Ok(shown_document(alloc, &list)?)
+}
+
+fn edit_list(alloc: Global, op: &DocOp, plain: &mut Document) -> Result<String, Fail> {
+    check(alloc, op, plain)?;
+    apply(alloc, op, plain)?;
+    Ok(shown_document(alloc, plain)?)
+}
+
+fn edit_pieces(alloc: Global, op: &DocOp, rope: &mut Rope) -> Result<String, Fail> {
+    check_rope(alloc, op, rope)?;
+    apply_rope(alloc, op, rope)?;
+    show_pieces(alloc, rope)
+}
+
+fn list_after(alloc: Global, start: &str, op: &DocOp) -> Result<String, Fail> {
+    let mut plain = document(alloc, start)?;
+    edit_list(alloc, op, &mut plain)
+}
+
+fn pieces_after(alloc: Global, start: &str, op: &DocOp) -> Result<String, Fail> {
+    let mut rope = pieces(alloc, start)?;
+    edit_pieces(alloc, op, &mut rope)
+}
+
+// The document after an edit, as a list and in pieces.
+fn both_after(alloc: Global, start: &str, op: &str) -> Result<(String, String), Fail> {
+    let op = operation(alloc, op)?;
+    let list = list_after(alloc, start, &op)?;
+    Ok((list, pieces_after(alloc, start, &op)?))
+}
+
 #[test]
 fn documents_change(rt: HostRuntime) -> Result<(), Fail> {
     let alloc = rt.alloc();
@@ -35,21 +75,77 @@ fn documents_change(rt: HostRuntime) -> Result<(), Fail> {
         ),
     ];
     for (start, op, want) in rows {
-        let op = operation(alloc, op)?;
-        let mut plain = document(alloc, start)?;
-        let mut rope = Rope::from_list(alloc, plain.copy(alloc)?)?;
-        check(alloc, &op, &plain)?;
-        check_rope(alloc, &op, &rope)?;
-        apply(alloc, &op, &mut plain)?;
-        apply_rope(alloc, &op, &mut rope)?;
-        assert_eq!(rt; shown_document(alloc, &plain)?.as_str(), want);
-        let pieces = rope.list(alloc)?;
-        assert_eq!(rt; shown_document(alloc, &pieces)?.as_str(), want);
+        let (list, pieces) = both_after(alloc, start, op)?;
+        assert_eq!(rt; list.as_str(), want);
+        assert_eq!(rt; pieces.as_str(), want);
     }
     Ok(())
 }
 
 // A document as the operation that makes it, an operation, and why it is refused.
+fn list_stays(
+    rt: &impl Abort,
+    alloc: Global,
+    plain: &mut Document,
+    op: &DocOp,
+    want: CheckFault,
+) -> Result<(), Fail> {
+    let before = shown_document(alloc, plain)?;
+    assert_eq!(rt; check(alloc, op, plain), Err(want));
+    assert_eq!(rt; apply(alloc, op, plain), Err(want));
+    assert_eq!(rt; shown_document(alloc, plain)?, before);
+    Ok(())
+}
+
+fn pieces_stay(
+    rt: &impl Abort,
+    alloc: Global,
+    rope: &mut Rope,
+    op: &DocOp,
+    want: CheckFault,
+) -> Result<(), Fail> {
+    let before = show_pieces(alloc, rope)?;
+    assert_eq!(rt; check_rope(alloc, op, rope), Err(want));
+    assert_eq!(rt; apply_rope(alloc, op, rope), Err(want));
+    assert_eq!(rt; show_pieces(alloc, rope)?, before);
+    Ok(())
+}
+
+fn refuses_list(
+    rt: &impl Abort,
+    alloc: Global,
+    start: &str,
+    op: &DocOp,
+    want: CheckFault,
+) -> Result<(), Fail> {
+    let mut plain = document(alloc, start)?;
+    list_stays(rt, alloc, &mut plain, op, want)
+}
+
+fn refuses_pieces(
+    rt: &impl Abort,
+    alloc: Global,
+    start: &str,
+    op: &DocOp,
+    want: CheckFault,
+) -> Result<(), Fail> {
+    let mut rope = pieces(alloc, start)?;
+    pieces_stay(rt, alloc, &mut rope, op, want)
+}
+
+// An edit is refused, of a list and in pieces, and the document stays.
+fn refuses_both(
+    rt: &impl Abort,
+    alloc: Global,
+    start: &str,
+    op: &str,
+    want: CheckFault,
+) -> Result<(), Fail> {
+    let op = operation(alloc, op)?;
+    refuses_list(rt, alloc, start, &op, want)?;
+    refuses_pieces(rt, alloc, start, &op, want)
+}
+
 #[test]
 fn documents_stay(rt: HostRuntime) -> Result<(), Fail> {
     let alloc = rt.alloc();
@@ -67,16 +163,7 @@ fn documents_stay(rt: HostRuntime) -> Result<(), Fail> {
         ("<p,a=3 >", "1", CheckFault::WrongLength),
     ];
     for (start, op, want) in rows {
-        let op = operation(alloc, op)?;
-        let mut plain = document(alloc, start)?;
-        let mut rope = Rope::from_list(alloc, plain.copy(alloc)?)?;
-        let before = shown_document(alloc, &plain)?;
-        assert_eq!(rt; check(alloc, &op, &plain), Err(want));
-        assert_eq!(rt; check_rope(alloc, &op, &rope), Err(want));
-        assert_eq!(rt; apply(alloc, &op, &mut plain), Err(want));
-        assert_eq!(rt; apply_rope(alloc, &op, &mut rope), Err(want));
-        assert_eq!(rt; shown_document(alloc, &plain)?, before);
-        assert_eq!(rt; shown_document(alloc, &rope.list(alloc)?)?, before);
+        refuses_both(&rt, alloc, start, op, want)?;
     }
     Ok(())
 }
@@ -105,13 +192,8 @@ fn edits_go_across_pieces(rt: HostRuntime) -> Result<(), Fail> {
         "588 +xy -a /b=_:1 2 /!b 509",
         "1096 +xy -a /b=_:1 2 /!b 1",
     ] {
-        let op = operation(alloc, op)?;
-        let mut plain = document(alloc, start.as_str())?;
-        let mut rope = Rope::from_list(alloc, plain.copy(alloc)?)?;
-        apply(alloc, &op, &mut plain)?;
-        apply_rope(alloc, &op, &mut rope)?;
-        let want = shown_document(alloc, &plain)?;
-        assert_eq!(rt; shown_document(alloc, &rope.list(alloc)?)?, want);
+        let (list, pieces) = both_after(alloc, start.as_str(), op)?;
+        assert_eq!(rt; pieces, list);
     }
     Ok(())
 }

@@ -212,37 +212,71 @@ fn is_refused(alloc: Global, bytes: &[u8]) -> bool {
     }
 }
 
+fn first(rt: &impl Abort, alloc: Global) -> Result<AppliedDelta, Fail> {
+    let ops = first_ops(rt, alloc)?;
+    delta(alloc, 1, 0, &ops)
+}
+
+fn roles(rt: &impl Abort, alloc: Global) -> Result<AppliedDelta, Fail> {
+    let ops = role_ops(rt, alloc)?;
+    delta(alloc, 3, 3, &ops)
+}
+
+fn has_hex(alloc: Global, delta: &AppliedDelta, hex: &str) -> Result<bool, Fail> {
+    let bytes = bytes_of(alloc, hex)?;
+    has_bytes(alloc, delta, bytes.as_slice())
+}
+
 #[test]
-fn deltas_have_these_bytes(rt: HostRuntime) -> Result<(), Fail> {
-    let alloc = rt.alloc();
-    let first = delta(alloc, 1, 0, &first_ops(&rt, alloc)?)?;
-    let roles = delta(alloc, 3, 3, &role_ops(&rt, alloc)?)?;
-    assert!(rt; has_bytes(alloc, &first, bytes_of(alloc, FIRST)?.as_slice())?);
-    assert!(rt; has_bytes(alloc, &roles, bytes_of(alloc, ROLES)?.as_slice())?);
-    assert_eq!(rt; ops_len(alloc, &first.ops)?, 39);
+fn a_delta_has_these_bytes(rt: HostRuntime) -> Result<(), Fail> {
+    let first = first(&rt, rt.alloc())?;
+    assert!(rt; has_hex(rt.alloc(), &first, FIRST)?);
     Ok(())
 }
 
 #[test]
-fn deltas_are_read(rt: HostRuntime) -> Result<(), Fail> {
-    let alloc = rt.alloc();
-    let expected = delta(alloc, 1, 0, &first_ops(&rt, alloc)?)?;
-    let found = read_applied(alloc, bytes_of(alloc, FIRST)?.as_slice(), &[7; 32])?;
+fn a_delta_on_roles_has_these_bytes(rt: HostRuntime) -> Result<(), Fail> {
+    let roles = roles(&rt, rt.alloc())?;
+    assert!(rt; has_hex(rt.alloc(), &roles, ROLES)?);
+    Ok(())
+}
+
+#[test]
+fn operations_have_this_length(rt: HostRuntime) -> Result<(), Fail> {
+    let ops = first_ops(&rt, rt.alloc())?;
+    assert_eq!(rt; ops_len(rt.alloc(), &ops)?, 39);
+    Ok(())
+}
+
+fn read_hex(alloc: Global, hex: &str, hash: &[u8; 32]) -> Result<AppliedDelta, Fail> {
+    let bytes = bytes_of(alloc, hex)?;
+    Ok(read_applied(alloc, bytes.as_slice(), hash)?)
+}
+
+fn are_same(rt: &impl Abort, found: &AppliedDelta, expected: &AppliedDelta) {
     assert!(rt; found.id == expected.id);
     assert!(rt; found.from == expected.from);
     assert_eq!(rt; found.time, 1000);
     assert_eq!(rt; found.ops.len(), 2);
+}
+
+#[test]
+fn deltas_are_read(rt: HostRuntime) -> Result<(), Fail> {
+    let expected = first(&rt, rt.alloc())?;
+    let found = read_hex(rt.alloc(), FIRST, &[7; 32])?;
+    are_same(&rt, &found, &expected);
     Ok(())
 }
 
-// As they are, at the limits of their numbers, and with each operation.
+fn is_written_again(alloc: Global, hex: &str) -> Result<bool, Fail> {
+    let delta = read_hex(alloc, hex, &[9; 32])?;
+    has_hex(alloc, &delta, hex)
+}
+
 #[test]
 fn what_is_read_is_written_again(rt: HostRuntime) -> Result<(), Fail> {
-    let alloc = rt.alloc();
     for hex in [FIRST, ROLES, LIMITS, EACH] {
-        let bytes = bytes_of(alloc, hex)?;
-        let delta = read_applied(alloc, bytes.as_slice(), &[9; 32])?;
-        assert!(rt; has_bytes(alloc, &delta, bytes.as_slice())?);
+        assert!(rt; is_written_again(rt.alloc(), hex)?);
     }
     Ok(())
 }

@@ -106,6 +106,34 @@ fn transformed(
 }
 
 // The later and the earlier operations, and both results.
+// Two lists past each other.
+fn past(
+    rt: &impl Abort,
+    alloc: Global,
+    later: &str,
+    earlier: &str,
+) -> Result<Result<OpsPair, WaveletFault>, Fail> {
+    let later = ops(rt, alloc, later)?;
+    let earlier = ops(rt, alloc, earlier)?;
+    Ok(transformed(rt, alloc, &later, &earlier))
+}
+
+fn show_pair(alloc: Global, pair: &OpsPair) -> Result<(String, String), Memory> {
+    let later = show_all(alloc, &pair.later)?;
+    let earlier = show_all(alloc, &pair.earlier)?;
+    Ok((later, earlier))
+}
+
+fn shown_past(
+    rt: &impl Abort,
+    alloc: Global,
+    later: &str,
+    earlier: &str,
+) -> Result<(String, String), Fail> {
+    let pair = past(rt, alloc, later, earlier)??;
+    Ok(show_pair(alloc, &pair)?)
+}
+
 #[test]
 fn lists_past_each_other(rt: HostRuntime) -> Result<(), Fail> {
     let alloc = rt.alloc();
@@ -138,11 +166,9 @@ fn lists_past_each_other(rt: HostRuntime) -> Result<(), Fail> {
         ("b+1: 1 1 +a", "noop", "b+1: 2 +a", "noop"),
     ];
     for (later, earlier, later_want, earlier_want) in rows {
-        let later = ops(&rt, alloc, later)?;
-        let earlier = ops(&rt, alloc, earlier)?;
-        let pair = transformed(&rt, alloc, &later, &earlier)?;
-        assert_eq!(rt; show_all(alloc, &pair.later)?.as_str(), later_want);
-        assert_eq!(rt; show_all(alloc, &pair.earlier)?.as_str(), earlier_want);
+        let (later, earlier) = shown_past(&rt, alloc, later, earlier)?;
+        assert_eq!(rt; later.as_str(), later_want);
+        assert_eq!(rt; earlier.as_str(), earlier_want);
     }
     Ok(())
 }
@@ -175,30 +201,48 @@ fn refused_transforms(rt: HostRuntime) -> Result<(), Fail> {
         ),
     ];
     for (later, earlier, want) in rows {
-        let later = ops(&rt, alloc, later)?;
-        let earlier = ops(&rt, alloc, earlier)?;
-        match transformed(&rt, alloc, &later, &earlier) {
-            Ok(_) => assert!(rt; false),
-            Err(fault) => assert!(rt; fault == want),
-        }
+        assert!(rt; past(&rt, alloc, later, earlier)?.err() == Some(want));
     }
     Ok(())
 }
 
-#[test]
-fn one_past_another(rt: HostRuntime) -> Result<(), Fail> {
-    let alloc = rt.alloc();
-    let later = op(alloc, "b+1: -<p ->")?;
-    let earlier = op(alloc, "b+1: 1 +x 1")?;
+fn one_past(
+    rt: &impl Abort,
+    alloc: Global,
+    later: &WaveletOp,
+    earlier: &WaveletOp,
+) -> Result<(String, String), Fail> {
     assert!(rt; later.is_structured());
     assert!(rt; earlier.is_structured());
-    let pair = transform_op(alloc, &later, &earlier)?;
-    assert_eq!(rt; show(alloc, &pair.later)?.as_str(), "b+1: -<p -x ->");
-    assert_eq!(rt; show(alloc, &pair.earlier)?.as_str(), "b+1: ");
+    let pair = transform_op(alloc, later, earlier)?;
+    let later = show(alloc, &pair.later)?;
+    Ok((later, show(alloc, &pair.earlier)?))
+}
+
+#[test]
+fn one_past_another(rt: HostRuntime) -> Result<(), Fail> {
+    let later = op(rt.alloc(), "b+1: -<p ->")?;
+    let earlier = op(rt.alloc(), "b+1: 1 +x 1")?;
+    let (later, earlier) = one_past(&rt, rt.alloc(), &later, &earlier)?;
+    assert_eq!(rt; later.as_str(), "b+1: -<p -x ->");
+    assert_eq!(rt; earlier.as_str(), "b+1: ");
     Ok(())
 }
 
-// Operations, and what they are when neighbours are composed.
+fn composed(
+    rt: &impl Abort,
+    alloc: Global,
+    words: &str,
+) -> Result<Result<Ops, WaveletFault>, Fail> {
+    let ops = ops(rt, alloc, words)?;
+    Ok(compact(alloc, &ops))
+}
+
+fn show_composed(rt: &impl Abort, alloc: Global, words: &str) -> Result<String, Fail> {
+    let fewer = composed(rt, alloc, words)??;
+    Ok(show_all(alloc, &fewer)?)
+}
+
 #[test]
 fn neighbours_are_composed(rt: HostRuntime) -> Result<(), Fail> {
     let alloc = rt.alloc();
@@ -214,31 +258,32 @@ fn neighbours_are_composed(rt: HostRuntime) -> Result<(), Fail> {
         ),
     ];
     for (words, want) in rows {
-        let fewer = compact(alloc, &ops(&rt, alloc, words)?)?;
-        assert_eq!(rt; show_all(alloc, &fewer)?.as_str(), want);
-    }
-    let unfit = ops(&rt, alloc, "noop; b+1: 1 +b; b+1: 1 -c")?;
-    match compact(alloc, &unfit) {
-        Ok(_) => assert!(rt; false),
-        Err(fault) => assert!(rt; fault == WaveletFault::DontFit(1)),
+        assert_eq!(rt; show_composed(&rt, alloc, words)?.as_str(), want);
     }
     Ok(())
+}
+
+#[test]
+fn what_does_not_fit_is_not_composed(rt: HostRuntime) -> Result<(), Fail> {
+    let outcome = composed(&rt, rt.alloc(), "noop; b+1: 1 +b; b+1: 1 -c")?;
+    assert!(rt; outcome.err() == Some(WaveletFault::DontFit(1)));
+    Ok(())
+}
+
+fn nothing(alloc: Global, count: usize) -> Result<Vec<WaveletOp>, Memory> {
+    let mut list = Vec::new(alloc);
+    for _ in 0..count {
+        list.push(WaveletOp::NoOp)?;
+    }
+    Ok(list)
 }
 
 #[test]
 fn a_delta_has_one_to_a_thousand_operations(rt: HostRuntime) -> Result<(), Fail> {
     let alloc = rt.alloc();
     assert!(rt; Ops::new(Vec::new(alloc)).is_none());
-    let mut most = Vec::new(alloc);
-    for _ in 0..1000 {
-        most.push(WaveletOp::NoOp)?;
-    }
-    let copy = Ops::new(most).expect(&rt, "1,000 operations").copy(alloc)?;
-    assert_eq!(rt; copy.len(), 1000);
-    let mut more = Vec::new(alloc);
-    for _ in 0..1001 {
-        more.push(WaveletOp::NoOp)?;
-    }
-    assert!(rt; Ops::new(more).is_none());
+    let most = Ops::new(nothing(alloc, 1000)?).expect(&rt, "1,000 operations");
+    assert_eq!(rt; most.copy(alloc)?.len(), 1000);
+    assert!(rt; Ops::new(nothing(alloc, 1001)?).is_none());
     Ok(())
 }
