@@ -36,7 +36,23 @@ fn is_first_ack(verdict: Verdict) -> bool {
     }
 }
 
-// The image of a choice loads: as the empty history, or as that with the first delta. Submitted again, that is in it once.
+// What was loaded is the empty history, or that with the first delta. Submitted again, that is in it once.
+fn is_loaded(
+    rt: &impl Abort,
+    alloc: Global,
+    loaded: &mut Container<MemoryDisk>,
+    acknowledged: bool,
+) -> Result<(), Fail> {
+    let version = loaded.history().head().version;
+    assert!(rt; version == 2 || (version == 0 && !acknowledged));
+    let made = first(alloc, loaded.history().head())?;
+    let again = loaded.submit(alloc, &made, 1000)?;
+    assert!(rt; is_first_ack(again) || version == 2);
+    assert!(rt; loaded.history().deltas().len() == 1);
+    Ok(())
+}
+
+// The image of a choice loads.
 fn image_loads(
     rt: &impl Abort,
     alloc: Global,
@@ -44,38 +60,56 @@ fn image_loads(
     choice: u64,
     acknowledged: bool,
 ) -> Result<(), Fail> {
+    let name = name(alloc)?;
     let bytes = disk.image(alloc, choice)?;
     let image = MemoryDisk::new(alloc, bytes, Vec::new(alloc), None);
-    match Container::load(alloc, name(alloc)?, image) {
-        Ok(mut loaded) => {
-            let version = loaded.history().head().version;
-            assert!(rt; version == 2 || (version == 0 && !acknowledged));
-            let made = first(alloc, loaded.history().head())?;
-            let again = loaded.submit(alloc, &made, 1000)?;
-            assert!(rt; is_first_ack(again) || version == 2);
-            assert!(rt; loaded.history().deltas().len() == 1);
+    match Container::load(alloc, name, image) {
+        Ok(mut loaded) => is_loaded(rt, alloc, &mut loaded, acknowledged),
+        Err(_) => {
+            assert!(rt; false, "the image is read");
+            Ok(())
         }
-        Err(_) => assert!(rt; false, "the image is read"),
+    }
+}
+
+fn images_load(
+    rt: &impl Abort,
+    alloc: Global,
+    disk: &MemoryDisk,
+    acknowledged: bool,
+) -> Result<(), Fail> {
+    for choice in [0, 1, 2, 3, u64::MAX] {
+        image_loads(rt, alloc, disk, choice, acknowledged)?;
     }
     Ok(())
 }
 
-// The machine stops at this call of the first append.
-fn stops_at(rt: &impl Abort, alloc: Global, call: u64) -> Result<(), Fail> {
-    let mut container = container_on(alloc, Vec::new(alloc), Some(call))?;
+// Whether the first append is acknowledged where the machine stops at this call of it.
+fn is_acknowledged(
+    rt: &impl Abort,
+    alloc: Global,
+    container: &mut Container<MemoryDisk>,
+    call: u64,
+) -> Result<bool, Fail> {
     let made = first(alloc, container.history().head())?;
     let acknowledged = container.submit(alloc, &made, 1000).is_ok();
     assert!(rt; acknowledged == (call >= 10));
     let deltas = container.history().deltas().len();
     assert!(rt; acknowledged == (deltas == 1));
-    let Some(disk) = container.close() else {
-        assert!(rt; false, "there is a journal");
-        return Ok(());
-    };
-    for choice in [0, 1, 2, 3, u64::MAX] {
-        image_loads(rt, alloc, &disk, choice, acknowledged)?;
+    Ok(acknowledged)
+}
+
+// The machine stops at this call of the first append.
+fn stops_at(rt: &impl Abort, alloc: Global, call: u64) -> Result<(), Fail> {
+    let mut container = container_on(alloc, Vec::new(alloc), Some(call))?;
+    let acknowledged = is_acknowledged(rt, alloc, &mut container, call)?;
+    match container.close() {
+        Some(disk) => images_load(rt, alloc, &disk, acknowledged),
+        None => {
+            assert!(rt; false, "there is a journal");
+            Ok(())
+        }
     }
-    Ok(())
 }
 
 #[test]
@@ -94,19 +128,34 @@ fn is_disk_fault(outcome: Result<Verdict, SubmitFault>) -> bool {
 }
 
 // One call fails, and the next submission repairs what it left behind.
-fn fails_at(rt: &impl Abort, alloc: Global, call: u64) -> Result<(), Fail> {
-    let mut failing = Vec::new(alloc);
-    failing.push(call)?;
-    let mut container = container_on(alloc, failing, None)?;
+fn is_repaired(
+    rt: &impl Abort,
+    alloc: Global,
+    container: &mut Container<MemoryDisk>,
+) -> Result<(), Fail> {
     let made = first(alloc, container.history().head())?;
     assert!(rt; is_disk_fault(container.submit(alloc, &made, 1000)));
     assert!(rt; container.history().deltas().is_empty());
     assert!(rt; is_first_ack(container.submit(alloc, &made, 1000)?));
-    let Some(disk) = container.close() else {
-        assert!(rt; false, "there is a journal");
-        return Ok(());
-    };
-    image_loads(rt, alloc, &disk, u64::MAX, true)
+    Ok(())
+}
+
+fn failing_at(alloc: Global, call: u64) -> Result<Container<MemoryDisk>, Fail> {
+    let mut failing = Vec::new(alloc);
+    failing.push(call)?;
+    container_on(alloc, failing, None)
+}
+
+fn fails_at(rt: &impl Abort, alloc: Global, call: u64) -> Result<(), Fail> {
+    let mut container = failing_at(alloc, call)?;
+    is_repaired(rt, alloc, &mut container)?;
+    match container.close() {
+        Some(disk) => image_loads(rt, alloc, &disk, u64::MAX, true),
+        None => {
+            assert!(rt; false, "there is a journal");
+            Ok(())
+        }
+    }
 }
 
 #[test]

@@ -5,17 +5,22 @@ use delta_history::History;
 use delta_journal::Journal;
 use disk_model::MemoryDisk;
 use std::alloc::Global;
+use std::process::Abort;
 use std::test::Fail;
 use wavelet_container::{Container, LoadFault};
 use wavelet_words::delta_at;
 
-// The bytes of the first delta.
-fn first(alloc: Global) -> Result<Vec<u8>, Fail> {
-    let mut history = History::new(alloc, name(alloc)?);
+fn first_of(alloc: Global, history: &mut History) -> Result<Vec<u8>, Fail> {
     let words = "add alice@a.com; b+1: +hi";
     let delta = delta_at(alloc, "alice@a.com", 1, history.head(), words)?;
     let prepared = history.prepare(alloc, delta)?;
     Ok(prepared.bytes().to_vec(alloc)?)
+}
+
+// The bytes of the first delta.
+fn first(alloc: Global) -> Result<Vec<u8>, Fail> {
+    let mut history = History::new(alloc, name(alloc)?);
+    first_of(alloc, &mut history)
 }
 
 // A file with the first delta as each of so many records.
@@ -44,8 +49,10 @@ fn loaded(alloc: Global, file: Vec<u8>) -> Result<Result<usize, u64>, Fail> {
     }
 }
 
+type Row = (usize, usize, bool, Result<usize, u64>);
+
 // How many records, to how many bytes the file is cut, whether the gate at 37 is closed then, and what is loaded.
-const ROWS: [(usize, usize, bool, Result<usize, u64>); 8] = [
+const ROWS: [Row; 8] = [
     (0, 0, false, Ok(0)),
     (1, 134, false, Ok(1)),
     (1, 100, false, Err(37)),
@@ -63,15 +70,19 @@ fn cut(file: &mut Vec<u8>, length: usize, closed: bool) {
     }
 }
 
+fn is_loaded_so(rt: &impl Abort, alloc: Global, row: &Row) -> Result<(), Fail> {
+    let (records, length, closed, expected) = *row;
+    let mut file = file(alloc, records)?;
+    assert!(rt; file.len() >= length);
+    cut(&mut file, length, closed);
+    assert!(rt; loaded(alloc, file)? == expected);
+    Ok(())
+}
+
 #[test]
 fn damage_is_told(rt: HostRuntime) -> Result<(), Fail> {
-    let alloc = rt.alloc();
     for row in &ROWS {
-        let (records, length, closed, expected) = *row;
-        let mut file = file(alloc, records)?;
-        assert!(rt; file.len() >= length);
-        cut(&mut file, length, closed);
-        assert!(rt; loaded(alloc, file)? == expected);
+        is_loaded_so(&rt, rt.alloc(), row)?;
     }
     Ok(())
 }

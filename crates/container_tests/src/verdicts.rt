@@ -77,17 +77,26 @@ fn answer<K: Disk>(alloc: Global, container: &mut Container<K>, row: &Row) -> Re
     shown(alloc, container.submit(alloc, &made, 1000)?)
 }
 
+fn submit_row<K: Disk>(
+    rt: &impl Abort,
+    alloc: Global,
+    container: &mut Container<K>,
+    row: &Row,
+) -> Result<(), Fail> {
+    if row.1 <= 1000 && row.2 <= 1000 {
+        let told = answer(alloc, container, row)?;
+        assert!(rt; told.as_str() == row.4);
+    }
+    Ok(())
+}
+
 fn submit_rows<K: Disk>(
     rt: &impl Abort,
     alloc: Global,
     container: &mut Container<K>,
 ) -> Result<(), Fail> {
     for row in &ROWS {
-        if row.1 > 1000 || row.2 > 1000 {
-            continue;
-        }
-        let told = answer(alloc, container, row)?;
-        assert!(rt; told.as_str() == row.4);
+        submit_row(rt, alloc, container, row)?;
     }
     let state = shown_state(alloc, container.history().state())?;
     assert!(rt; state.as_str() == LAST);
@@ -102,23 +111,38 @@ fn verdicts_in_order(rt: HostRuntime) -> Result<(), Fail> {
     submit_rows(&rt, alloc, &mut container)
 }
 
-// With one: what is read from the disk again is the same history.
-#[test]
-fn verdicts_are_stored(rt: HostRuntime) -> Result<(), Fail> {
-    let alloc = rt.alloc();
-    let disk = MemoryDisk::new(alloc, Vec::new(alloc), Vec::new(alloc), None);
-    let mut container = Container::start(alloc, name(alloc)?, disk)?;
-    submit_rows(&rt, alloc, &mut container)?;
-    let head = container.history().head();
-    let Some(disk) = container.close() else {
-        assert!(rt; false, "there is a journal");
-        return Ok(());
-    };
+fn loads(
+    rt: &impl Abort,
+    alloc: Global,
+    disk: MemoryDisk,
+    head: HashedVersion,
+) -> Result<(), Fail> {
     match Container::load(alloc, name(alloc)?, disk) {
         Ok(loaded) => assert!(rt; loaded.history().head() == head),
         Err(_) => assert!(rt; false, "the journal is read"),
     }
     Ok(())
+}
+
+fn started(alloc: Global) -> Result<Container<MemoryDisk>, Fail> {
+    let name = name(alloc)?;
+    let disk = MemoryDisk::new(alloc, Vec::new(alloc), Vec::new(alloc), None);
+    Ok(Container::start(alloc, name, disk)?)
+}
+
+// With one: what is read from the disk again is the same history.
+#[test]
+fn verdicts_are_stored(rt: HostRuntime) -> Result<(), Fail> {
+    let mut container = started(rt.alloc())?;
+    submit_rows(&rt, rt.alloc(), &mut container)?;
+    let head = container.history().head();
+    match container.close() {
+        Some(disk) => loads(&rt, rt.alloc(), disk, head),
+        None => {
+            assert!(rt; false, "there is a journal");
+            Ok(())
+        }
+    }
 }
 
 fn noop(alloc: Global, number: u64, at: HashedVersion) -> Result<Submission, Fail>
@@ -127,32 +151,38 @@ fn noop(alloc: Global, number: u64, at: HashedVersion) -> Result<Submission, Fai
     Ok(submission(alloc, "alice@a.com", number, at, "noop")?)
 }
 
-// 130 deltas, and a submission that was made behind the first one; then two more behind it, by way of the kept states.
-#[test]
-fn a_base_far_behind(rt: HostRuntime) -> Result<(), Fail> {
-    let alloc = rt.alloc();
-    let mut container: Container<MemoryDisk> = Container::new(alloc, name(alloc)?);
-    let told = answer(
-        alloc,
-        &mut container,
-        &("alice@a.com", 1, 0, "add alice@a.com; b+1: +hi", ""),
-    )?;
-    assert!(rt; told.as_str() == "ack 0 2");
+fn submit_noops<K: Disk>(alloc: Global, container: &mut Container<K>) -> Result<(), Fail> {
     for number in 2..131u64 {
         let made = noop(alloc, number, container.history().head())?;
         container.submit(alloc, &made, 1000)?;
     }
-    let rows = [
-        ("alice@a.com", 200, 2, "b+1: 2 +!", "ack 131 132"),
-        ("alice@a.com", 201, 3, "b+1: +? 2", "ack 132 133"),
-        ("alice@a.com", 202, 100, "b+1: 3", "invalid 0"),
-    ];
-    for row in &rows {
-        if row.1 > 1000 || row.2 > 1000 {
-            continue;
-        }
-        let told = answer(alloc, &mut container, row)?;
-        assert!(rt; told.as_str() == row.4);
+    Ok(())
+}
+
+const FIRST: Row = ("alice@a.com", 1, 0, "add alice@a.com; b+1: +hi", "ack 0 2");
+
+const BEHIND: [Row; 3] = [
+    ("alice@a.com", 200, 2, "b+1: 2 +!", "ack 131 132"),
+    ("alice@a.com", 201, 3, "b+1: +? 2", "ack 132 133"),
+    ("alice@a.com", 202, 100, "b+1: 3", "invalid 0"),
+];
+
+fn far_behind<K: Disk>(
+    rt: &impl Abort,
+    alloc: Global,
+    container: &mut Container<K>,
+) -> Result<(), Fail> {
+    submit_row(rt, alloc, container, &FIRST)?;
+    submit_noops(alloc, container)?;
+    for row in &BEHIND {
+        submit_row(rt, alloc, container, row)?;
     }
     Ok(())
+}
+
+// 130 deltas, and a submission that was made behind the first one; then two more behind it, by way of the kept states.
+#[test]
+fn a_base_far_behind(rt: HostRuntime) -> Result<(), Fail> {
+    let mut container: Container<MemoryDisk> = Container::new(rt.alloc(), name(rt.alloc())?);
+    far_behind(&rt, rt.alloc(), &mut container)
 }

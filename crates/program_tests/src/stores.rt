@@ -3,6 +3,7 @@ use crate::runs::{joined, no_files, outcome};
 use crate::sessions::{SESSION_IN, SESSION_OUT};
 use disk_model::MemoryDisk;
 use std::alloc::{AllocError, Global};
+use std::process::Abort;
 use std::test::Fail;
 use wave_outside::{MemoryFolder, MemorySink, StoredFile};
 
@@ -47,11 +48,6 @@ fn served(
     outcome(alloc, &WORDS, input.as_slice(), &[], &[], folder)
 }
 
-// Alice says hello, and opens the wavelet at its beginning.
-fn opened(alloc: Global, folder: &mut MemoryFolder) -> Result<(u8, MemorySink), AllocError> {
-    served(alloc, &[SESSION_IN[0], SESSION_IN[2]], folder)
-}
-
 // An image of the folder's first file.
 fn image(alloc: Global, folder: &MemoryFolder, choice: u64) -> Result<Vec<u8>, AllocError> {
     match folder.files().first() {
@@ -68,49 +64,118 @@ fn has_file_alone(folder: &MemoryFolder) -> bool {
     }
 }
 
+fn is_image(
+    rt: &impl Abort,
+    alloc: Global,
+    folder: &MemoryFolder,
+    wanted: &[u8],
+) -> Result<(), AllocError> {
+    let image = image(alloc, folder, 0)?;
+    assert_eq!(rt; image.as_slice(), wanted);
+    Ok(())
+}
+
+// A run over these lines and this folder ends well, and writes this.
+fn serves(
+    rt: &impl Abort,
+    alloc: Global,
+    lines: &[&str],
+    folder: &mut MemoryFolder,
+    wanted: &[u8],
+) -> Result<(), AllocError> {
+    let (status, sink) = served(alloc, lines, folder)?;
+    assert_eq!(rt; status, 0);
+    assert_eq!(rt; sink.bytes(), wanted);
+    Ok(())
+}
+
+// Alice says hello, and opens the wavelet at its beginning.
+fn opens(rt: &impl Abort, alloc: Global, folder: &mut MemoryFolder) -> Result<(), AllocError> {
+    let told = joined(alloc, &[SESSION_OUT[0], SESSION_OUT[2], SESSION_OUT[3]])?;
+    let lines = [SESSION_IN[0], SESSION_IN[2]];
+    serves(rt, alloc, &lines, folder, told.as_slice())
+}
+
+fn begins_wavelet(
+    rt: &impl Abort,
+    alloc: Global,
+    folder: &mut MemoryFolder,
+) -> Result<(), AllocError> {
+    let told = joined(alloc, &SESSION_OUT)?;
+    serves(rt, alloc, &SESSION_IN, folder, told.as_slice())
+}
+
+fn comes_back(rt: &impl Abort, alloc: Global, folder: &mut MemoryFolder) -> Result<(), AllocError> {
+    begins_wavelet(rt, alloc, folder)?;
+    assert!(rt; has_file_alone(folder));
+    is_image(rt, alloc, folder, &JOURNAL)?;
+    opens(rt, alloc, folder)
+}
+
 #[test]
 fn a_wavelet_comes_back(rt: HostRuntime) -> Result<(), Fail> {
-    let alloc = rt.alloc();
-    let mut folder = no_files(alloc);
-    let (status, sink) = served(alloc, &SESSION_IN, &mut folder)?;
-    assert_eq!(rt; status, 0);
-    assert_eq!(rt; sink.bytes(), joined(alloc, &SESSION_OUT)?.as_slice());
-    assert!(rt; has_file_alone(&folder));
-    assert_eq!(rt; image(alloc, &folder, 0)?.as_slice(), JOURNAL.as_slice());
-
-    // The same folder, and one with the same bytes.
-    let mut other = stored(alloc, &JOURNAL)?;
-    let (status, sink) = opened(alloc, &mut folder)?;
-    let (other_status, other_sink) = opened(alloc, &mut other)?;
-    let told = joined(alloc, &[SESSION_OUT[0], SESSION_OUT[2], SESSION_OUT[3]])?;
-    assert_eq!(rt; status, 0);
-    assert_eq!(rt; other_status, 0);
-    assert_eq!(rt; sink.bytes(), told.as_slice());
-    assert_eq!(rt; other_sink.bytes(), told.as_slice());
+    let mut folder = no_files(rt.alloc());
+    comes_back(&rt, rt.alloc(), &mut folder)?;
     Ok(())
 }
 
 #[test]
-fn a_damaged_file_is_told(rt: HostRuntime) -> Result<(), Fail> {
-    let alloc = rt.alloc();
-    let mut cut = Vec::from_slice(alloc, &JOURNAL[..100])?;
-    let mut folder = stored(alloc, cut.as_slice())?;
-    let (status, sink) = served(alloc, &SESSION_IN, &mut folder)?;
-    assert_eq!(rt; status, 6);
+fn a_file_of_the_same_bytes_is_the_wavelet(rt: HostRuntime) -> Result<(), Fail> {
+    let mut folder = stored(rt.alloc(), &JOURNAL)?;
+    opens(&rt, rt.alloc(), &mut folder)?;
+    Ok(())
+}
+
+fn damage(alloc: Global) -> Result<Vec<u8>, AllocError> {
     let mut line = Vec::from_slice(alloc, b"damaged ")?;
     line.extend_from_slice(FILE.as_bytes())?;
     line.extend_from_slice(b" 37\n")?;
-    assert_eq!(rt; sink.bytes(), line.as_slice());
-    assert_eq!(rt; image(alloc, &folder, 0)?.as_slice(), cut.as_slice());
+    Ok(line)
+}
 
-    // With a closed gate it is an empty wavelet.
+fn is_damaged(
+    rt: &impl Abort,
+    alloc: Global,
+    folder: &mut MemoryFolder,
+    line: &[u8],
+) -> Result<(), AllocError> {
+    let (status, sink) = served(alloc, &SESSION_IN, folder)?;
+    assert_eq!(rt; status, 6);
+    assert_eq!(rt; sink.bytes(), line);
+    Ok(())
+}
+
+fn damage_is_told(
+    rt: &impl Abort,
+    alloc: Global,
+    folder: &mut MemoryFolder,
+) -> Result<(), AllocError> {
+    let line = damage(alloc)?;
+    is_damaged(rt, alloc, folder, line.as_slice())?;
+    is_image(rt, alloc, folder, &JOURNAL[..100])
+}
+
+#[test]
+fn a_damaged_file_is_told(rt: HostRuntime) -> Result<(), Fail> {
+    let mut folder = stored(rt.alloc(), &JOURNAL[..100])?;
+    damage_is_told(&rt, rt.alloc(), &mut folder)?;
+    Ok(())
+}
+
+// The same bytes with a closed gate.
+fn closed(alloc: Global) -> Result<Vec<u8>, AllocError> {
+    let mut cut = Vec::from_slice(alloc, &JOURNAL[..100])?;
     if let Some(gate) = cut.get_mut(37) {
         *gate = 0;
     }
-    let mut folder = stored(alloc, cut.as_slice())?;
-    let (status, sink) = served(alloc, &SESSION_IN, &mut folder)?;
-    assert_eq!(rt; status, 0);
-    assert_eq!(rt; sink.bytes(), joined(alloc, &SESSION_OUT)?.as_slice());
+    Ok(cut)
+}
+
+#[test]
+fn behind_a_closed_gate_is_nothing(rt: HostRuntime) -> Result<(), Fail> {
+    let cut = closed(rt.alloc())?;
+    let mut folder = stored(rt.alloc(), cut.as_slice())?;
+    begins_wavelet(&rt, rt.alloc(), &mut folder)?;
     Ok(())
 }
 
@@ -119,53 +184,98 @@ fn begins(bytes: &[u8], front: &[u8]) -> bool {
     front.len() <= bytes.len() && &bytes[..front.len()] == front
 }
 
+fn is_acknowledged(
+    rt: &impl Abort,
+    alloc: Global,
+    folder: &mut MemoryFolder,
+) -> Result<(), AllocError> {
+    let acked = joined(alloc, &SESSION_OUT[..2])?;
+    serves(rt, alloc, &SESSION_IN[..2], folder, acked.as_slice())?;
+    is_image(rt, alloc, folder, &JOURNAL)
+}
+
+// Over what a crash leaves the same submission is acknowledged.
+fn image_serves(
+    rt: &impl Abort,
+    alloc: Global,
+    folder: &MemoryFolder,
+    choice: u64,
+) -> Result<(), AllocError> {
+    let left = image(alloc, folder, choice)?;
+    let mut after = stored(alloc, left.as_slice())?;
+    is_acknowledged(rt, alloc, &mut after)
+}
+
+fn images_serve(rt: &impl Abort, alloc: Global, folder: &MemoryFolder) -> Result<(), AllocError> {
+    for choice in 0..4u64 {
+        image_serves(rt, alloc, folder, choice)?;
+    }
+    Ok(())
+}
+
+// A run that a disk may end says the front of what it would say.
+fn may_end(
+    rt: &impl Abort,
+    alloc: Global,
+    folder: &mut MemoryFolder,
+    all: &[u8],
+) -> Result<(), AllocError> {
+    let (status, sink) = served(alloc, &SESSION_IN, folder)?;
+    assert!(rt; status == 0 || status == 5);
+    assert!(rt; begins(all, sink.bytes()));
+    assert_eq!(rt; status == 0, sink.bytes() == all);
+    Ok(())
+}
+
+fn loses_nothing(
+    rt: &impl Abort,
+    alloc: Global,
+    folder: &mut MemoryFolder,
+) -> Result<(), AllocError> {
+    let all = joined(alloc, &SESSION_OUT)?;
+    may_end(rt, alloc, folder, all.as_slice())?;
+    images_serve(rt, alloc, folder)
+}
+
+// A folder whose file's disk fails at this call, or from it on.
+fn failing(alloc: Global, call: u64, stops: bool) -> Result<MemoryFolder, AllocError> {
+    let (failing, stop) = if stops {
+        (Vec::new(alloc), Some(call))
+    } else {
+        (Vec::from_slice(alloc, &[call])?, None)
+    };
+    let disk = MemoryDisk::new(alloc, Vec::new(alloc), failing, stop);
+    one_file(alloc, FILE, disk)
+}
+
+fn fails_at(rt: &impl Abort, alloc: Global, call: u64, stops: bool) -> Result<(), AllocError> {
+    let mut folder = failing(alloc, call, stops)?;
+    loses_nothing(rt, alloc, &mut folder)
+}
+
 // The disk fails at each of its calls in turn, or from it on: whatever is left then is the wavelet before or after the submission, and
 // the same submission is acknowledged.
 #[test]
 fn a_disk_that_fails_loses_nothing(rt: HostRuntime) -> Result<(), Fail> {
-    let alloc = rt.alloc();
-    let all = joined(alloc, &SESSION_OUT)?;
-    let acked = joined(alloc, &SESSION_OUT[..2])?;
     for call in 0..14u64 {
-        for stops in [false, true] {
-            let (failing, stop) = if stops {
-                (Vec::new(alloc), Some(call))
-            } else {
-                (Vec::from_slice(alloc, &[call])?, None)
-            };
-            let mut folder = one_file(
-                alloc,
-                FILE,
-                MemoryDisk::new(alloc, Vec::new(alloc), failing, stop),
-            )?;
-            let (status, sink) = served(alloc, &SESSION_IN, &mut folder)?;
-            assert!(rt; status == 0 || status == 5);
-            assert!(rt; begins(all.as_slice(), sink.bytes()));
-            assert_eq!(rt; status == 0, sink.bytes() == all.as_slice());
-            for choice in 0..4u64 {
-                let left = image(alloc, &folder, choice)?;
-                let mut after = stored(alloc, left.as_slice())?;
-                let (status, sink) = served(alloc, &SESSION_IN[..2], &mut after)?;
-                assert_eq!(rt; status, 0);
-                assert_eq!(rt; sink.bytes(), acked.as_slice());
-                assert_eq!(rt; image(alloc, &after, 0)?.as_slice(), JOURNAL.as_slice());
-            }
-        }
+        fails_at(&rt, rt.alloc(), call, false)?;
+        fails_at(&rt, rt.alloc(), call, true)?;
     }
+    Ok(())
+}
+
+fn folder_fails_at(rt: &impl Abort, alloc: Global, call: u64) -> Result<(), AllocError> {
+    let failing = Vec::from_slice(alloc, &[call])?;
+    let mut folder = MemoryFolder::new(alloc, Vec::new(alloc), failing);
+    let (status, _) = served(alloc, &SESSION_IN, &mut folder)?;
+    assert_eq!(rt; status, 5);
     Ok(())
 }
 
 #[test]
 fn a_folder_that_fails_is_told(rt: HostRuntime) -> Result<(), Fail> {
-    let alloc = rt.alloc();
     for call in 0..3u64 {
-        let mut folder = MemoryFolder::new(
-            alloc,
-            Vec::new(alloc),
-            Vec::from_slice(alloc, &[call])?,
-        );
-        let (status, _) = served(alloc, &SESSION_IN, &mut folder)?;
-        assert_eq!(rt; status, 5);
+        folder_fails_at(&rt, rt.alloc(), call)?;
     }
     Ok(())
 }
