@@ -95,20 +95,29 @@ impl Work {
 
     /// The version that the history is at then, and how often the work was done.
     pub fn done(&self, alloc: Global, stored: Stored) -> Option<(u64, u32)> {
-        let mut container = stored.container;
         match *self {
-            Work::Head(count) | Work::Plain(count) => {
-                type_letters(alloc, &mut container, 0, count)?;
-                Some((container.history().head().version, count))
-            }
-            Work::Behind(_) => behind(alloc, &mut container),
-            Work::Open(_) => {
-                let disk = container.close()?;
-                let loaded = Container::load(alloc, name(alloc)?, disk).ok()?;
-                Some((loaded.history().head().version, 1))
-            }
+            Work::Head(count) | Work::Plain(count) => at_head(alloc, stored, count),
+            Work::Behind(_) => below_head(alloc, stored),
+            Work::Open(_) => opened(alloc, stored),
         }
     }
+}
+
+fn at_head(alloc: Global, stored: Stored, count: u32) -> Option<(u64, u32)> {
+    let mut container = stored.container;
+    type_letters(alloc, &mut container, 0, count)?;
+    Some((container.history().head().version, count))
+}
+
+fn below_head(alloc: Global, stored: Stored) -> Option<(u64, u32)> {
+    let mut container = stored.container;
+    behind(alloc, &mut container)
+}
+
+fn opened(alloc: Global, stored: Stored) -> Option<(u64, u32)> {
+    let disk = stored.container.close()?;
+    let loaded = Container::load(alloc, name(alloc)?, disk).ok()?;
+    Some((loaded.history().head().version, 1))
 }
 
 // Submissions that were made behind the first delta.
@@ -121,19 +130,31 @@ fn behind(alloc: Global, container: &mut Container<MemoryDisk>) -> Option<(u64, 
     Some((container.history().head().version, TIMES))
 }
 
+fn on_disk(alloc: Global) -> Option<Container<MemoryDisk>> {
+    let name = name(alloc)?;
+    let disk = MemoryDisk::new(alloc, Vec::new(alloc), Vec::new(alloc), None);
+    Container::start(alloc, name, disk).ok()
+}
+
+fn begun(alloc: Global, work: &Work) -> Option<Container<MemoryDisk>> {
+    match work {
+        Work::Plain(_) => Some(Container::new(alloc, name(alloc)?)),
+        _ => on_disk(alloc),
+    }
+}
+
+// Alice, and the deltas before the work.
+fn fill(alloc: Global, container: &mut Container<MemoryDisk>, work: &Work) -> Option<()> {
+    let start = container.history().head();
+    submit(alloc, container, 0, start, "add alice@a.com")?;
+    type_letters(alloc, container, 0, work.before())
+}
+
 impl Stored {
     /// The history that the work is done on.
     pub fn made(alloc: Global, work: &Work) -> Option<Stored> {
-        let mut container = match work {
-            Work::Plain(_) => Container::new(alloc, name(alloc)?),
-            _ => {
-                let disk = MemoryDisk::new(alloc, Vec::new(alloc), Vec::new(alloc), None);
-                Container::start(alloc, name(alloc)?, disk).ok()?
-            }
-        };
-        let start = container.history().head();
-        submit(alloc, &mut container, 0, start, "add alice@a.com")?;
-        type_letters(alloc, &mut container, 0, work.before())?;
+        let mut container = begun(alloc, work)?;
+        fill(alloc, &mut container, work)?;
         Some(Stored { container })
     }
 }

@@ -11,6 +11,7 @@ use doc_op::DocOp;
 use op_validity::apply;
 use op_words::{operation, shown};
 use std::alloc::Global;
+use std::process::Abort;
 use std::test::Fail;
 
 // A blip with one reply, of 8 items.
@@ -90,7 +91,9 @@ fn outcome(alloc: Global, words: &str, edit: Edit) -> Result<(String, String), F
     }
 }
 
-const EDITS: [(&str, Edit, &str, &str); 8] = [
+type Row = (&'static str, Edit, &'static str, &'static str);
+
+const EDITS: [Row; 8] = [
     (
         "",
         Edit::Next("", "b+1"),
@@ -141,7 +144,7 @@ const EDITS: [(&str, Edit, &str, &str); 8] = [
     ),
 ];
 
-const REFUSALS: [(&str, Edit, &str, &str); 11] = [
+const REFUSALS: [Row; 11] = [
     ("", Edit::Delete("b+9"), "no blip", "b+9"),
     (REPLIED, Edit::Delete("t1"), "no blip", "t1"),
     (REPLIED, Edit::Reply("b+9", "t1", "b+1"), "no blip", "b+9"),
@@ -155,22 +158,27 @@ const REFUSALS: [(&str, Edit, &str, &str); 11] = [
     (REPLIED, Edit::Next("", "b+2"), "taken", "b+2"),
 ];
 
+// The edit comes to these words: the operation and the tree, or why it is refused and the id.
+fn comes_to(rt: &impl Abort, alloc: Global, row: &Row) -> Result<(), Fail> {
+    let (words, edit, first, second) = *row;
+    let (found, more) = outcome(alloc, words, edit)?;
+    assert!(rt; found.as_str() == first, "{words}: {found}");
+    assert!(rt; more.as_str() == second, "{words}: {more}");
+    Ok(())
+}
+
 #[test]
 fn edits_are_made(rt: HostRuntime) -> Result<(), Fail> {
-    for (words, edit, want_op, want_tree) in EDITS {
-        let (op, tree) = outcome(rt.alloc(), words, edit)?;
-        assert!(rt; op.as_str() == want_op, "{words}: {op}");
-        assert!(rt; tree.as_str() == want_tree, "{words}: {tree}");
+    for row in EDITS.as_slice() {
+        comes_to(&rt, rt.alloc(), row)?;
     }
     Ok(())
 }
 
 #[test]
 fn edits_are_refused(rt: HostRuntime) -> Result<(), Fail> {
-    for (words, edit, want_cause, want_id) in REFUSALS {
-        let (cause, id) = outcome(rt.alloc(), words, edit)?;
-        assert!(rt; cause.as_str() == want_cause, "{words}: {cause}");
-        assert!(rt; id.as_str() == want_id, "{words}: {id}");
+    for row in REFUSALS.as_slice() {
+        comes_to(&rt, rt.alloc(), row)?;
     }
     Ok(())
 }

@@ -1,15 +1,37 @@
 use crate::scene::Scene;
+use std::alloc::Global;
 use std::process::Abort;
 use std::test::Fail;
 
-// Each command gives these words.
-fn plays(rt: &impl Abort, alloc: std::alloc::Global, rows: &[(&str, &str)]) -> Result<(), Fail> {
-    let mut scene = Scene::new(alloc)?;
-    for (command, want) in rows {
-        let found = scene.answer(rt, alloc, command)?;
-        assert_eq!(rt; found.as_str(), *want);
+// The command gives these words.
+fn gives(
+    rt: &impl Abort,
+    alloc: Global,
+    scene: &mut Scene,
+    row: &(&str, &str),
+) -> Result<(), Fail> {
+    let (command, want) = *row;
+    let found = scene.answer(rt, alloc, command)?;
+    assert_eq!(rt; found.as_str(), want, "{command}");
+    Ok(())
+}
+
+fn play(
+    rt: &impl Abort,
+    alloc: Global,
+    scene: &mut Scene,
+    rows: &[(&str, &str)],
+) -> Result<(), Fail> {
+    for row in rows {
+        gives(rt, alloc, scene, row)?;
     }
     Ok(())
+}
+
+// Each command, in turn, gives these words.
+fn plays(rt: &impl Abort, alloc: Global, rows: &[(&str, &str)]) -> Result<(), Fail> {
+    let mut scene = Scene::new(alloc)?;
+    play(rt, alloc, &mut scene, rows)
 }
 
 // A flight and an edit behind it, with another's delta between: the deltas are given out of order, and one twice.

@@ -93,18 +93,43 @@ fn a_line_is_written_as_it_was_read(rt: HostRuntime) -> Result<(), Fail> {
     Ok(())
 }
 
+// A line that is read, with blanks behind it up to a length.
+fn filled(alloc: Global, length: usize) -> Result<Vec<u8>, Memory> {
+    let mut line = Vec::from_slice(alloc, LINE.as_bytes())?;
+    for _ in line.len()..length {
+        line.push(b' ')?;
+    }
+    Ok(line)
+}
+
+fn is_read(alloc: Global, bytes: &[u8]) -> bool {
+    read_line(alloc, bytes).is_ok()
+}
+
+fn is_taken(alloc: Global, length: usize) -> Result<bool, Memory> {
+    let line = filled(alloc, length)?;
+    Ok(is_read(alloc, line.as_slice()))
+}
+
+fn is_too_long(alloc: Global, length: usize) -> Result<bool, Memory> {
+    let line = filled(alloc, length)?;
+    Ok(is_refused(alloc, line.as_slice(), "", Kind::TooLong))
+}
+
 #[test]
 fn lines_are_refused_to_their_session(rt: HostRuntime) -> Result<(), Fail> {
-    let alloc = rt.alloc();
-    for (session, kind, what, text) in REFUSED {
-        assert!(rt; is_refused(alloc, text.as_bytes(), session, kind), "{what}");
+    for (session, kind, what, text) in REFUSED.as_slice() {
+        assert!(rt;
+            is_refused(rt.alloc(), text.as_bytes(), session, *kind),
+            "{what}"
+        );
     }
-    let mut long = Vec::from_slice(alloc, LINE.as_bytes())?;
-    for _ in long.len()..1_048_576 {
-        long.push(b' ')?;
-    }
-    assert!(rt; read_line(alloc, long.as_slice()).is_ok());
-    long.push(b' ')?;
-    assert!(rt; is_refused(alloc, long.as_slice(), "", Kind::TooLong));
+    Ok(())
+}
+
+#[test]
+fn the_limit_of_a_line_counts_bytes(rt: HostRuntime) -> Result<(), Fail> {
+    assert!(rt; is_taken(rt.alloc(), 1_048_576)?);
+    assert!(rt; is_too_long(rt.alloc(), 1_048_577)?);
     Ok(())
 }

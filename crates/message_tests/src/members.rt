@@ -103,7 +103,7 @@ fn are_bound(alloc: Global, text: &str) -> Result<bool, Fail> {
 #[test]
 fn each_member_is_needed(rt: HostRuntime) -> Result<(), Fail> {
     let alloc = rt.alloc();
-    for (what, text) in MESSAGES {
+    for (what, text) in MESSAGES.as_slice() {
         assert!(rt; are_needed(alloc, text)?, "{what}");
     }
     Ok(())
@@ -112,7 +112,7 @@ fn each_member_is_needed(rt: HostRuntime) -> Result<(), Fail> {
 #[test]
 fn no_other_value_is_read(rt: HostRuntime) -> Result<(), Fail> {
     let alloc = rt.alloc();
-    for (what, text) in MESSAGES {
+    for (what, text) in MESSAGES.as_slice() {
         assert!(rt; are_bound(alloc, text)?, "{what}");
     }
     Ok(())

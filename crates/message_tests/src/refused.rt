@@ -305,6 +305,10 @@ pub fn is_refused(alloc: Global, bytes: &[u8], limit: u64, kind: Kind) -> bool {
     }
 }
 
+fn is_read(alloc: Global, bytes: &[u8]) -> bool {
+    read(alloc, bytes, MAX_CLIENT).is_ok()
+}
+
 // A submission of this many operations, written with blanks behind it up to a length.
 fn submission(alloc: Global, kind: &str, ops: usize, length: usize) -> Result<Vec<u8>, Memory> {
     let mut text = Vec::new(alloc);
@@ -326,12 +330,29 @@ fn submission(alloc: Global, kind: &str, ops: usize, length: usize) -> Result<Ve
     Ok(text)
 }
 
+// Whether a submission of this many operations and bytes is read.
+fn is_taken(alloc: Global, ops: usize, length: usize) -> Result<bool, Memory> {
+    let bytes = submission(alloc, "submit", ops, length)?;
+    Ok(is_read(alloc, bytes.as_slice()))
+}
+
+fn is_refused_at(
+    alloc: Global,
+    kind: &str,
+    ops: usize,
+    length: usize,
+    why: Kind,
+) -> Result<bool, Memory> {
+    let bytes = submission(alloc, kind, ops, length)?;
+    Ok(is_refused(alloc, bytes.as_slice(), MAX_CLIENT, why))
+}
+
 #[test]
 fn bytes_are_refused_for_their_reason(rt: HostRuntime) -> Result<(), Fail> {
     let alloc = rt.alloc();
-    for (kind, what, text) in REFUSED {
+    for (kind, what, text) in REFUSED.as_slice() {
         assert!(rt;
-            is_refused(alloc, text.as_bytes(), MAX_CLIENT, kind),
+            is_refused(alloc, text.as_bytes(), MAX_CLIENT, *kind),
             "{what}"
         );
     }
@@ -342,23 +363,23 @@ fn bytes_are_refused_for_their_reason(rt: HostRuntime) -> Result<(), Fail> {
 #[test]
 fn the_limit_counts_bytes(rt: HostRuntime) -> Result<(), Fail> {
     let alloc = rt.alloc();
-    let whole = submission(alloc, "submit", 1, 1_048_576)?;
-    assert!(rt; read(alloc, whole.as_slice(), MAX_CLIENT).is_ok());
-    let long = submission(alloc, "submit", 1, 1_048_577)?;
-    assert!(rt; is_refused(alloc, long.as_slice(), MAX_CLIENT, Kind::TooLong));
+    assert!(rt; is_taken(alloc, 1, 1_048_576)?);
+    assert!(rt; is_refused_at(alloc, "submit", 1, 1_048_577, Kind::TooLong)?);
     Ok(())
 }
+
+const MORE: [(&str, Kind); 3] = [
+    ("submit", Kind::TooMany),
+    ("relay", Kind::TooMany),
+    ("update", Kind::NotMessage),
+];
 
 #[test]
 fn a_thousand_operations_are_taken(rt: HostRuntime) -> Result<(), Fail> {
     let alloc = rt.alloc();
-    let most = submission(alloc, "submit", 1000, 0)?;
-    assert!(rt; read(alloc, most.as_slice(), MAX_CLIENT).is_ok());
-    for kind in ["submit", "relay"] {
-        let more = submission(alloc, kind, 1001, 0)?;
-        assert!(rt; is_refused(alloc, more.as_slice(), MAX_CLIENT, Kind::TooMany));
+    assert!(rt; is_taken(alloc, 1000, 0)?);
+    for (kind, why) in MORE.as_slice() {
+        assert!(rt; is_refused_at(alloc, kind, 1001, 0, *why)?, "{kind}");
     }
-    let other = submission(alloc, "update", 1001, 0)?;
-    assert!(rt; is_refused(alloc, other.as_slice(), MAX_CLIENT, Kind::NotMessage));
     Ok(())
 }

@@ -202,7 +202,7 @@ fn is_written(alloc: Global, text: &str, written: &str) -> Result<bool, Memory> 
 #[test]
 fn each_message_is_written_as_it_was_read(rt: HostRuntime) -> Result<(), Fail> {
     let alloc = rt.alloc();
-    for (what, text) in MESSAGES {
+    for (what, text) in MESSAGES.as_slice() {
         assert!(rt; is_written(alloc, text, text)?, "{what}");
     }
     Ok(())
@@ -211,7 +211,7 @@ fn each_message_is_written_as_it_was_read(rt: HostRuntime) -> Result<(), Fail> {
 #[test]
 fn other_spellings_are_written_as_the_one(rt: HostRuntime) -> Result<(), Fail> {
     let alloc = rt.alloc();
-    for (what, text, written) in SPELLINGS {
+    for (what, text, written) in SPELLINGS.as_slice() {
         assert!(rt; is_written(alloc, text, written)?, "{what}");
     }
     Ok(())

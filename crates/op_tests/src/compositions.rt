@@ -1,14 +1,23 @@
 // Operations stand here as words of `op_words`.
+use doc_op::DocOp;
 use op_compose::{ComposeFault, compose};
 use op_words::{operation, shown};
 use std::alloc::Global;
+use std::process::Abort;
 use std::test::Fail;
 
-// The composition of two operations, as words.
-fn composed(alloc: Global, first: &str, second: &str) -> Result<String, Fail> {
-    let first = operation(alloc, first)?;
-    let second = operation(alloc, second)?;
-    Ok(shown(alloc, &compose(alloc, &first, &second)?)?)
+fn shown_both(alloc: Global, first: &DocOp, second: &DocOp) -> Result<String, Fail> {
+    let both = compose(alloc, first, second)?;
+    Ok(shown(alloc, &both)?)
+}
+
+// Whether the composition of two operations is this one.
+fn is_composed(rt: &impl Abort, alloc: Global, row: &(&str, &str, &str)) -> Result<(), Fail> {
+    let first = operation(alloc, row.0)?;
+    let second = operation(alloc, row.1)?;
+    let both = shown_both(alloc, &first, &second)?;
+    assert_eq!(rt; both.as_str(), row.2);
+    Ok(())
 }
 
 // A document and an operation on it, each as the operation that makes it, computed by another program.
@@ -28,8 +37,8 @@ fn documents_change(rt: HostRuntime) -> Result<(), Fail> {
         ("+x", "/b=_:1 +zöy /!b 1", "/b=_:1 +zöy /!b +x"),
         ("1 /b=_:_ 1 /!b 1", "-𝄞 2", "-𝄞 /b=_:_ 1 /!b 1"),
     ];
-    for (first, second, expected) in table {
-        assert_eq!(rt; composed(rt.alloc(), first, second)?.as_str(), expected);
+    for row in table.as_slice() {
+        is_composed(&rt, rt.alloc(), row)?;
     }
     Ok(())
 }
@@ -49,16 +58,21 @@ fn changes_join(rt: HostRuntime) -> Result<(), Fail> {
         ("~a=1:2 1", "-<p,a=2 ->", "-<p,a=1 ->"),
         ("<p,a=1 +a >", "-<p,a=1 -a ->", ""),
     ];
-    for (first, second, expected) in table {
-        assert_eq!(rt; composed(rt.alloc(), first, second)?.as_str(), expected);
+    for row in table.as_slice() {
+        is_composed(&rt, rt.alloc(), row)?;
     }
     Ok(())
+}
+
+fn fault(alloc: Global, first: &str, second: &str) -> Result<Option<ComposeFault>, Fail> {
+    let first = operation(alloc, first)?;
+    let second = operation(alloc, second)?;
+    Ok(compose(alloc, &first, &second).err())
 }
 
 // Two operations, and why they have no composition.
 #[test]
 fn refusals(rt: HostRuntime) -> Result<(), Fail> {
-    let alloc = rt.alloc();
     let table = [
         ("1 -b 1", "3", ComposeFault::DontFit(2)),
         ("1 +ab", "1 -ac", ComposeFault::DontFit(2)),
@@ -69,10 +83,8 @@ fn refusals(rt: HostRuntime) -> Result<(), Fail> {
             ComposeFault::CountTooLarge,
         ),
     ];
-    for (first, second, fault) in table {
-        let first = operation(alloc, first)?;
-        let second = operation(alloc, second)?;
-        assert_eq!(rt; compose(alloc, &first, &second).err(), Some(fault));
+    for (first, second, why) in table.as_slice() {
+        assert_eq!(rt; fault(rt.alloc(), first, second)?, Some(*why));
     }
     Ok(())
 }

@@ -1,7 +1,9 @@
 // JSON in, and the same operation as JSON out.
+use doc_op::DocOp;
 use op_json::{JsonFault, from_value, to_value};
 use serde_json::Value;
-use std::alloc::Global;
+use std::alloc::{AllocError, Global};
+use std::process::Abort;
 use std::test::Fail;
 
 // Operations as they may come, and as they are written.
@@ -108,41 +110,55 @@ const REFUSED: [(&str, u64); 32] = [
     (r#"[{"annotation_boundary":{"end":[],"change":[]}}]"#, 0),
 ];
 
+fn written(alloc: Global, op: &DocOp) -> Result<Vec<u8>, Fail> {
+    let value = to_value(alloc, op)?;
+    Ok(value.to_vec(alloc)?)
+}
+
 // The index of the element at fault, or the operation as it is written.
+fn again(alloc: Global, value: &Value) -> Result<Result<Vec<u8>, u64>, Fail> {
+    match from_value(alloc, value) {
+        Ok(op) => Ok(Ok(written(alloc, &op)?)),
+        Err(JsonFault::BadField(index)) => Ok(Err(index)),
+        Err(JsonFault::Memory) => Err(Fail::from(AllocError)),
+    }
+}
+
 fn read(alloc: Global, text: &str) -> Result<Result<Vec<u8>, u64>, Fail> {
     let value = Value::from_slice(alloc, text.as_bytes())?;
-    match from_value(alloc, &value) {
-        Ok(op) => Ok(Ok(to_value(alloc, &op)?.to_vec(alloc)?)),
-        Err(JsonFault::BadField(index)) => Ok(Err(index)),
-        Err(JsonFault::Memory) => Err(Fail::from(std::alloc::AllocError)),
+    again(alloc, &value)
+}
+
+fn is_written(rt: &impl Abort, alloc: Global, text: &str, want: &str) -> Result<(), Fail> {
+    match read(alloc, text)? {
+        Ok(bytes) => assert_eq!(rt; bytes.as_slice(), want.as_bytes()),
+        Err(_) => assert!(rt; false, "{text}"),
     }
+    Ok(())
 }
 
 #[test]
 fn an_operation_is_read_and_written(rt: HostRuntime) -> Result<(), Fail> {
-    let alloc = rt.alloc();
-    for (text, written) in READ.as_slice() {
-        match read(alloc, text)? {
-            Ok(bytes) => assert_eq!(rt; bytes.as_slice(), written.as_bytes()),
-            Err(_) => assert!(rt; false),
-        }
+    for (text, want) in READ.as_slice() {
+        is_written(&rt, rt.alloc(), text, want)?;
         // What is written reads as what gives the same again.
-        match read(alloc, written)? {
-            Ok(bytes) => assert_eq!(rt; bytes.as_slice(), written.as_bytes()),
-            Err(_) => assert!(rt; false),
-        }
+        is_written(&rt, rt.alloc(), want, want)?;
+    }
+    Ok(())
+}
+
+fn is_refused(rt: &impl Abort, alloc: Global, text: &str, index: u64) -> Result<(), Fail> {
+    match read(alloc, text)? {
+        Ok(_) => assert!(rt; false, "{text}"),
+        Err(found) => assert_eq!(rt; found, index, "{text}"),
     }
     Ok(())
 }
 
 #[test]
 fn what_is_outside_the_table_is_refused_at_its_index(rt: HostRuntime) -> Result<(), Fail> {
-    let alloc = rt.alloc();
     for (text, index) in REFUSED.as_slice() {
-        match read(alloc, text)? {
-            Ok(_) => assert!(rt; false),
-            Err(found) => assert_eq!(rt; found, *index),
-        }
+        is_refused(&rt, rt.alloc(), text, *index)?;
     }
     Ok(())
 }

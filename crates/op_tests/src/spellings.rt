@@ -3,6 +3,7 @@ use doc_items::{Boundary, Change, Changes, Keys, Memory, Text};
 use doc_op::{Builder, Component, DocOp, OpFault};
 use op_codec::{CodecFault, ReadOp, read, spelling_len, write};
 use std::alloc::Global;
+use std::process::Abort;
 use std::test::Fail;
 
 // Spellings that two independent programs computed; the first six by hand.
@@ -63,21 +64,44 @@ fn is_behind(out: &[u8], bytes: &[u8]) -> bool {
     }
 }
 
+fn is_spelled(rt: &impl Abort, alloc: Global, op: &DocOp, bytes: &[u8]) -> Result<(), Fail> {
+    assert_eq!(rt; spelling_len(alloc, op)?, bytes.len() as u64);
+    let out = written(alloc, op)?;
+    assert!(rt; is_behind(out.as_slice(), bytes));
+    Ok(())
+}
+
+// Whether the first bytes begin with the others, as the spelling of an operation.
+fn is_read(rt: &impl Abort, alloc: Global, more: &[u8], bytes: &[u8]) -> Result<(), Fail> {
+    let Ok(ReadOp { op, used }) = read(alloc, more) else {
+        return Err("these bytes spell an operation".into());
+    };
+    assert_eq!(rt; used, bytes.len() as u64);
+    is_spelled(rt, alloc, &op, bytes)
+}
+
+// The bytes with one more behind them.
+fn followed(alloc: Global, bytes: &[u8]) -> Result<Vec<u8>, Memory> {
+    let mut more = Vec::new(alloc);
+    more.extend_from_slice(bytes)?;
+    more.push(1)?;
+    Ok(more)
+}
+
+fn is_read_back(rt: &impl Abort, alloc: Global, bytes: &[u8]) -> Result<(), Fail> {
+    let more = followed(alloc, bytes)?;
+    is_read(rt, alloc, more.as_slice(), bytes)
+}
+
+fn spells(rt: &impl Abort, alloc: Global, hex: &str) -> Result<(), Fail> {
+    let bytes = bytes_of(alloc, hex)?;
+    is_read_back(rt, alloc, bytes.as_slice())
+}
+
 #[test]
 fn what_is_read_is_written_again(rt: HostRuntime) -> Result<(), Fail> {
-    let alloc = rt.alloc();
-    for hex in SPELLINGS {
-        let mut bytes = bytes_of(alloc, hex)?;
-        let len = bytes.len() as u64;
-        bytes.push(1)?;
-        let Ok(ReadOp { op, used }) = read(alloc, bytes.as_slice()) else {
-            return Err("these bytes spell an operation".into());
-        };
-        assert_eq!(rt; used, len);
-        assert_eq!(rt; spelling_len(alloc, &op)?, len);
-        let out = written(alloc, &op)?;
-        let _last = bytes.pop();
-        assert!(rt; is_behind(out.as_slice(), bytes.as_slice()));
+    for hex in SPELLINGS.as_slice() {
+        spells(&rt, rt.alloc(), hex)?;
     }
     Ok(())
 }
@@ -142,12 +166,15 @@ fn is_refused(alloc: Global, bytes: &[u8]) -> bool {
     }
 }
 
+fn spells_nothing(alloc: Global, hex: &str) -> Result<bool, Memory> {
+    let bytes = bytes_of(alloc, hex)?;
+    Ok(is_refused(alloc, bytes.as_slice()))
+}
+
 #[test]
 fn other_bytes_are_refused(rt: HostRuntime) -> Result<(), Fail> {
-    let alloc = rt.alloc();
-    for (_why, hex) in REFUSED {
-        let bytes = bytes_of(alloc, hex)?;
-        assert!(rt; is_refused(alloc, bytes.as_slice()));
+    for (why, hex) in REFUSED.as_slice() {
+        assert!(rt; spells_nothing(rt.alloc(), hex)?, "{why}");
     }
     Ok(())
 }
@@ -231,28 +258,41 @@ fn bold(alloc: Global) -> Result<Changes, Memory> {
     Ok(Changes::from_vec(list))
 }
 
+fn begins_bold(alloc: Global) -> Result<Component, Memory> {
+    let change = bold(alloc)?;
+    let end = Keys::from_vec(Vec::new(alloc));
+    Ok(Component::AnnotationBoundary(Boundary { end, change }))
+}
+
+fn ends_bold(alloc: Global) -> Result<Component, Memory> {
+    let end = key(alloc, "k")?;
+    let change = Changes::from_vec(Vec::new(alloc));
+    Ok(Component::AnnotationBoundary(Boundary { end, change }))
+}
+
+fn characters(alloc: Global, text: &str) -> Result<Component, Memory> {
+    Ok(Component::Characters(Text::from_str(alloc, text)?))
+}
+
+fn add_all(alloc: Global, builder: &mut Builder) -> Result<(), OpFault> {
+    builder.add(alloc, Component::Retain(1))?;
+    builder.add(alloc, begins_bold(alloc)?)?;
+    builder.add(alloc, begins_bold(alloc)?)?;
+    builder.add(alloc, characters(alloc, "x")?)?;
+    builder.add(alloc, ends_bold(alloc)?)
+}
+
 // The operation of `ONE`, with its retained item and its text told otherwise.
 fn another(alloc: Global) -> Result<DocOp, OpFault> {
     let mut builder = Builder::new(alloc);
-    let none = Changes::from_vec(Vec::new(alloc));
-    let first = Boundary {
-        end: Keys::from_vec(Vec::new(alloc)),
-        change: bold(alloc)?,
-    };
-    let again = Boundary {
-        end: Keys::from_vec(Vec::new(alloc)),
-        change: bold(alloc)?,
-    };
-    let last = Boundary {
-        end: key(alloc, "k")?,
-        change: none,
-    };
-    builder.add(alloc, Component::Retain(1))?;
-    builder.add(alloc, Component::AnnotationBoundary(first))?;
-    builder.add(alloc, Component::AnnotationBoundary(again))?;
-    builder.add(alloc, Component::Characters(Text::from_str(alloc, "x")?))?;
-    builder.add(alloc, Component::AnnotationBoundary(last))?;
+    add_all(alloc, &mut builder)?;
     Ok(builder.finish())
+}
+
+fn is_one(rt: &impl Abort, alloc: Global, out: &[u8]) -> Result<(), Fail> {
+    let bytes = bytes_of(alloc, ONE)?;
+    assert!(rt; is_behind(out, bytes.as_slice()));
+    Ok(())
 }
 
 #[test]
@@ -262,7 +302,5 @@ fn the_spelling_is_that_of_the_normal_form(rt: HostRuntime) -> Result<(), Fail> 
         return Err("the builder takes these components".into());
     };
     let out = written(alloc, &op)?;
-    let bytes = bytes_of(alloc, ONE)?;
-    assert!(rt; is_behind(out.as_slice(), bytes.as_slice()));
-    Ok(())
+    is_one(&rt, alloc, out.as_slice())
 }

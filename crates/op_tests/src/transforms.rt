@@ -29,7 +29,6 @@ fn after_both(alloc: Global, start: &str, first: &DocOp, second: &DocOp) -> Resu
     Ok(shown_document(alloc, &document)?)
 }
 
-// The document, the later and the earlier operation, both results, and the document both ways round.
 // Two operations past each other.
 fn past(
     rt: &impl Abort,
@@ -92,6 +91,35 @@ fn ends(
     both_ends(rt, alloc, start, &later, &earlier)
 }
 
+fn end_in(
+    rt: &impl Abort,
+    alloc: Global,
+    start: &str,
+    later: &str,
+    earlier: &str,
+    want: &str,
+) -> Result<(), Fail> {
+    let (one_way, other_way) = ends(rt, alloc, start, later, earlier)?;
+    assert_eq!(rt; one_way.as_str(), want);
+    assert_eq!(rt; other_way.as_str(), want);
+    Ok(())
+}
+
+// The later and the earlier operation past each other are these.
+fn are_past(
+    rt: &impl Abort,
+    alloc: Global,
+    later: &str,
+    earlier: &str,
+    want: (&str, &str),
+) -> Result<(), Fail> {
+    let (later, earlier) = shown_past(rt, alloc, later, earlier)?;
+    assert_eq!(rt; later.as_str(), want.0);
+    assert_eq!(rt; earlier.as_str(), want.1);
+    Ok(())
+}
+
+// The document, the later and the earlier operation, both results, and the document both ways round.
 #[test]
 fn worked_rows(rt: HostRuntime) -> Result<(), Fail> {
     let alloc = rt.alloc();
@@ -126,13 +154,9 @@ fn worked_rows(rt: HostRuntime) -> Result<(), Fail> {
         ("+xyz", "1 -yz", "-xy 1", "-z", "-x", ""),
         ("+ab", "1 +X 1", "-ab", "+X", "-a 1 -b", "X"),
     ];
-    for (start, later, earlier, later_want, earlier_want, end) in rows {
-        let (one_way, other_way) = ends(&rt, alloc, start, later, earlier)?;
-        assert_eq!(rt; one_way.as_str(), end);
-        assert_eq!(rt; other_way.as_str(), end);
-        let (later, earlier) = shown_past(&rt, alloc, later, earlier)?;
-        assert_eq!(rt; later.as_str(), later_want);
-        assert_eq!(rt; earlier.as_str(), earlier_want);
+    for (start, later, earlier, later_want, earlier_want, end) in rows.as_slice() {
+        end_in(&rt, alloc, start, later, earlier, end)?;
+        are_past(&rt, alloc, later, earlier, (later_want, earlier_want))?;
     }
     Ok(())
 }
@@ -155,12 +179,19 @@ fn further_rows(rt: HostRuntime) -> Result<(), Fail> {
         ("2 /é=_:_ 1 /!é 1 -y", "5", "2 /é=_:_ 1 /!é 1 -y", "4"),
         ("/a=_:1,b=_:2 1 /!a,!b", "1", "/a=_:1,b=_:2 1 /!a,!b", "1"),
     ];
-    for (later, earlier, later_want, earlier_want) in rows {
-        let (later, earlier) = shown_past(&rt, alloc, later, earlier)?;
-        assert_eq!(rt; later.as_str(), later_want);
-        assert_eq!(rt; earlier.as_str(), earlier_want);
+    for (later, earlier, later_want, earlier_want) in rows.as_slice() {
+        are_past(&rt, alloc, later, earlier, (later_want, earlier_want))?;
     }
     Ok(())
+}
+
+fn fault(
+    rt: &impl Abort,
+    alloc: Global,
+    later: &str,
+    earlier: &str,
+) -> Result<Option<TransformFault>, Fail> {
+    Ok(past(rt, alloc, later, earlier)?.err())
 }
 
 // The later and the earlier operation, and why they have no transform.
@@ -183,16 +214,15 @@ fn refusals(rt: HostRuntime) -> Result<(), Fail> {
             TransformFault::CountTooLarge,
         ),
     ];
-    for (later, earlier, want) in rows {
-        assert_eq!(rt; past(&rt, alloc, later, earlier)?.err(), Some(want));
+    for (later, earlier, want) in rows.as_slice() {
+        assert_eq!(rt; fault(&rt, alloc, later, earlier)?, Some(*want));
     }
     Ok(())
 }
 
 #[test]
 fn a_document_may_become_of_the_greatest_length(rt: HostRuntime) -> Result<(), Fail> {
-    let later = "9007199254740990";
-    let (later, _) = shown_past(&rt, rt.alloc(), later, "+a 9007199254740990")?;
-    assert_eq!(rt; later.as_str(), "9007199254740991");
-    Ok(())
+    let rest = "9007199254740990";
+    let typed = "+a 9007199254740990";
+    are_past(&rt, rt.alloc(), rest, typed, ("9007199254740991", typed))
 }

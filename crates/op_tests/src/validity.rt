@@ -14,8 +14,6 @@ fn document(alloc: Global, words: &str) -> Result<Document, Fail> {
     Ok(document)
 }
 
-// A document as the operation that makes it, an operation, and the document afterwards; the first five were computed by another
-// program.
 fn pieces(alloc: Global, words: &str) -> Result<Rope, Fail> {
     Ok(Rope::from_list(alloc, document(alloc, words)?)?)
 }
@@ -54,6 +52,15 @@ fn both_after(alloc: Global, start: &str, op: &str) -> Result<(String, String), 
     Ok((list, pieces_after(alloc, start, &op)?))
 }
 
+fn becomes(rt: &impl Abort, alloc: Global, row: &(&str, &str, &str)) -> Result<(), Fail> {
+    let (list, pieces) = both_after(alloc, row.0, row.1)?;
+    assert_eq!(rt; list.as_str(), row.2);
+    assert_eq!(rt; pieces.as_str(), row.2);
+    Ok(())
+}
+
+// A document as the operation that makes it, an operation, and the document afterwards; the first five were computed by another
+// program.
 #[test]
 fn documents_change(rt: HostRuntime) -> Result<(), Fail> {
     let alloc = rt.alloc();
@@ -74,15 +81,12 @@ fn documents_change(rt: HostRuntime) -> Result<(), Fail> {
             "x,b=1,d=1x,a=2,b=1,c=2,d=1,e=2x,b=3,c=2,e=2x,é=4x",
         ),
     ];
-    for (start, op, want) in rows {
-        let (list, pieces) = both_after(alloc, start, op)?;
-        assert_eq!(rt; list.as_str(), want);
-        assert_eq!(rt; pieces.as_str(), want);
+    for row in rows.as_slice() {
+        becomes(&rt, alloc, row)?;
     }
     Ok(())
 }
 
-// A document as the operation that makes it, an operation, and why it is refused.
 fn list_stays(
     rt: &impl Abort,
     alloc: Global,
@@ -146,6 +150,7 @@ fn refuses_both(
     refuses_pieces(rt, alloc, start, &op, want)
 }
 
+// A document as the operation that makes it, an operation, and why it is refused.
 #[test]
 fn documents_stay(rt: HostRuntime) -> Result<(), Fail> {
     let alloc = rt.alloc();
@@ -162,8 +167,8 @@ fn documents_stay(rt: HostRuntime) -> Result<(), Fail> {
         ("<p,a=3 >", "3", CheckFault::WrongLength),
         ("<p,a=3 >", "1", CheckFault::WrongLength),
     ];
-    for (start, op, want) in rows {
-        refuses_both(&rt, alloc, start, op, want)?;
+    for (start, op, want) in rows.as_slice() {
+        refuses_both(&rt, alloc, start, op, *want)?;
     }
     Ok(())
 }
@@ -177,12 +182,17 @@ fn letters(alloc: Global, count: u32) -> Result<String, Fail> {
     Ok(words)
 }
 
+fn is_same(rt: &impl Abort, alloc: Global, start: &str, op: &str) -> Result<(), Fail> {
+    let (list, pieces) = both_after(alloc, start, op)?;
+    assert_eq!(rt; pieces, list);
+    Ok(())
+}
+
 // Edits at places where pieces meet, which they do at 76 and 588: a letter is deleted behind two new ones, and the annotations of
 // the two behind it change.
 #[test]
 fn edits_go_across_pieces(rt: HostRuntime) -> Result<(), Fail> {
-    let alloc = rt.alloc();
-    let start = letters(alloc, 1100)?;
+    let start = letters(rt.alloc(), 1100)?;
     for op in [
         "1 +xy -a /b=_:1 2 /!b 1096",
         "74 +xy -a /b=_:1 2 /!b 1023",
@@ -192,8 +202,7 @@ fn edits_go_across_pieces(rt: HostRuntime) -> Result<(), Fail> {
         "588 +xy -a /b=_:1 2 /!b 509",
         "1096 +xy -a /b=_:1 2 /!b 1",
     ] {
-        let (list, pieces) = both_after(alloc, start.as_str(), op)?;
-        assert_eq!(rt; pieces, list);
+        is_same(&rt, rt.alloc(), start.as_str(), op)?;
     }
     Ok(())
 }

@@ -2,11 +2,13 @@
 use crate::held::{NAME, copies, empty, held, push};
 use crate::shown::{word, words};
 use delta_history::History;
+use doc_items::Memory;
 use memory_copies::{MemoryCopies, Noted, Notes};
 use session_core::{Session, SubmitAnswer};
 use std::alloc::Global;
 use std::test::Fail;
-use wave_base::{Domain, HashedVersion, WaveletName};
+use wave_base::{DeltaId, Domain, HashedVersion, WaveletName};
+use wave_messages::Message;
 use wavelet_op::Verdict;
 use wavelet_words::id;
 
@@ -65,14 +67,19 @@ const PEER: [(usize, &str, &str); 10] = [
     (5, "deliver", "applied 3;applied 4;applied 5;"),
 ];
 
+fn fill(alloc: Global, history: &mut History, count: usize) -> Result<(), Fail> {
+    let mut number = 0u64;
+    for (author, words) in DELTAS.iter().take(count) {
+        push(alloc, history, number, author, words)?;
+        number = number.wrapping_add(1);
+    }
+    Ok(())
+}
+
 // The history of the first deltas.
 fn history(alloc: Global, count: usize) -> Result<History, Fail> {
     let mut history = empty(alloc, NAME)?;
-    let mut number = 0u64;
-    for (author, words) in DELTAS.iter().take(count) {
-        push(alloc, &mut history, number, author, words)?;
-        number = number.wrapping_add(1);
-    }
+    fill(alloc, &mut history, count)?;
     Ok(history)
 }
 
@@ -88,8 +95,10 @@ fn noted(alloc: Global) -> Result<Notes, Fail> {
 
 // The copies with the first deltas.
 fn moment(alloc: Global, count: usize, dropped: bool) -> Result<MemoryCopies, Fail> {
+    let noted = noted(alloc)?;
+    let held = held(history(alloc, count)?, dropped, noted);
     let mut list = Vec::new(alloc);
-    list.push(held(history(alloc, count)?, dropped, noted(alloc)?))?;
+    list.push(held)?;
     copies(list)
 }
 
@@ -103,6 +112,26 @@ fn version(alloc: Global, version: u64) -> Result<HashedVersion, Fail> {
     Ok(HashedVersion { version, hash })
 }
 
+// A message as it is shown.
+fn shown(alloc: Global, message: Message) -> Result<String, Memory> {
+    word(alloc, &message)
+}
+
+/// What a user's session answers to an `open` of this wavelet.
+pub fn attach_to(
+    alloc: Global,
+    session: &mut Session,
+    copies: &MemoryCopies,
+    name: &WaveletName,
+    from: Option<&HashedVersion>,
+) -> Result<String, Fail> {
+    if !session.has_user() {
+        return Err(Fail::new("no user"));
+    }
+    let reply = session.answer_attach(alloc, copies, name, from)?;
+    Ok(shown(alloc, reply)?)
+}
+
 /// What a user's session answers to an `open`.
 pub fn attach(
     alloc: Global,
@@ -111,11 +140,7 @@ pub fn attach(
     from: Option<&HashedVersion>,
 ) -> Result<String, Fail> {
     let name = WaveletName::parse(alloc, NAME)?;
-    if !session.has_user() {
-        return Err(Fail::new("no user"));
-    }
-    let reply = session.answer_attach(alloc, copies, &name, from)?;
-    Ok(word(alloc, &reply)?)
+    attach_to(alloc, session, copies, &name, from)
 }
 
 fn attach_at(
@@ -184,6 +209,17 @@ fn is_answered(
     Ok(found.as_str() == wanted)
 }
 
+// What is answered where the submission waits from now on.
+fn waits(
+    alloc: Global,
+    session: &mut Session,
+    name: &WaveletName,
+    id: &DeltaId,
+) -> Result<String, Fail> {
+    let reply = session.answer_submit(alloc, name, id, &SubmitAnswer::Queued)?;
+    Ok(shown(alloc, reply)?)
+}
+
 // Whether the submission of this number waits from now on.
 fn is_queued(alloc: Global, session: &mut Session, number: u64) -> Result<bool, Fail> {
     if number > 1000 {
@@ -191,8 +227,7 @@ fn is_queued(alloc: Global, session: &mut Session, number: u64) -> Result<bool, 
     }
     let name = WaveletName::parse(alloc, NAME)?;
     let id = id(alloc, "bob@b.com", number)?;
-    let reply = session.answer_submit(alloc, &name, &id, &SubmitAnswer::Queued)?;
-    let found = word(alloc, &reply)?;
+    let found = waits(alloc, session, &name, &id)?;
     Ok(found.as_str() == "queued;")
 }
 
@@ -206,10 +241,19 @@ fn is_delivered(
     Ok(found.as_str() == wanted)
 }
 
+fn take(alloc: Global, session: &mut Session, bytes: &[u8]) -> Result<(), Memory> {
+    session.take_message(alloc, bytes)?;
+    Ok(())
+}
+
 /// The session of bob.
 pub fn user(alloc: Global) -> Result<Session, Fail> {
     let mut session = Session::new(alloc, None, Vec::new(alloc));
-    let _request = session.take_message(alloc, b"{\"type\":\"hello\",\"user\":\"bob@b.com\"}")?;
+    take(
+        alloc,
+        &mut session,
+        b"{\"type\":\"hello\",\"user\":\"bob@b.com\"}",
+    )?;
     Ok(session)
 }
 
@@ -236,7 +280,11 @@ pub fn server(alloc: Global) -> Result<Session, Fail> {
 // The session of b.com.
 fn peer(alloc: Global) -> Result<Session, Fail> {
     let mut session = server(alloc)?;
-    let _request = session.take_message(alloc, b"{\"type\":\"peer\",\"domain\":\"b.com\"}")?;
+    take(
+        alloc,
+        &mut session,
+        b"{\"type\":\"peer\",\"domain\":\"b.com\"}",
+    )?;
     Ok(session)
 }
 

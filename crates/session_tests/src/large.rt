@@ -24,18 +24,33 @@ fn words(alloc: Global, first: &str, count: usize, last: &str) -> Result<String,
     Ok(words)
 }
 
-// A wavelet whose snapshot has 16,777,216 bytes, and with one letter more as many and one.
-fn history(alloc: Global, more: bool) -> Result<History, Fail> {
-    let mut history = empty(alloc, NAME)?;
+// The delta of these words, with so many characters between them.
+fn push_long(
+    alloc: Global,
+    history: &mut History,
+    number: u64,
+    row: &(&str, usize, &str),
+) -> Result<(), Fail> {
+    let words = words(alloc, row.0, row.1, row.2)?;
+    push(alloc, history, number, "bob@b.com", words.as_str())
+}
+
+fn fill(alloc: Global, history: &mut History, more: bool) -> Result<(), Fail> {
     let mut number = 0u64;
-    for (first, count, last) in DELTAS {
-        let words = words(alloc, first, count, last)?;
-        push(alloc, &mut history, number, "bob@b.com", words.as_str())?;
+    for row in DELTAS.as_slice() {
+        push_long(alloc, history, number, row)?;
         number = number.wrapping_add(1);
     }
     if more {
-        push(alloc, &mut history, number, "bob@b.com", "b+1: 7 +a")?;
+        push(alloc, history, number, "bob@b.com", "b+1: 7 +a")?;
     }
+    Ok(())
+}
+
+// A wavelet whose snapshot has 16,777,216 bytes, and with one letter more as many and one.
+fn history(alloc: Global, more: bool) -> Result<History, Fail> {
+    let mut history = empty(alloc, NAME)?;
+    fill(alloc, &mut history, more)?;
     Ok(history)
 }
 

@@ -1,8 +1,8 @@
 // Open wavelets keep their order.
-use crate::deliveries::{deliver, user};
+use crate::deliveries::{attach_to, deliver, user};
 use crate::held::{NAME, copies, empty, held, push};
-use delta_history::Copies;
-use memory_copies::{MemoryCopies, Notes};
+use delta_history::{Copies, History};
+use memory_copies::{Held, MemoryCopies, Notes};
 use session_core::Session;
 use std::alloc::Global;
 use std::test::Fail;
@@ -10,18 +10,31 @@ use wave_base::{HashedVersion, WaveletName};
 
 const SECOND: &str = "a.com/w2/a.com/conv+root";
 
+// Two deltas behind the others.
+fn fill(alloc: Global, history: &mut History, deltas: [&str; 2]) -> Result<(), Fail> {
+    push(alloc, history, 1, "bob@b.com", deltas[0])?;
+    push(alloc, history, 2, "bob@b.com", deltas[1])
+}
+
+fn of_two(alloc: Global, name: &str, deltas: [&str; 2]) -> Result<Held, Fail> {
+    let mut history = empty(alloc, name)?;
+    fill(alloc, &mut history, deltas)?;
+    Ok(held(history, false, Notes::from_vec(Vec::new(alloc))))
+}
+
 // A wavelet with deltas at 0 and 2, and one with deltas at 0 and 1.
 fn both(alloc: Global) -> Result<MemoryCopies, Fail> {
-    let mut first = empty(alloc, NAME)?;
-    push(alloc, &mut first, 1, "bob@b.com", "add bob@b.com; b+1: +hi")?;
-    push(alloc, &mut first, 2, "bob@b.com", "b+1: 2 +!")?;
-    let mut second = empty(alloc, SECOND)?;
-    push(alloc, &mut second, 1, "bob@b.com", "add bob@b.com")?;
-    push(alloc, &mut second, 2, "bob@b.com", "b+1: +ho")?;
     let mut list = Vec::new(alloc);
-    list.push(held(first, false, Notes::from_vec(Vec::new(alloc))))?;
-    list.push(held(second, false, Notes::from_vec(Vec::new(alloc))))?;
+    list.push(of_two(alloc, NAME, ["add bob@b.com; b+1: +hi", "b+1: 2 +!"])?)?;
+    list.push(of_two(alloc, SECOND, ["add bob@b.com", "b+1: +ho"])?)?;
     copies(list)
+}
+
+fn hash_of(copies: &MemoryCopies, name: &WaveletName, version: u64) -> [u8; 32] {
+    match copies.copy_of(name) {
+        Some(history) => history.hash_at(version).unwrap_or([0; 32]),
+        None => [0; 32],
+    }
 }
 
 // The wavelet is opened at a version.
@@ -36,14 +49,9 @@ fn open(
         return Err(Fail::new("a version above 1000"));
     }
     let name = WaveletName::parse(alloc, name)?;
-    let hash = match copies.copy_of(&name) {
-        Some(history) => history.hash_at(version).unwrap_or([0; 32]),
-        None => [0; 32],
-    };
-    if session.has_user() {
-        let from = HashedVersion { version, hash };
-        session.answer_attach(alloc, copies, &name, Some(&from))?;
-    }
+    let hash = hash_of(copies, &name, version);
+    let from = HashedVersion { version, hash };
+    attach_to(alloc, session, copies, &name, Some(&from))?;
     Ok(())
 }
 

@@ -319,9 +319,9 @@ fn first_wrong_length(
     alloc: Global,
     session: &mut Session,
 ) -> Result<Option<(usize, usize)>, Fail> {
-    for (operations, length, wanted) in LENGTHS {
-        if !submits(alloc, session, operations, length, wanted)? {
-            return Ok(Some((operations, length)));
+    for (operations, length, wanted) in LENGTHS.as_slice() {
+        if !submits(alloc, session, *operations, *length, wanted)? {
+            return Ok(Some((*operations, *length)));
         }
     }
     Ok(None)

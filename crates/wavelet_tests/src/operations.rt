@@ -105,7 +105,6 @@ fn transformed(
     transform_delta(alloc, later, earlier)
 }
 
-// The later and the earlier operations, and both results.
 // Two lists past each other.
 fn past(
     rt: &impl Abort,
@@ -134,76 +133,103 @@ fn shown_past(
     Ok(show_pair(alloc, &pair)?)
 }
 
+// The later and the earlier operations, and both results.
+type Past = (&'static str, &'static str, &'static str, &'static str);
+
+const PAST: [Past; 6] = [
+    ("add carol@a.com", "add carol@a.com", "noop", "noop"),
+    (
+        "b+1: 1 +X 1; b+2: +y",
+        "b+1: 1 +Y 1; add bob@a.com",
+        "b+1: 1 +X 2; b+2: +y",
+        "b+1: 2 +Y 1; add bob@a.com",
+    ),
+    (
+        "b+1: +X 2; b+1: 3 +Y",
+        "b+1: 1 -b; b+1: -a",
+        "b+1: +X; b+1: 1 +Y",
+        "b+1: 2 -b 1; b+1: 1 -a 1",
+    ),
+    (
+        "role bob@a.com full read; remove carol@a.com",
+        "remove bob@a.com; role carol@a.com full read",
+        "noop; remove carol@a.com",
+        "remove bob@a.com; noop",
+    ),
+    (
+        "role bob@a.com full full",
+        "role bob@a.com full read",
+        "role bob@a.com read full",
+        "noop",
+    ),
+    ("b+1: 1 1 +a", "noop", "b+1: 2 +a", "noop"),
+];
+
+fn are_past(rt: &impl Abort, alloc: Global, row: &Past) -> Result<(), Fail> {
+    let (later, earlier) = shown_past(rt, alloc, row.0, row.1)?;
+    assert_eq!(rt; later.as_str(), row.2);
+    assert_eq!(rt; earlier.as_str(), row.3);
+    Ok(())
+}
+
 #[test]
 fn lists_past_each_other(rt: HostRuntime) -> Result<(), Fail> {
-    let alloc = rt.alloc();
-    let rows = [
-        ("add carol@a.com", "add carol@a.com", "noop", "noop"),
-        (
-            "b+1: 1 +X 1; b+2: +y",
-            "b+1: 1 +Y 1; add bob@a.com",
-            "b+1: 1 +X 2; b+2: +y",
-            "b+1: 2 +Y 1; add bob@a.com",
-        ),
-        (
-            "b+1: +X 2; b+1: 3 +Y",
-            "b+1: 1 -b; b+1: -a",
-            "b+1: +X; b+1: 1 +Y",
-            "b+1: 2 -b 1; b+1: 1 -a 1",
-        ),
-        (
-            "role bob@a.com full read; remove carol@a.com",
-            "remove bob@a.com; role carol@a.com full read",
-            "noop; remove carol@a.com",
-            "remove bob@a.com; noop",
-        ),
-        (
-            "role bob@a.com full full",
-            "role bob@a.com full read",
-            "role bob@a.com read full",
-            "noop",
-        ),
-        ("b+1: 1 1 +a", "noop", "b+1: 2 +a", "noop"),
-    ];
-    for (later, earlier, later_want, earlier_want) in rows {
-        let (later, earlier) = shown_past(&rt, alloc, later, earlier)?;
-        assert_eq!(rt; later.as_str(), later_want);
-        assert_eq!(rt; earlier.as_str(), earlier_want);
+    for row in PAST.as_slice() {
+        are_past(&rt, rt.alloc(), row)?;
     }
     Ok(())
 }
 
 // The later and the earlier operations, and why they have no transform.
+const REFUSED: [(&str, &str, WaveletFault); 5] = [
+    (
+        "noop; add bob@a.com",
+        "remove bob@a.com",
+        WaveletFault::Conflict(1),
+    ),
+    (
+        "role bob@a.com full read",
+        "add bob@a.com",
+        WaveletFault::Conflict(0),
+    ),
+    (
+        "role bob@a.com full read",
+        "role bob@a.com read full",
+        WaveletFault::Conflict(0),
+    ),
+    ("noop; b+2: 1; b+1: 1", "b+1: 2", WaveletFault::Conflict(2)),
+    (
+        "b+1: 9007199254740990 +a",
+        "b+1: 9007199254740990 +b",
+        WaveletFault::CountTooLarge,
+    ),
+];
+
+fn fault(
+    rt: &impl Abort,
+    alloc: Global,
+    later: &str,
+    earlier: &str,
+) -> Result<Option<WaveletFault>, Fail> {
+    Ok(past(rt, alloc, later, earlier)?.err())
+}
+
 #[test]
 fn refused_transforms(rt: HostRuntime) -> Result<(), Fail> {
-    let alloc = rt.alloc();
-    let rows = [
-        (
-            "noop; add bob@a.com",
-            "remove bob@a.com",
-            WaveletFault::Conflict(1),
-        ),
-        (
-            "role bob@a.com full read",
-            "add bob@a.com",
-            WaveletFault::Conflict(0),
-        ),
-        (
-            "role bob@a.com full read",
-            "role bob@a.com read full",
-            WaveletFault::Conflict(0),
-        ),
-        ("noop; b+2: 1; b+1: 1", "b+1: 2", WaveletFault::Conflict(2)),
-        (
-            "b+1: 9007199254740990 +a",
-            "b+1: 9007199254740990 +b",
-            WaveletFault::CountTooLarge,
-        ),
-    ];
-    for (later, earlier, want) in rows {
-        assert!(rt; past(&rt, alloc, later, earlier)?.err() == Some(want));
+    for (later, earlier, want) in REFUSED.as_slice() {
+        assert!(rt; fault(&rt, rt.alloc(), later, earlier)? == Some(*want));
     }
     Ok(())
+}
+
+fn show_each(
+    alloc: Global,
+    later: &WaveletOp,
+    earlier: &WaveletOp,
+) -> Result<(String, String), Memory> {
+    let later = show(alloc, later)?;
+    let earlier = show(alloc, earlier)?;
+    Ok((later, earlier))
 }
 
 fn one_past(
@@ -215,15 +241,23 @@ fn one_past(
     assert!(rt; later.is_structured());
     assert!(rt; earlier.is_structured());
     let pair = transform_op(alloc, later, earlier)?;
-    let later = show(alloc, &pair.later)?;
-    Ok((later, show(alloc, &pair.earlier)?))
+    Ok(show_each(alloc, &pair.later, &pair.earlier)?)
+}
+
+fn shown_one_past(
+    rt: &impl Abort,
+    alloc: Global,
+    later: &str,
+    earlier: &str,
+) -> Result<(String, String), Fail> {
+    let later = op(alloc, later)?;
+    let earlier = op(alloc, earlier)?;
+    one_past(rt, alloc, &later, &earlier)
 }
 
 #[test]
 fn one_past_another(rt: HostRuntime) -> Result<(), Fail> {
-    let later = op(rt.alloc(), "b+1: -<p ->")?;
-    let earlier = op(rt.alloc(), "b+1: 1 +x 1")?;
-    let (later, earlier) = one_past(&rt, rt.alloc(), &later, &earlier)?;
+    let (later, earlier) = shown_one_past(&rt, rt.alloc(), "b+1: -<p ->", "b+1: 1 +x 1")?;
     assert_eq!(rt; later.as_str(), "b+1: -<p -x ->");
     assert_eq!(rt; earlier.as_str(), "b+1: ");
     Ok(())
@@ -243,22 +277,28 @@ fn show_composed(rt: &impl Abort, alloc: Global, words: &str) -> Result<String, 
     Ok(show_all(alloc, &fewer)?)
 }
 
+const COMPOSED: [(&str, &str); 3] = [
+    (
+        "b+1: +a; b+1: 1 +b; b+2: +x; b+1: 2 +c; b+1: -abc",
+        "b+1: +ab; b+2: +x; b+1: -ab",
+    ),
+    ("b+1: 1 1; noop; b+1: 2", "b+1: 2; noop; b+1: 2"),
+    (
+        "add bob@a.com; remove bob@a.com",
+        "add bob@a.com; remove bob@a.com",
+    ),
+];
+
+fn is_composed(rt: &impl Abort, alloc: Global, words: &str, want: &str) -> Result<(), Fail> {
+    let found = show_composed(rt, alloc, words)?;
+    assert_eq!(rt; found.as_str(), want);
+    Ok(())
+}
+
 #[test]
 fn neighbours_are_composed(rt: HostRuntime) -> Result<(), Fail> {
-    let alloc = rt.alloc();
-    let rows = [
-        (
-            "b+1: +a; b+1: 1 +b; b+2: +x; b+1: 2 +c; b+1: -abc",
-            "b+1: +ab; b+2: +x; b+1: -ab",
-        ),
-        ("b+1: 1 1; noop; b+1: 2", "b+1: 2; noop; b+1: 2"),
-        (
-            "add bob@a.com; remove bob@a.com",
-            "add bob@a.com; remove bob@a.com",
-        ),
-    ];
-    for (words, want) in rows {
-        assert_eq!(rt; show_composed(&rt, alloc, words)?.as_str(), want);
+    for (words, want) in COMPOSED.as_slice() {
+        is_composed(&rt, rt.alloc(), words, want)?;
     }
     Ok(())
 }
