@@ -5,10 +5,18 @@ use std::alloc::Global;
 use std::marker::Model;
 
 /// So many neighbouring items, and the changes that run over them.
-#[derive(Drop)]
 pub struct Span {
     pub count: u64,
     pub changes: Changes,
+}
+
+impl Drop for Span {
+    fn drop(self) {
+        let Span {
+            count: _count,
+            changes: _changes,
+        } = self;
+    }
 }
 
 /// A list of spans, which together are over all items of an operation.

@@ -8,9 +8,14 @@ use std::marker::Model;
 use std::mem;
 
 /// The changes that run at a place of an operation, seen as a list in byte order of their keys.
-#[derive(Drop)]
 pub struct Track {
     running: Changes,
+}
+
+impl Drop for Track {
+    fn drop(self) {
+        let Track { running: _running } = self;
+    }
 }
 
 impl Model for Track {

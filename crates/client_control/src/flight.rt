@@ -5,13 +5,29 @@ use std::alloc::Global;
 use wavelet_op::{Ops, Submission};
 
 /// A submission on its way: as it was first taken, and its operations passed through what came since.
-#[derive(Drop)]
 pub(crate) struct InFlight {
     pub sent: Submission,
     pub ops: Ops,
 }
 
+impl Drop for InFlight {
+    fn drop(self) {
+        let InFlight {
+            sent: _sent,
+            ops: _ops,
+        } = self;
+    }
+}
+
 impl InFlight {
+    /// The submission as it was first taken, by value.
+    pub fn into_sent(self) -> Submission
+        ensures { result ≡ self.sent }
+    {
+        let InFlight { sent, ops: _ops } = self;
+        sent
+    }
+
     /// An equal flight.
     pub fn copy(&self, alloc: Global) -> Result<InFlight, Memory>
         ensures { IfOk result (λ g. g ≡ self.now) }

@@ -22,7 +22,6 @@ use wavelet_state::{Snapshot, WaveletState};
 
 /// A client's follower of a wavelet: the state at a version of the history, a submission in flight, the edits behind it, and the
 /// number of the next submission. What is pending is valid where the follower is.
-#[derive(Drop)]
 pub struct Follower {
     pub(crate) name: WaveletName,
     pub(crate) author: Address,
@@ -37,6 +36,24 @@ pub struct Follower {
     pub(crate) held: u64,
     // The screen, if it is kept; else it is made anew when it is needed.
     pub(crate) shown: Option<WaveletState>,
+}
+
+impl Drop for Follower {
+    fn drop(self) {
+        let Follower {
+            name: _name,
+            author: _author,
+            client: _client,
+            at: _at,
+            count: _count,
+            state: _state,
+            flight: _flight,
+            queue: _queue,
+            next: _next,
+            held: _held,
+            shown: _shown,
+        } = self;
+    }
 }
 
 impl Model for Follower {

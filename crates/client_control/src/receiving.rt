@@ -202,7 +202,7 @@ fn compare(
         Ok(Meeting::Own)
     } else {
         Ok(Meeting::Clash {
-            mine: own.ops,
+            mine: own.into_ops(),
             theirs,
         })
     }
@@ -247,7 +247,7 @@ fn flown(flight: Option<InFlight>, ops: Option<Ops>) -> Option<InFlight>
         return None;
     };
     Some(InFlight {
-        sent: flight.sent,
+        sent: flight.into_sent(),
         ops,
     })
 }

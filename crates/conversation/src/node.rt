@@ -44,11 +44,21 @@ pub enum Part {
 
 /// A blip or a thread, with the number of blips and threads above it. A blip of the root thread has none above it; the threads of a
 /// blip have one more than it, and so have the blips of a thread.
-#[derive(Debug, Drop)]
+#[derive(Debug)]
 pub struct Node {
     pub depth: u64,
     pub part: Part,
     pub id: Id,
+}
+
+impl Drop for Node {
+    fn drop(self) {
+        let Node {
+            depth: _depth,
+            part: _part,
+            id: _id,
+        } = self;
+    }
 }
 
 /// The tree of a conversation: all blips and threads, each before those below it, in document order. There is no recursion in it, so

@@ -27,11 +27,20 @@ use wavelet_state::{WaveletState, apply_delta};
 
 /// The history of a wavelet, which is legal: each delta is valid at the state that the ones before lead to, starts at the head that
 /// they leave, has a new id, and has an author whose role there is `Full`, or is the first and adds its author first.
-#[derive(Drop)]
 pub struct History {
     log: Log,
     state: WaveletState,
     twin: Option<Twin>,
+}
+
+impl Drop for History {
+    fn drop(self) {
+        let History {
+            log: _log,
+            state: _state,
+            twin: _twin,
+        } = self;
+    }
 }
 
 impl Model for History {

@@ -12,9 +12,14 @@ use std::collections::BTreeMap;
 use wave_base::{Address, DeltaId};
 
 /// Places of deltas by their ids: by author, and then by client and number.
-#[derive(Drop)]
 pub(crate) struct Ids {
     pub authors: BTreeMap<Address, BTreeMap<(u64, u64), usize>>,
+}
+
+impl Drop for Ids {
+    fn drop(self) {
+        let Ids { authors: _authors } = self;
+    }
 }
 
 impl Ids {

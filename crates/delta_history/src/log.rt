@@ -19,7 +19,6 @@ use wave_hash::zero_hash;
 use wavelet_op::AppliedDelta;
 
 /// The deltas of a legal history, with what finds them: the head, and the places of ids. The index may lack the last deltas.
-#[derive(Drop)]
 pub(crate) struct Log {
     name: WaveletName,
     list: Vec<AppliedDelta>,
@@ -27,6 +26,19 @@ pub(crate) struct Log {
     inserted: u64,
     ids: Ids,
     indexed: usize,
+}
+
+impl Drop for Log {
+    fn drop(self) {
+        let Log {
+            name: _name,
+            list: _list,
+            head: _head,
+            inserted: _inserted,
+            ids: _ids,
+            indexed: _indexed,
+        } = self;
+    }
 }
 
 impl Model for Log {

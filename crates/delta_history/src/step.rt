@@ -29,10 +29,18 @@ pub(crate) struct Step {
 }
 
 /// What a delta leads to, with its bytes.
-#[derive(Drop)]
 pub(crate) struct Written {
     pub step: Step,
     pub bytes: Vec<u8>,
+}
+
+impl Drop for Written {
+    fn drop(self) {
+        let Written {
+            step: _step,
+            bytes: _bytes,
+        } = self;
+    }
 }
 
 // The number of items that an operation inserts.

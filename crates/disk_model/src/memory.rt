@@ -13,7 +13,6 @@ pub(crate) enum Step {
 
 /// A file in memory, of which each image can be had. Calls whose numbers are in a list fail, counted from 0, and
 /// from one call on all fail.
-#[derive(Drop)]
 pub struct MemoryDisk {
     pub(crate) alloc: Global,
     pub(crate) bytes: Vec<u8>,
@@ -25,4 +24,19 @@ pub struct MemoryDisk {
     pub(crate) calls: u64,
     pub(crate) faults: u64,
     ghost whole: { bytes.items ≡ file_after (file_before first bytes.items) steps.items },
+}
+
+impl Drop for MemoryDisk {
+    fn drop(self) {
+        let MemoryDisk {
+            alloc: _alloc,
+            bytes: _bytes,
+            first: _first,
+            steps: _steps,
+            failing: _failing,
+            stop: _stop,
+            calls: _calls,
+            faults: _faults,
+        } = self;
+    }
 }

@@ -10,11 +10,20 @@ use std::alloc::Global;
 use std::marker::Model;
 
 /// What becomes of the value at a key: the old value, which is checked, and the new one. Each may be absent.
-#[derive(Drop)]
 pub struct Change {
     pub key: Text,
     pub old: Option<Text>,
     pub new: Option<Text>,
+}
+
+impl Drop for Change {
+    fn drop(self) {
+        let Change {
+            key: _key,
+            old: _old,
+            new: _new,
+        } = self;
+    }
 }
 
 impl Change {
@@ -194,10 +203,18 @@ impl Keys {
 }
 
 /// A place between items where changes of annotations end and begin: the keys that end, and those that change.
-#[derive(Drop)]
 pub struct Boundary {
     pub end: Keys,
     pub change: Changes,
+}
+
+impl Drop for Boundary {
+    fn drop(self) {
+        let Boundary {
+            end: _end,
+            change: _change,
+        } = self;
+    }
 }
 
 impl Boundary {

@@ -4,7 +4,6 @@ use crate::{Attributes, Memory, Notes, Text};
 use std::alloc::Global;
 
 /// What stands at one place of a document.
-#[derive(Drop)]
 pub enum Content {
     /// A Unicode scalar value.
     Character(char),
@@ -12,6 +11,19 @@ pub enum Content {
     Start { kind: Text, attributes: Attributes },
     /// An element's end.
     End,
+}
+
+impl Drop for Content {
+    fn drop(self) {
+        match self {
+            Content::Character(_part0) => {}
+            Content::Start {
+                kind: _kind,
+                attributes: _attributes,
+            } => {}
+            Content::End => {}
+        }
+    }
 }
 
 impl Content {
@@ -32,10 +44,18 @@ impl Content {
 }
 
 /// A content with its annotations.
-#[derive(Drop)]
 pub struct Item {
     pub content: Content,
     pub notes: Notes,
+}
+
+impl Drop for Item {
+    fn drop(self) {
+        let Item {
+            content: _content,
+            notes: _notes,
+        } = self;
+    }
 }
 
 impl Item {

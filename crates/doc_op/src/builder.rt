@@ -9,10 +9,18 @@ use std::alloc::Global;
 use std::marker::Model;
 
 /// Makes an operation, component by component. It is seen as the components that it took.
-#[derive(Drop)]
 pub struct Builder {
     op: DocOp,
     keys: RunningKeys,
+}
+
+impl Drop for Builder {
+    fn drop(self) {
+        let Builder {
+            op: _op,
+            keys: _keys,
+        } = self;
+    }
 }
 
 impl Model for Builder {
@@ -86,6 +94,7 @@ impl Builder {
     pub fn finish(self) -> DocOp
         ensures { result ≡ self }
     {
-        self.op
+        let Builder { op, keys: _keys } = self;
+        op
     }
 }

@@ -9,7 +9,6 @@ use std::alloc::Global;
 
 /// A part of an operation, in the terms of the Wave whitepapers. The changes of a boundary run over the components behind
 /// it, until their keys end or change again.
-#[derive(Drop)]
 pub enum Component {
     /// So many items stay.
     Retain(u64),
@@ -31,6 +30,32 @@ pub enum Component {
     UpdateAttributes(Changes),
     /// Changes of annotations end and begin.
     AnnotationBoundary(Boundary),
+}
+
+impl Drop for Component {
+    fn drop(self) {
+        match self {
+            Component::Retain(_part0) => {}
+            Component::Characters(_part0) => {}
+            Component::ElementStart {
+                kind: _kind,
+                attributes: _attributes,
+            } => {}
+            Component::ElementEnd => {}
+            Component::DeleteCharacters(_part0) => {}
+            Component::DeleteElementStart {
+                kind: _kind,
+                attributes: _attributes,
+            } => {}
+            Component::DeleteElementEnd => {}
+            Component::ReplaceAttributes {
+                old: _old,
+                new: _new,
+            } => {}
+            Component::UpdateAttributes(_part0) => {}
+            Component::AnnotationBoundary(_part0) => {}
+        }
+    }
 }
 
 /// How many items a component takes, gives and inserts.

@@ -19,12 +19,21 @@ use std::marker::Model;
 use std::mem;
 
 /// Makes an operation in normal form, run by run. It is seen as the actions that it took. After want of memory it has none.
-#[derive(Drop)]
 pub struct NormalBuilder {
     // The components that are done, the changes that run behind them, and the last component.
     done: DocOp,
     track: Track,
     last: Open,
+}
+
+impl Drop for NormalBuilder {
+    fn drop(self) {
+        let NormalBuilder {
+            done: _done,
+            track: _track,
+            last: _last,
+        } = self;
+    }
 }
 
 impl Model for NormalBuilder {

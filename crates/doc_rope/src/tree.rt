@@ -15,7 +15,6 @@ pub enum Tree {
 }
 
 #[cycle(tree)]
-#[derive(Drop)]
 pub struct Node {
     pub left: Tree,
     pub piece: Piece,
@@ -24,6 +23,19 @@ pub struct Node {
     pub count: usize,
     pub shape: Shape,
     pub height: usize,
+}
+
+impl Drop for Node {
+    fn drop(self) {
+        let Node {
+            left: _left,
+            piece: _piece,
+            right: _right,
+            count: _count,
+            shape: _shape,
+            height: _height,
+        } = self;
+    }
 }
 
 fn piece_item(piece: &Piece, at: usize) -> Option<&Item>

@@ -18,9 +18,16 @@ use wavelet_container::{Container, SubmitFault};
 use wavelet_op::{AppliedDelta, Submission, Verdict};
 
 /// The host of the wavelet, without a journal. Seen as its deltas.
-#[derive(Drop)]
 pub(crate) struct Host {
     container: Container<MemoryDisk>,
+}
+
+impl Drop for Host {
+    fn drop(self) {
+        let Host {
+            container: _container,
+        } = self;
+    }
 }
 
 impl Model for Host {

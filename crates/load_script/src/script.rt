@@ -21,11 +21,20 @@ use std::alloc::Global;
 use wave_base::Address;
 
 /// The draws, the host and the followers.
-#[derive(Drop)]
 pub(crate) struct Script {
     pub draws: Draws,
     pub host: Host,
     pub followers: Vec<Follower>,
+}
+
+impl Drop for Script {
+    fn drop(self) {
+        let Script {
+            draws: _draws,
+            host: _host,
+            followers: _followers,
+        } = self;
+    }
 }
 
 // A user's follower, at the start of the history.

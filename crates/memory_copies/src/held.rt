@@ -44,7 +44,6 @@ impl Notes {
 }
 
 /// A copy of a wavelet.
-#[derive(Drop)]
 pub struct Held {
     pub history: History,
     /// Whether the wavelet is hosted here.
@@ -53,4 +52,15 @@ pub struct Held {
     pub dropped: bool,
     /// The verdicts that were noted for submissions.
     pub noted: Notes,
+}
+
+impl Drop for Held {
+    fn drop(self) {
+        let Held {
+            history: _history,
+            hosted: _hosted,
+            dropped: _dropped,
+            noted: _noted,
+        } = self;
+    }
 }

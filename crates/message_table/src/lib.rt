@@ -13,6 +13,6 @@ mod server;
 mod server_value;
 mod writing;
 
-pub use message::Message;
+pub use message::{ForServer, Message};
 pub use reading::message_of;
 pub use writing::message_value;

@@ -6,7 +6,6 @@ use wave_base::HashedVersion;
 use wavelet_op::Ops;
 
 /// What a follower answers to a delta. Only `Advanced` changes it.
-#[derive(Drop)]
 pub enum Received {
     /// The delta starts below the follower's version.
     Old,
@@ -29,6 +28,25 @@ pub enum Received {
     },
     /// The follower is behind the delta.
     Advanced,
+}
+
+impl Drop for Received {
+    fn drop(self) {
+        match self {
+            Received::Old => {}
+            Received::Gap => {}
+            Received::Diverged {
+                mine: _mine,
+                theirs: _theirs,
+            } => {}
+            Received::OtherFlight {
+                mine: _mine,
+                theirs: _theirs,
+            } => {}
+            Received::NotNext { index: _index } => {}
+            Received::Advanced => {}
+        }
+    }
 }
 
 impl Received {

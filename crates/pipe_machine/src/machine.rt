@@ -17,7 +17,7 @@ use line_run::{LineMachine, TurnFault};
 use session_core::reason_of;
 use std::alloc::Global;
 use wave_base::SessionName;
-use wave_messages::{Kind, Line, LineFault, Message, read_line};
+use wave_messages::{Kind, LineFault, Message, read_line};
 use wave_outside::Folder;
 use wavelet_shelf::Shelf;
 
@@ -47,14 +47,6 @@ impl<F: Folder + Drop> PipeMachine<F> {
             shelf,
             seats: Vec::new(alloc),
         }
-    }
-
-    /// The shelf.
-    pub fn into_shelf(self) -> Shelf<F>
-        ensures { result ≡ self.shelf }
-    {
-        let PipeMachine { shelf, .. } = self;
-        shelf
     }
 
     // Answers a message of a session, which is new where it wasn't there.
@@ -92,7 +84,10 @@ impl<F: Folder + Drop> PipeMachine<F> {
         ensures ended { IsEnded self.old.shelf self.new.shelf result }
     {
         match read_line(alloc, line) {
-            Ok(Line { session, message }) => self.serve(alloc, session, message, time, out),
+            Ok(line) => {
+                let (session, message) = line.into_parts();
+                self.serve(alloc, session, message, time, out)
+            }
             Err(LineFault::Bad { session, kind }) => Ok(refuse(alloc, session, kind, out)?),
             Err(LineFault::Memory) => Err(TurnFault::Memory),
         }

@@ -11,10 +11,18 @@ use std::cmp::Ordering;
 use wave_base::SessionName;
 
 /// A session with its name.
-#[derive(Drop)]
 pub struct Seat {
     pub name: SessionName,
     pub session: Session,
+}
+
+impl Drop for Seat {
+    fn drop(self) {
+        let Seat {
+            name: _name,
+            session: _session,
+        } = self;
+    }
 }
 
 // How two names compare, in bytes.

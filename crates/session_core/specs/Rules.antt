@@ -12,7 +12,8 @@
 --     is_hosted s n             it is the session's domain
 --     place_of n os, without i os     where a wavelet stands among those that are open; the others
 --     closed s n, submitted s .., asked_open s .., told_have s .., relayed s ..     by kind
---     taken s m                 any message
+--     taken_kind s m            a message that a server takes
+--     taken s m                 any message; one that no server takes is refused
 --     read_by s b               what bytes are read as, by the limit for this session
 --     taken_bytes s b           bytes
 use Rattle.std.specs.Prelude.{ℕ, ◌+◌, Bool, true, false, ◌&&◌, ◌||◌, if◌then◌else◌, List, [], ◌∷◌, ◌++◌, take, drop, Option, Some, None, is_some, option_map, Result, Ok, Err}
@@ -29,7 +30,10 @@ use Rattle.message_parts.specs.declared.reason.BadReason.{BadReason}
 use Rattle.message_parts.specs.declared.reason.BadReason.TheVariants as bad
 use Rattle.message_parts.specs.Good.{is_count}
 use Rattle.message_table.specs.declared.message.Message.{Message}
-use Rattle.message_table.specs.declared.message.Message.TheVariants.{Hello, OpenWavelet, Submit, CloseWavelet, Welcome, Opened, Snapshot, Unopened, Ack, Refused, Queued, Update, Closed, Bad, Peer, Have, Relay, Applied, Relayed, Dropped}
+use Rattle.message_table.specs.declared.message.Message.TheVariants.{Welcome, Closed, Bad}
+use Rattle.message_table.specs.declared.message.ForServer.{ForServer}
+use Rattle.message_table.specs.declared.message.ForServer.TheVariants as asks
+use Rattle.message_table.specs.Server.{for_server}
 use Rattle.wave_messages.specs.Read.{read_of, max_client}
 use Rattle.wave_messages.specs.declared.fault.Kind.{Kind}
 use Rattle.wave_messages.specs.declared.fault.Kind.TheVariants as kind
@@ -168,27 +172,17 @@ relayed s name submission = in_domain s (as_peer s (relay_by s name submission) 
 
 -- ---- any message
 
+abbrev pub taken_kind : Session → ForServer → Taken
+taken_kind s (asks.Hello user) = greeted s user
+taken_kind s (asks.OpenWavelet name from) = asked_open s name from
+taken_kind s (asks.Submit name client number from ops) = submitted s name client number from ops
+taken_kind s (asks.CloseWavelet name) = closed s name
+taken_kind s (asks.Peer domain) = in_domain s (met s domain)
+taken_kind s (asks.Have name from) = told_have s name from
+taken_kind s (asks.Relay name submission) = relayed s name submission
+
 abbrev pub taken : Session → Message → Taken
-taken s (Hello user) = greeted s user
-taken s (OpenWavelet name from) = asked_open s name from
-taken s (Submit name client number from ops) = submitted s name client number from ops
-taken s (CloseWavelet name) = closed s name
-taken s (Welcome user) = refused s bad.NotMessage
-taken s (Opened name version) = refused s bad.NotMessage
-taken s (Snapshot snapshot) = refused s bad.NotMessage
-taken s (Unopened name reason) = refused s bad.NotMessage
-taken s (Ack name client number place to) = refused s bad.NotMessage
-taken s (Refused name client number v) = refused s bad.NotMessage
-taken s (Queued name client number) = refused s bad.NotMessage
-taken s (Update name delta) = refused s bad.NotMessage
-taken s (Closed name reason) = refused s bad.NotMessage
-taken s (Bad reason) = refused s bad.NotMessage
-taken s (Peer domain) = in_domain s (met s domain)
-taken s (Have name from) = told_have s name from
-taken s (Relay name submission) = relayed s name submission
-taken s (Applied name delta) = refused s bad.NotMessage
-taken s (Relayed name id v) = refused s bad.NotMessage
-taken s (Dropped name) = refused s bad.NotMessage
+taken s m = option_map_or (taken_kind s) (for_server m) (refused s bad.NotMessage)
 
 -- ---- bytes
 

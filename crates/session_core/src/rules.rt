@@ -3,7 +3,7 @@ ghost use Rattle.std.specs.Prelude.{◌≡◌, ◌≤◌, cond, Some, None, IfOk
 ghost use Rattle.std.specs.List.{list_any};
 ghost use Rattle.doc_items.specs.Limits.{max_count};
 ghost use Rattle.doc_items.specs.Maps.{same_text};
-ghost use Rattle.session_core.specs.Rules.{is_new, fits_domain, is_user, greeted, is_peer, met, in_domain, is_own, is_hosted, is_reached, place_of, closed_at, asked_open, submitted_as, submitted, closed, told_have, relay_by, relayed, taken, reason_of, limit_of, taken_bytes};
+ghost use Rattle.session_core.specs.Rules.{is_new, fits_domain, is_user, greeted, is_peer, met, in_domain, is_own, is_hosted, is_reached, place_of, closed_at, asked_open, submitted_as, submitted, closed, told_have, relay_by, relayed, taken_kind, taken, reason_of, limit_of, taken_bytes};
 
 use crate::Request;
 use crate::lists::Domains;
@@ -12,7 +12,7 @@ use doc_items::{MAX_COUNT, Memory, Text};
 use std::alloc::{AllocError, Global};
 use wave_base::{Address, BaseFault, DeltaId, Domain, HashedVersion, WaveletName};
 use wave_messages::{
-    BadReason, ClosedReason, Kind, MAX_CLIENT, MAX_PEER, Message, MessageFault, read,
+    BadReason, ClosedReason, ForServer, Kind, MAX_CLIENT, MAX_PEER, Message, MessageFault, read,
 };
 use wavelet_op::{Ops, Submission};
 
@@ -308,33 +308,31 @@ impl Session {
         ensures ok { IfOk result (λ r. (self.new, r) ≡ taken self.old message) }
         ensures same { OnErr result (self.new ≡ self.old) }
     {
+        match message.for_server() {
+            Some(message) => self.serve(alloc, message),
+            None => Ok(bad(BadReason::NotMessage)),
+        }
+    }
+
+    // Takes a message of a kind that a server takes.
+    fn serve(&mut self, alloc: Global, message: ForServer) -> Result<Request, Memory>
+        ensures ok { IfOk result (λ r. (self.new, r) ≡ taken_kind self.old message) }
+        ensures same { OnErr result (self.new ≡ self.old) }
+    {
         match message {
-            Message::Hello { user } => self.greet(alloc, user),
-            Message::OpenWavelet { name, at } => Ok(self.ask_open(name, at)),
-            Message::Submit {
+            ForServer::Hello { user } => self.greet(alloc, user),
+            ForServer::OpenWavelet { name, at } => Ok(self.ask_open(name, at)),
+            ForServer::Submit {
                 name,
                 client,
                 number,
                 at,
                 ops,
             } => { self.submit(alloc, name, (client, number), at, ops) }
-            Message::CloseWavelet { name } => Ok(self.close(name)),
-            Message::Peer { domain } => self.meet_in_domain(alloc, domain),
-            Message::Have { name, at } => Ok(self.have(name, at)),
-            Message::Relay { name, submission } => Ok(self.relay(name, submission)),
-            Message::Welcome { .. } => Ok(bad(BadReason::NotMessage)),
-            Message::Opened { .. } => Ok(bad(BadReason::NotMessage)),
-            Message::Snapshot(_) => Ok(bad(BadReason::NotMessage)),
-            Message::Unopened { .. } => Ok(bad(BadReason::NotMessage)),
-            Message::Ack { .. } => Ok(bad(BadReason::NotMessage)),
-            Message::Refused { .. } => Ok(bad(BadReason::NotMessage)),
-            Message::Queued { .. } => Ok(bad(BadReason::NotMessage)),
-            Message::Update { .. } => Ok(bad(BadReason::NotMessage)),
-            Message::Closed { .. } => Ok(bad(BadReason::NotMessage)),
-            Message::Bad(_) => Ok(bad(BadReason::NotMessage)),
-            Message::Applied { .. } => Ok(bad(BadReason::NotMessage)),
-            Message::Relayed { .. } => Ok(bad(BadReason::NotMessage)),
-            Message::Dropped { .. } => Ok(bad(BadReason::NotMessage)),
+            ForServer::CloseWavelet { name } => Ok(self.close(name)),
+            ForServer::Peer { domain } => self.meet_in_domain(alloc, domain),
+            ForServer::Have { name, at } => Ok(self.have(name, at)),
+            ForServer::Relay { name, submission } => Ok(self.relay(name, submission)),
         }
     }
 

@@ -7,7 +7,6 @@ use std::alloc::Global;
 use wave_base::{Address, DeltaId, Domain, WaveletName};
 
 /// For whom a session speaks.
-#[derive(Drop)]
 pub enum Party {
     /// Nobody yet.
     Nobody,
@@ -17,30 +16,64 @@ pub enum Party {
     Domain(Domain),
 }
 
+impl Drop for Party {
+    fn drop(self) {
+        match self {
+            Party::Nobody => {}
+            Party::User(_part0) => {}
+            Party::Domain(_part0) => {}
+        }
+    }
+}
+
 /// A wavelet that is open, and up to which version its deltas were sent.
-#[derive(Drop)]
 pub struct Opening {
     pub name: WaveletName,
     pub sent: u64,
 }
 
+impl Drop for Opening {
+    fn drop(self) {
+        let Opening {
+            name: _name,
+            sent: _sent,
+        } = self;
+    }
+}
+
 /// A submission that waits for its outcome.
-#[derive(Drop)]
 pub struct Waiting {
     pub name: WaveletName,
     pub id: DeltaId,
 }
 
+impl Drop for Waiting {
+    fn drop(self) {
+        let Waiting {
+            name: _name,
+            id: _id,
+        } = self;
+    }
+}
+
 /// A hosted wavelet of which a peer was told, up to which version its deltas were sent, and whether the peer counts as told of it.
-#[derive(Drop)]
 pub struct Telling {
     pub name: WaveletName,
     pub sent: u64,
     pub told: bool,
 }
 
+impl Drop for Telling {
+    fn drop(self) {
+        let Telling {
+            name: _name,
+            sent: _sent,
+            told: _told,
+        } = self;
+    }
+}
+
 /// A session of a client or of another domain.
-#[derive(Drop)]
 pub struct Session {
     /// The domain that is served here; a session of a pipe has none.
     pub domain: Option<Domain>,
@@ -50,6 +83,19 @@ pub struct Session {
     pub openings: Openings,
     pub waiting: Waitings,
     pub tellings: Tellings,
+}
+
+impl Drop for Session {
+    fn drop(self) {
+        let Session {
+            domain: _domain,
+            peers: _peers,
+            party: _party,
+            openings: _openings,
+            waiting: _waiting,
+            tellings: _tellings,
+        } = self;
+    }
 }
 
 impl Session {

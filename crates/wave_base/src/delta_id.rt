@@ -13,7 +13,7 @@ use std::cmp::Ordering;
 use std::marker::Model;
 
 /// By what a delta is known: no two deltas of a history have the same.
-#[derive(Debug, Drop)]
+#[derive(Debug)]
 pub struct DeltaId {
     /// Who made the delta.
     pub author: Address,
@@ -21,6 +21,16 @@ pub struct DeltaId {
     pub client: u64,
     /// The number that the client gave the delta, at most 2^53 - 1.
     pub number: u64,
+}
+
+impl Drop for DeltaId {
+    fn drop(self) {
+        let DeltaId {
+            author: _author,
+            client: _client,
+            number: _number,
+        } = self;
+    }
 }
 
 impl Model for DeltaId {

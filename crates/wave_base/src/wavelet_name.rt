@@ -18,9 +18,15 @@ use std::hash::{Hash, Hasher};
 use std::marker::Model;
 
 /// The name of a wavelet: wave domain, wave id, wavelet domain and wavelet id, with `/` between each two. Seen as its bytes.
-#[derive(Debug, Drop)]
+#[derive(Debug)]
 pub struct WaveletName {
     text: String,
+}
+
+impl Drop for WaveletName {
+    fn drop(self) {
+        let WaveletName { text: _text } = self;
+    }
 }
 
 impl Model for WaveletName {

@@ -10,6 +10,6 @@ mod writing;
 pub use fault::{Kind, LineFault, MessageFault};
 pub use line::{Line, read_line};
 pub use message_parts::{BadReason, ClosedReason, UnopenedReason};
-pub use message_table::Message;
+pub use message_table::{ForServer, Message};
 pub use reading::{MAX_CLIENT, MAX_PEER, read};
 pub use writing::{write, write_line};

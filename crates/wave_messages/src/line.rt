@@ -14,10 +14,28 @@ use wave_base::SessionName;
 use wave_fields::{has_members, session_at};
 
 /// A message with the session that it is from.
-#[derive(Drop)]
 pub struct Line {
     pub session: SessionName,
     pub message: Message,
+}
+
+impl Drop for Line {
+    fn drop(self) {
+        let Line {
+            session: _session,
+            message: _message,
+        } = self;
+    }
+}
+
+impl Line {
+    /// The session and the message, by value.
+    pub fn into_parts(self) -> (SessionName, Message)
+        ensures { result ≡ (self.session, self.message) }
+    {
+        let Line { session, message } = self;
+        (session, message)
+    }
 }
 
 // The session that a value names.

@@ -13,18 +13,35 @@ use std::alloc::{AllocError, Global};
 use std::mem::replace;
 
 /// A file of a folder in memory.
-#[derive(Drop)]
 pub struct StoredFile {
     pub name: String,
     pub disk: MemoryDisk,
 }
 
+impl Drop for StoredFile {
+    fn drop(self) {
+        let StoredFile {
+            name: _name,
+            disk: _disk,
+        } = self;
+    }
+}
+
 /// A folder in memory.
-#[derive(Drop)]
 pub struct MemoryFolder {
     alloc: Global,
     list: Vec<StoredFile>,
     calls: Calls,
+}
+
+impl Drop for MemoryFolder {
+    fn drop(self) {
+        let MemoryFolder {
+            alloc: _alloc,
+            list: _list,
+            calls: _calls,
+        } = self;
+    }
 }
 
 // A disk without bytes.

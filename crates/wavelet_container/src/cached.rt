@@ -18,10 +18,18 @@ use wavelet_op::AppliedDelta;
 use wavelet_state::WaveletState;
 
 /// The history of a wavelet, with states of its past that are kept once one of them was asked for.
-#[derive(Drop)]
 pub(crate) struct CachedHistory {
     history: History,
     cache: Option<StateCache>,
+}
+
+impl Drop for CachedHistory {
+    fn drop(self) {
+        let CachedHistory {
+            history: _history,
+            cache: _cache,
+        } = self;
+    }
 }
 
 impl Model for CachedHistory {

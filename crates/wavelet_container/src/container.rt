@@ -21,10 +21,18 @@ use wave_base::WaveletName;
 use wavelet_op::{Submission, Verdict};
 
 /// The history of a wavelet at its host. With a journal, each delta is on the disk before it is acknowledged.
-#[derive(Drop)]
 pub struct Container<K: Disk> {
     pub(crate) wavelet: CachedHistory,
     pub(crate) journal: Option<Journal<K>>,
+}
+
+impl<K: Disk + Drop> Drop for Container<K> {
+    fn drop(self) {
+        let Container {
+            wavelet: _wavelet,
+            journal: _journal,
+        } = self;
+    }
 }
 
 impl<K: Disk> Container<K> {

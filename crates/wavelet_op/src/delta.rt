@@ -9,12 +9,21 @@ use std::marker::Model;
 use wave_base::{DeltaId, HashedVersion};
 
 /// Operations that a client made at a version, and hands in.
-#[derive(Drop)]
 pub struct Submission {
     pub id: DeltaId,
     /// The version at which the operations were made.
     pub at: HashedVersion,
     pub ops: Ops,
+}
+
+impl Drop for Submission {
+    fn drop(self) {
+        let Submission {
+            id: _id,
+            at: _at,
+            ops: _ops,
+        } = self;
+    }
 }
 
 impl Submission {
@@ -33,7 +42,6 @@ impl Submission {
 }
 
 /// A delta of a history: operations that were applied at a version. Those on documents are in normal form.
-#[derive(Drop)]
 pub struct AppliedDelta {
     pub id: DeltaId,
     /// The version at which the operations were applied.
@@ -41,6 +49,17 @@ pub struct AppliedDelta {
     /// When they were applied, at most 2^53 - 1.
     pub time: u64,
     pub ops: Ops,
+}
+
+impl Drop for AppliedDelta {
+    fn drop(self) {
+        let AppliedDelta {
+            id: _id,
+            from: _from,
+            time: _time,
+            ops: _ops,
+        } = self;
+    }
 }
 
 impl Model for AppliedDelta {
@@ -63,6 +82,19 @@ impl Model for AppliedDelta {
 }
 
 impl AppliedDelta {
+    /// The operations, by value.
+    pub fn into_ops(self) -> Ops
+        ensures { result ≡ self.ops }
+    {
+        let AppliedDelta {
+            id: _id,
+            from: _from,
+            time: _time,
+            ops,
+        } = self;
+        ops
+    }
+
     /// An equal delta.
     pub fn copy(&self, alloc: Global) -> Result<AppliedDelta, Memory>
         ensures { IfOk result (λ d. d ≡ self.now) }

@@ -9,10 +9,18 @@ use doc_items::Memory;
 use std::alloc::Global;
 
 /// An operation on its way: as it was lent, or made since, and then in normal form.
-#[derive(Drop)]
 pub(crate) enum Held<'a> {
     Lent(&'a WaveletOp),
     Made(WaveletOp),
+}
+
+impl<'a> Drop for Held<'a> {
+    fn drop(self) {
+        match self {
+            Held::Lent(_part0) => {}
+            Held::Made(_part0) => {}
+        }
+    }
 }
 
 impl<'a> Held<'a> {

@@ -8,7 +8,6 @@ use std::alloc::Global;
 use wave_base::{Address, DocumentName};
 
 /// An operation on a wavelet.
-#[derive(Drop)]
 pub enum WaveletOp {
     /// Nothing.
     NoOp,
@@ -27,6 +26,25 @@ pub enum WaveletOp {
         old: Role,
         new: Role,
     },
+}
+
+impl Drop for WaveletOp {
+    fn drop(self) {
+        match self {
+            WaveletOp::NoOp => {}
+            WaveletOp::Add(_part0) => {}
+            WaveletOp::Remove(_part0) => {}
+            WaveletOp::Mutate {
+                document: _document,
+                op: _op,
+            } => {}
+            WaveletOp::SetRole {
+                address: _address,
+                old: _old,
+                new: _new,
+            } => {}
+        }
+    }
 }
 
 impl WaveletOp {

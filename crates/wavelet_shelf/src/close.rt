@@ -24,10 +24,7 @@ impl<F: Folder + Drop> Shelf<F> {
         ensures others { IfSome result (λ f. IsTrue F.Disk.tells → IfSome (in_folder self) (λ g. (m : List ℕ) → (HasFile self m → ⊥) → F.files f m ≡ F.files g m)) }
         ensures counted { IfSome result (λ f. min (F.faults f) (2 ^ 64 - 1) ≡ fault_count self) }
     {
-        let Shelf {
-            folder,
-            mut containers,
-        } = self;
+        let (folder, mut containers) = self.into_parts();
         let mut folder = folder?;
         put_all(&mut folder, &mut containers);
         Some(folder)
@@ -50,7 +47,7 @@ fn put_back<F: Folder>(folder: &mut F, filed: Filed<F::Disk>)
     requires room { F.room folder.old (string_bytes filed.file) ≡ true }
     ensures { IsOneBack F.Folder folder.old folder.new (string_bytes filed.file) filed.container }
 {
-    let Filed { file, container } = filed;
+    let (file, container) = filed.into_parts();
     if let Some(disk) = container.close() {
         folder.put(file.as_str(), disk);
     }

@@ -26,9 +26,14 @@ use wave_base::DocumentName;
 use wavelet_op::WaveletFault;
 
 /// Documents in pieces by their names, in byte order of the names. Each is balanced; one may be empty.
-#[derive(Drop)]
 pub(crate) struct Documents {
     map: BTreeMap<DocumentName, Rope>,
+}
+
+impl Drop for Documents {
+    fn drop(self) {
+        let Documents { map: _map } = self;
+    }
 }
 
 impl Model for Documents {

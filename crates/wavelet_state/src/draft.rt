@@ -14,10 +14,18 @@ use std::alloc::Global;
 use wavelet_op::{WaveletFault, WaveletOp};
 
 /// The roles and the documents of a state.
-#[derive(Drop)]
 pub(crate) struct Draft {
     pub roles: Roles,
     pub documents: Documents,
+}
+
+impl Drop for Draft {
+    fn drop(self) {
+        let Draft {
+            roles: _roles,
+            documents: _documents,
+        } = self;
+    }
 }
 
 impl Draft {

@@ -14,12 +14,22 @@ pub const MAX_INSERTED: u64 = 1 << 40;
 
 /// The state of a wavelet at a version. All its documents together have at most as many items as the history's deltas inserted,
 /// and these are at most `MAX_INSERTED`.
-#[derive(Drop)]
 pub struct Snapshot {
     name: WaveletName,
     at: HashedVersion,
     inserted: u64,
     state: WaveletState,
+}
+
+impl Drop for Snapshot {
+    fn drop(self) {
+        let Snapshot {
+            name: _name,
+            at: _at,
+            inserted: _inserted,
+            state: _state,
+        } = self;
+    }
 }
 
 impl Model for Snapshot {
@@ -94,7 +104,13 @@ impl Snapshot {
     pub fn into_state(self) -> WaveletState
         ensures { result ≡ self.state }
     {
-        self.state
+        let Snapshot {
+            name: _name,
+            at: _at,
+            inserted: _inserted,
+            state,
+        } = self;
+        state
     }
 
     /// An equal snapshot.

@@ -21,9 +21,14 @@ use wavelet_op::{Role, WaveletFault, WaveletOp};
 
 /// The state of a wavelet: its participants with their roles, and its documents. Each document is balanced, and one that is empty
 /// isn't kept.
-#[derive(Drop)]
 pub struct WaveletState {
     draft: Draft,
+}
+
+impl Drop for WaveletState {
+    fn drop(self) {
+        let WaveletState { draft: _draft } = self;
+    }
 }
 
 impl Model for WaveletState {
