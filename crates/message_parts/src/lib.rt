@@ -13,4 +13,4 @@ pub use operation::{components_at, normal_ops_at, ops_at, role_at};
 pub use operation_value::{ops_value, role_value};
 pub use reason::{BadReason, ClosedReason, UnopenedReason, bad_at, closed_at};
 pub use verdict::{ack_in, answer_at, refusal_in, unopened_in};
-pub use verdict_value::{put_unopened, put_verdict};
+pub use verdict_value::{put_unopened, put_verdict, put_version};

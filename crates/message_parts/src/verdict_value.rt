@@ -1,8 +1,8 @@
 // Verdicts and reasons not to open a wavelet, written among the members of an object.
 ghost use Rattle.std.specs.Prelude.{◌≡◌, codes, OnOk};
-ghost use Rattle.serde_json.specs.Data.{string, put as put_data};
+ghost use Rattle.serde_json.specs.Data.{put as put_data};
 ghost use Rattle.serde_json.specs.View.{members_view};
-ghost use Rattle.wave_fields.specs.Write.{count_data, bytes_data};
+ghost use Rattle.wave_fields.specs.Write.{bytes_data};
 ghost use Rattle.message_parts.specs.Good.{IsGoodHash, IsGoodVersion, IsGoodReason, IsGoodVerdict};
 ghost use Rattle.message_parts.specs.Verdicts.{with_version, with_reason, with_verdict, with_unopened};
 
@@ -11,19 +11,8 @@ use doc_items::Memory;
 use serde_json::{Map, Value, put};
 use std::alloc::Global;
 use wave_base::HashedVersion;
-use wave_fields::{hash_value, string_value};
+use wave_fields::{hash_value, put_count, put_text};
 use wavelet_op::Verdict;
-
-fn put_count(
-    alloc: Global,
-    members: &mut Map<String, Value>,
-    name: &str,
-    count: u64,
-) -> Result<(), Memory>
-    ensures { OnOk result (members_view members.new.entries ≡ put_data name.now (count_data count) (members_view members.old.entries)) }
-{
-    put(members, alloc, name, Value::from(count))
-}
 
 fn put_hash(alloc: Global, members: &mut Map<String, Value>, hash: &[u8; 32]) -> Result<(), Memory>
     ensures good { OnOk result (IsGoodHash hash.now) }
@@ -33,8 +22,9 @@ fn put_hash(alloc: Global, members: &mut Map<String, Value>, hash: &[u8; 32]) ->
     put(members, alloc, "hash", hash)
 }
 
+/// Puts the version and its hash among the members, as `version` and `hash`. After want of memory one of them may be there.
 #[tactic(auto, using(crate::proofs::Counts::counts))]
-fn put_version(
+pub fn put_version(
     alloc: Global,
     members: &mut Map<String, Value>,
     at: &HashedVersion,
@@ -50,8 +40,7 @@ fn put_version(
 fn put_reason(alloc: Global, members: &mut Map<String, Value>, name: &str) -> Result<(), Memory>
     ensures { OnOk result (members_view members.new.entries ≡ with_reason name.now (members_view members.old.entries)) }
 {
-    let name = string_value(alloc, name)?;
-    put(members, alloc, "reason", name)
+    put_text(alloc, members, "reason", name)
 }
 
 /// Puts the verdict among the members: an acknowledgement as `at`, `version` and `hash`, another one as `reason` and the members

@@ -1,11 +1,12 @@
 -- What is written for each kind of message: an object with its members in byte order of their names.
 --     kind_data, wavelet_member          the member `type`, and the wavelet's name as the last member
+--     with_id id                         the members that say who made a delta, put among others
 --     hello_data .. dropped_data         of one kind
 --     message_data m                     of any
 --     IsShort m                          the bytes of a delta that is written are fewer than 4,294,967,296
 use Rattle.std.specs.Prelude.{◌<◌, ℕ, List, length, Option, Some, None, codes}
 use Rattle.op_codec.specs.Spelling.{limit}
-use Rattle.serde_json.specs.Data.{Data, Members, string, object, no_members, member}
+use Rattle.serde_json.specs.Data.{Data, Members, string, object, no_members, member, put}
 use Rattle.op_json.specs.Write.{text_data}
 use Rattle.wave_base.specs.Versions.{VersionAt, IdOf}
 use Rattle.wave_fields.specs.Write.{count_data, bytes_data}
@@ -35,6 +36,9 @@ kind_and_wavelet kind name = member (codes "type") (string kind) (wavelet_member
 -- the members `type`, `version` and `wavelet`
 abbrev pub kind_and_version : List ℕ → ℕ → List ℕ → Members
 kind_and_version kind version name = member (codes "type") (string kind) (member (codes "version") (count_data version) (wavelet_member name))
+
+abbrev pub with_id : IdOf → Members → Members
+with_id id members = put (codes "author") (string id.author) (put (codes "client") (count_data id.client) (put (codes "number") (count_data id.number) members))
 
 -- ---- from a client
 

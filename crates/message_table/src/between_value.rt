@@ -1,16 +1,19 @@
 // Messages between domains, written.
-ghost use Rattle.std.specs.Prelude.{◌≡◌, ◌<◌, length, IfOk};
+ghost use Rattle.std.specs.Prelude.{◌≡◌, ◌<◌, length, codes, IfOk, OnOk};
 ghost use Rattle.op_codec.specs.Spelling.{limit};
-ghost use Rattle.serde_json.specs.View.{view};
+ghost use Rattle.serde_json.specs.Data.{object, no_members, put as put_data};
+ghost use Rattle.serde_json.specs.View.{view, members_view};
+ghost use Rattle.message_parts.specs.Good.{IsGoodVerdict};
+ghost use Rattle.message_parts.specs.Verdicts.{with_verdict};
 ghost use Rattle.wavelet_codec.specs.Spelling.{delta_bytes};
 ghost use Rattle.message_table.specs.Back.{IsReadBack, InRange};
 ghost use Rattle.message_table.specs.Write.{peer_data, have_data, relay_data, applied_data, relayed_data};
 
 use crate::Message;
-use crate::serial::{author_value, name_value, version_hash};
+use crate::serial::{kind_and_wavelet, put_id, put_ops};
 use doc_items::Memory;
-use message_parts::{delta_value, ops_value, put_verdict};
-use serde_json::{Map, Value, json};
+use message_parts::{delta_value, put_verdict, put_version};
+use serde_json::{Map, Value, json, put};
 use std::alloc::Global;
 use wave_base::{DeltaId, Domain, HashedVersion, WaveletName};
 use wave_fields::string_value;
@@ -32,9 +35,9 @@ pub fn have_value(alloc: Global, name: &WaveletName, from: &HashedVersion) -> Re
     ensures value { IfOk result (λ v. view v ≡ have_data name.now from.now) }
     ensures back { IfOk result (λ _. IsReadBack (Message.Have name.now from.now)) }
 {
-    let name = name_value(alloc, name)?;
-    let hash = version_hash(alloc, from)?;
-    json!(in alloc; {"hash": hash, "type": "have", "version": from.version, "wavelet": name})
+    let mut members = kind_and_wavelet(alloc, "have", name)?;
+    put_version(alloc, &mut members, from)?;
+    Ok(Value::Object(members))
 }
 
 /// A `relay`.
@@ -47,11 +50,11 @@ pub fn relay_value(
     ensures back { IfOk result (λ _. IsReadBack (Message.Relay name.now submission.now)) }
     ensures value { IfOk result (λ v. view v ≡ relay_data name.now submission.now.id submission.now.at submission.now.ops) }
 {
-    let name = name_value(alloc, name)?;
-    let author = author_value(alloc, &submission.id)?;
-    let hash = version_hash(alloc, &submission.at)?;
-    let ops = ops_value(alloc, &submission.ops)?;
-    json!(in alloc; {"author": author, "client": submission.id.client, "hash": hash, "number": submission.id.number, "operations": ops, "type": "relay", "version": submission.at.version, "wavelet": name})
+    let mut members = kind_and_wavelet(alloc, "relay", name)?;
+    put_version(alloc, &mut members, &submission.at)?;
+    put_ops(alloc, &mut members, &submission.ops)?;
+    put_id(alloc, &mut members, &submission.id)?;
+    Ok(Value::Object(members))
 }
 
 /// An `applied`, whose delta has fewer than 4,294,967,296 bytes.
@@ -65,10 +68,24 @@ pub fn applied_value(
     ensures value { IfOk result (λ v. view v ≡ applied_data name.now delta.now) }
     ensures back { IfOk result (λ _. IsReadBack (Message.Applied name.now delta.now)) }
 {
-    let name = name_value(alloc, name)?;
-    let hash = version_hash(alloc, &delta.from)?;
-    let bytes = delta_value(alloc, delta)?;
-    json!(in alloc; {"delta": bytes, "hash": hash, "type": "applied", "version": delta.from.version, "wavelet": name})
+    let mut members = kind_and_wavelet(alloc, "applied", name)?;
+    put_version(alloc, &mut members, &delta.from)?;
+    put(&mut members, alloc, "delta", delta_value(alloc, delta)?)?;
+    Ok(Value::Object(members))
+}
+
+// Puts the verdict, in an object of its own.
+fn put_answer(
+    alloc: Global,
+    members: &mut Map<String, Value>,
+    verdict: &Verdict,
+) -> Result<(), Memory>
+    ensures good { OnOk result (IsGoodVerdict verdict.now) }
+    ensures value { OnOk result (members_view members.new.entries ≡ put_data (codes "verdict") (object (with_verdict verdict.now no_members)) (members_view members.old.entries)) }
+{
+    let mut answer = Map::new(alloc);
+    put_verdict(alloc, &mut answer, verdict)?;
+    put(members, alloc, "verdict", Value::Object(answer))
 }
 
 /// A `relayed`.
@@ -82,10 +99,8 @@ pub fn relayed_value(
     ensures back { IfOk result (λ _. InRange (Message.Relayed name.now id.now verdict.now) → IsReadBack (Message.Relayed name.now id.now verdict.now)) }
     ensures value { IfOk result (λ v. view v ≡ relayed_data name.now id.now verdict.now) }
 {
-    let mut members = Map::new(alloc);
-    put_verdict(alloc, &mut members, verdict)?;
-    let verdict = Value::Object(members);
-    let name = name_value(alloc, name)?;
-    let author = author_value(alloc, id)?;
-    json!(in alloc; {"author": author, "client": id.client, "number": id.number, "type": "relayed", "verdict": verdict, "wavelet": name})
+    let mut members = kind_and_wavelet(alloc, "relayed", name)?;
+    put_answer(alloc, &mut members, verdict)?;
+    put_id(alloc, &mut members, id)?;
+    Ok(Value::Object(members))
 }

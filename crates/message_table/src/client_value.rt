@@ -6,9 +6,9 @@ ghost use Rattle.message_table.specs.Back.{IsGoodName, IsReadBack, InRange};
 ghost use Rattle.message_table.specs.Write.{kind_and_wavelet, hello_data, welcome_data, open_data, submit_data};
 
 use crate::Message;
-use crate::serial::{name_value, version_hash};
+use crate::serial::{kind_and_wavelet, put_ops, serial_members};
 use doc_items::{Memory, Text};
-use message_parts::ops_value;
+use message_parts::put_version;
 use serde_json::{Value, json};
 use std::alloc::Global;
 use wave_base::{HashedVersion, WaveletName};
@@ -20,9 +20,8 @@ pub fn named_value(alloc: Global, kind: &str, name: &WaveletName) -> Result<Valu
     ensures value { IfOk result (λ v. view v ≡ object (kind_and_wavelet kind.now name.now)) }
     ensures good { IfOk result (λ _. IsGoodName name.now) }
 {
-    let name = name_value(alloc, name)?;
-    let kind = string_value(alloc, kind)?;
-    json!(in alloc; {"type": kind, "wavelet": name})
+    let members = kind_and_wavelet(alloc, kind, name)?;
+    Ok(Value::Object(members))
 }
 
 /// A `hello`.
@@ -55,9 +54,9 @@ pub fn open_at_value(
     ensures value { IfOk result (λ v. view v ≡ open_data name.now (Some from.now)) }
     ensures back { IfOk result (λ _. IsReadBack (Message.OpenWavelet name.now (Some from.now))) }
 {
-    let name = name_value(alloc, name)?;
-    let hash = version_hash(alloc, from)?;
-    json!(in alloc; {"hash": hash, "type": "open", "version": from.version, "wavelet": name})
+    let mut members = kind_and_wavelet(alloc, "open", name)?;
+    put_version(alloc, &mut members, from)?;
+    Ok(Value::Object(members))
 }
 
 /// A `submit`.
@@ -73,8 +72,8 @@ pub fn submit_value(
     ensures value { IfOk result (λ v. view v ≡ submit_data name.now client number from.now ops.now) }
     ensures back { IfOk result (λ _. InRange (Message.Submit name.now client number from.now ops.now) → IsReadBack (Message.Submit name.now client number from.now ops.now)) }
 {
-    let name = name_value(alloc, name)?;
-    let hash = version_hash(alloc, from)?;
-    let ops = ops_value(alloc, ops)?;
-    json!(in alloc; {"client": client, "hash": hash, "number": number, "operations": ops, "type": "submit", "version": from.version, "wavelet": name})
+    let mut members = serial_members(alloc, "submit", name, client, number)?;
+    put_version(alloc, &mut members, from)?;
+    put_ops(alloc, &mut members, ops)?;
+    Ok(Value::Object(members))
 }

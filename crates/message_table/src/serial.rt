@@ -1,17 +1,19 @@
 // The members that many kinds share: the wavelet's name, and the client's key with its number for a delta.
-ghost use Rattle.std.specs.Prelude.{◌≡◌, IfOk};
-ghost use Rattle.serde_json.specs.Data.{string};
-ghost use Rattle.serde_json.specs.View.{view};
-ghost use Rattle.wave_fields.specs.Write.{bytes_data};
-ghost use Rattle.message_parts.specs.Good.{IsGoodVersion};
+ghost use Rattle.std.specs.Prelude.{◌≡◌, Some, codes, IfOk, OnOk};
+ghost use Rattle.serde_json.specs.Data.{string, put as put_data};
+ghost use Rattle.serde_json.specs.View.{view, members_view};
+ghost use Rattle.message_parts.specs.Operations.{ops_data, ops_of};
 ghost use Rattle.message_table.specs.Back.{IsGoodName, IsGoodId};
 ghost use Rattle.message_table.specs.Read.{wavelet_of, serial_of};
+ghost use Rattle.message_table.specs.Write.{kind_and_wavelet, serial_members, with_id};
 
 use doc_items::Memory;
-use serde_json::Value;
+use message_parts::ops_value;
+use serde_json::{Map, Value, put};
 use std::alloc::Global;
-use wave_base::{DeltaId, HashedVersion, WaveletName};
-use wave_fields::{count_at, hash_value, string_value, wavelet_at};
+use wave_base::{DeltaId, WaveletName};
+use wave_fields::{count_at, put_count, put_text, string_value, wavelet_at};
+use wavelet_op::Ops;
 
 /// The wavelet's name.
 pub fn wavelet_of(alloc: Global, value: &Value) -> Result<Option<WaveletName>, Memory>
@@ -37,22 +39,67 @@ pub fn name_value(alloc: Global, name: &WaveletName) -> Result<Value, Memory>
     string_value(alloc, name.text())
 }
 
-/// The hash of a version, written.
-#[tactic(auto, using(crate::proofs::Back::counts))]
-pub fn version_hash(alloc: Global, from: &HashedVersion) -> Result<Value, Memory>
-    ensures value { IfOk result (λ v. view v ≡ bytes_data from.now.hash) }
-    ensures good { IfOk result (λ _. IsGoodVersion from.now) }
+/// The members `type` and `wavelet`.
+pub fn kind_and_wavelet(
+    alloc: Global,
+    kind: &str,
+    name: &WaveletName,
+) -> Result<Map<String, Value>, Memory>
+    ensures good { IfOk result (λ _. IsGoodName name.now) }
+    ensures value { IfOk result (λ members. members_view members.entries ≡ kind_and_wavelet kind.now name.now) }
 {
-    let _version = from.version;
-    hash_value(alloc, &from.hash)
+    let mut members = Map::new(alloc);
+    put_text(alloc, &mut members, "type", kind)?;
+    put_name(alloc, &mut members, name)?;
+    Ok(members)
 }
 
-/// The author of a delta, written.
-#[tactic(auto, using(crate::proofs::Back::counts))]
-pub fn author_value(alloc: Global, id: &DeltaId) -> Result<Value, Memory>
-    ensures value { IfOk result (λ v. view v ≡ string id.now.author) }
-    ensures good { IfOk result (λ _. IsGoodId id.now) }
+/// The members that say which submission is meant.
+pub fn serial_members(
+    alloc: Global,
+    kind: &str,
+    name: &WaveletName,
+    client: u64,
+    number: u64,
+) -> Result<Map<String, Value>, Memory>
+    ensures good { IfOk result (λ _. IsGoodName name.now) }
+    ensures value { IfOk result (λ members. members_view members.entries ≡ serial_members kind.now name.now client number) }
 {
-    let _numbers = (id.client, id.number);
-    string_value(alloc, id.author.text())
+    let mut members = kind_and_wavelet(alloc, kind, name)?;
+    put_count(alloc, &mut members, "client", client)?;
+    put_count(alloc, &mut members, "number", number)?;
+    Ok(members)
+}
+
+/// Puts the wavelet's name. After want of memory, here and below, it may be there.
+pub fn put_name(
+    alloc: Global,
+    members: &mut Map<String, Value>,
+    name: &WaveletName,
+) -> Result<(), Memory>
+    ensures good { OnOk result (IsGoodName name.now) }
+    ensures value { OnOk result (members_view members.new.entries ≡ put_data (codes "wavelet") (string name.now) (members_view members.old.entries)) }
+{
+    let name = name_value(alloc, name)?;
+    put(members, alloc, "wavelet", name)
+}
+
+/// Puts who made a delta, under which key and number.
+#[tactic(auto, using(crate::proofs::Back::counts))]
+pub fn put_id(alloc: Global, members: &mut Map<String, Value>, id: &DeltaId) -> Result<(), Memory>
+    ensures good { OnOk result (IsGoodId id.now) }
+    ensures value { OnOk result (members_view members.new.entries ≡ with_id id.now (members_view members.old.entries)) }
+{
+    put_count(alloc, members, "number", id.number)?;
+    put_count(alloc, members, "client", id.client)?;
+    put_text(alloc, members, "author", id.author.text())
+}
+
+/// Puts operations.
+pub fn put_ops(alloc: Global, members: &mut Map<String, Value>, ops: &Ops) -> Result<(), Memory>
+    ensures back { OnOk result (ops_of (ops_data ops.now) ≡ Some ops.now) }
+    ensures value { OnOk result (members_view members.new.entries ≡ put_data (codes "operations") (ops_data ops.now) (members_view members.old.entries)) }
+{
+    let ops = ops_value(alloc, ops)?;
+    put(members, alloc, "operations", ops)
 }

@@ -1,25 +1,28 @@
 // Messages to a client, written.
-ghost use Rattle.std.specs.Prelude.{◌≡◌, ◌≤◌, IfOk};
+ghost use Rattle.std.specs.Prelude.{◌≡◌, ◌≤◌, codes, IfOk, OnOk};
 ghost use Rattle.doc_items.specs.Limits.{max_count};
 ghost use Rattle.wavelet_op.specs.Acts.{AreNormal};
+ghost use Rattle.serde_json.specs.Data.{put as put_data};
 ghost use Rattle.serde_json.specs.View.{view, members_view};
-ghost use Rattle.message_table.specs.Back.{IsGoodName, IsReadBack, InRange};
+ghost use Rattle.snapshot_json.specs.Back.{AreMembersBack, AreDocumentsBack};
+ghost use Rattle.snapshot_json.specs.Write.{members_data, documents_data};
+ghost use Rattle.message_table.specs.Back.{IsReadBack, InRange};
 ghost use Rattle.message_table.specs.Read.{update_from};
-ghost use Rattle.message_table.specs.Write.{kind_and_wavelet, serial_members, ack_data, opened_data, snapshot_data, unopened_data, verdict_kind, verdict_data, queued_data, update_data, closed_data, bad_data};
+ghost use Rattle.message_table.specs.Write.{ack_data, opened_data, snapshot_data, unopened_data, verdict_kind, verdict_data, queued_data, update_data, closed_data, bad_data};
 
 use crate::Message;
-use crate::serial::{author_value, name_value, version_hash};
+use crate::serial::{kind_and_wavelet, put_id, put_ops, serial_members};
 use doc_items::Memory;
 use message_parts::{
-    BadReason, ClosedReason, UnopenedReason, ops_value, put_unopened, put_verdict,
+    BadReason, ClosedReason, UnopenedReason, put_unopened, put_verdict, put_version,
 };
 use serde_json::{Map, Value, json, put};
 use snapshot_json::{documents_value, members_value};
 use std::alloc::Global;
 use wave_base::{DeltaId, HashedVersion, WaveletName};
-use wave_fields::string_value;
+use wave_fields::{put_count, put_text, string_value};
 use wavelet_op::{AppliedDelta, Ops, Verdict};
-use wavelet_state::Snapshot;
+use wavelet_state::{Snapshot, WaveletState};
 
 /// An `opened`. The error is want of memory, here and in the others.
 #[tactic(auto, using(crate::proofs::Back::opened_back))]
@@ -27,8 +30,35 @@ pub fn opened_value(alloc: Global, name: &WaveletName, version: u64) -> Result<V
     ensures value { IfOk result (λ v. view v ≡ opened_data name.now version) }
     ensures back { IfOk result (λ _. InRange (Message.Opened name.now version) → IsReadBack (Message.Opened name.now version)) }
 {
-    let name = name_value(alloc, name)?;
-    json!(in alloc; {"type": "opened", "version": version, "wavelet": name})
+    let mut members = kind_and_wavelet(alloc, "opened", name)?;
+    put_count(alloc, &mut members, "version", version)?;
+    Ok(Value::Object(members))
+}
+
+// Puts the documents of a state.
+fn put_documents(
+    alloc: Global,
+    members: &mut Map<String, Value>,
+    state: &WaveletState,
+) -> Result<(), Memory>
+    ensures back { OnOk result (AreDocumentsBack state.now) }
+    ensures value { OnOk result (members_view members.new.entries ≡ put_data (codes "documents") (documents_data state.now) (members_view members.old.entries)) }
+{
+    let documents = documents_value(alloc, state)?;
+    put(members, alloc, "documents", documents)
+}
+
+// Puts the participants of a state.
+fn put_participants(
+    alloc: Global,
+    members: &mut Map<String, Value>,
+    state: &WaveletState,
+) -> Result<(), Memory>
+    ensures back { OnOk result (AreMembersBack state.now) }
+    ensures value { OnOk result (members_view members.new.entries ≡ put_data (codes "participants") (members_data state.now) (members_view members.old.entries)) }
+{
+    let participants = members_value(alloc, state)?;
+    put(members, alloc, "participants", participants)
 }
 
 /// A `snapshot`.
@@ -36,28 +66,14 @@ pub fn snapshot_value(alloc: Global, snapshot: &Snapshot) -> Result<Value, Memor
     ensures value { IfOk result (λ v. view v ≡ snapshot_data snapshot.now) }
     ensures back { IfOk result (λ _. IsReadBack (Message.Snapshot snapshot.now)) }
 {
-    let name = name_value(alloc, snapshot.name())?;
     let from = snapshot.at();
-    let hash = version_hash(alloc, &from)?;
-    let documents = documents_value(alloc, snapshot.state())?;
-    let members = members_value(alloc, snapshot.state())?;
     let inserted = snapshot.inserted();
-    json!(in alloc; {"documents": documents, "hash": hash, "inserted": inserted, "participants": members, "type": "snapshot", "version": from.version, "wavelet": name})
-}
-
-// The members `type` and `wavelet`.
-fn kind_and_wavelet(
-    alloc: Global,
-    kind: &str,
-    name: &WaveletName,
-) -> Result<Map<String, Value>, Memory>
-    ensures good { IfOk result (λ _. IsGoodName name.now) }
-    ensures value { IfOk result (λ members. members_view members.entries ≡ kind_and_wavelet kind.now name.now) }
-{
-    let mut members = Map::new(alloc);
-    put(&mut members, alloc, "type", string_value(alloc, kind)?)?;
-    put(&mut members, alloc, "wavelet", name_value(alloc, name)?)?;
-    Ok(members)
+    let mut members = kind_and_wavelet(alloc, "snapshot", snapshot.name())?;
+    put_version(alloc, &mut members, &from)?;
+    put_count(alloc, &mut members, "inserted", inserted)?;
+    put_documents(alloc, &mut members, snapshot.state())?;
+    put_participants(alloc, &mut members, snapshot.state())?;
+    Ok(Value::Object(members))
 }
 
 /// An `unopened`.
@@ -73,23 +89,6 @@ pub fn unopened_value(
     let mut members = kind_and_wavelet(alloc, "unopened", name)?;
     put_unopened(alloc, &mut members, reason)?;
     Ok(Value::Object(members))
-}
-
-// The members that say which submission is meant.
-fn serial_members(
-    alloc: Global,
-    kind: &str,
-    name: &WaveletName,
-    client: u64,
-    number: u64,
-) -> Result<Map<String, Value>, Memory>
-    ensures good { IfOk result (λ _. IsGoodName name.now) }
-    ensures value { IfOk result (λ members. members_view members.entries ≡ serial_members kind.now name.now client number) }
-{
-    let mut members = kind_and_wavelet(alloc, kind, name)?;
-    put(&mut members, alloc, "client", Value::from(client))?;
-    put(&mut members, alloc, "number", Value::from(number))?;
-    Ok(members)
 }
 
 fn verdict_kind(verdict: &Verdict) -> &'static str
@@ -171,11 +170,12 @@ fn update_of(
     ensures value { IfOk result (λ v. view v ≡ update_data name.now (record { id = id.now; from = from.now; time = time; ops = ops.now })) }
     ensures back { IfOk result (λ _. IsReadBack (update_from name.now id.now from.now time ops.now)) }
 {
-    let name = name_value(alloc, name)?;
-    let author = author_value(alloc, id)?;
-    let hash = version_hash(alloc, from)?;
-    let ops = ops_value(alloc, ops)?;
-    json!(in alloc; {"author": author, "client": id.client, "hash": hash, "number": id.number, "operations": ops, "time": time, "type": "update", "version": from.version, "wavelet": name})
+    let mut members = kind_and_wavelet(alloc, "update", name)?;
+    put_version(alloc, &mut members, from)?;
+    put_count(alloc, &mut members, "time", time)?;
+    put_ops(alloc, &mut members, ops)?;
+    put_id(alloc, &mut members, id)?;
+    Ok(Value::Object(members))
 }
 
 /// An `update`.
@@ -200,9 +200,9 @@ pub fn closed_value(
     ensures value { IfOk result (λ v. view v ≡ closed_data name.now reason) }
     ensures back { IfOk result (λ _. IsReadBack (Message.Closed name.now reason)) }
 {
-    let name = name_value(alloc, name)?;
-    let reason = string_value(alloc, reason.name())?;
-    json!(in alloc; {"reason": reason, "type": "closed", "wavelet": name})
+    let mut members = kind_and_wavelet(alloc, "closed", name)?;
+    put_text(alloc, &mut members, "reason", reason.name())?;
+    Ok(Value::Object(members))
 }
 
 /// A `bad`.
