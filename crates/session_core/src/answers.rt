@@ -288,12 +288,10 @@ impl Session {
         if hash != from.hash {
             return unopened(alloc, name, UnopenedReason::WrongHash { host: hash });
         }
-        let reply = Message::Opened {
-            name: name.copy(alloc)?,
-            version: from.version,
-        };
-        self.set_sent(name.copy(alloc)?, from.version)?;
-        Ok(reply)
+        let version = from.version;
+        let name = name.copy(alloc)?;
+        self.set_sent(name.copy(alloc)?, version)?;
+        Ok(Message::Opened { name, version })
     }
 
     // What a history that may be shown is answered with. It is legal, so its state makes a snapshot.
