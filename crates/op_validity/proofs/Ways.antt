@@ -2,6 +2,7 @@
 --     fit_at, passable_at     what a builder took can be walked over and gone past
 --     actions_next, running_next     one component further
 --     valid_parts, valid_is     structured, and applies
+--     walked                    behind the last component nothing is left to be made
 use Rattle.std.proofs.Common.{◌≡◌, ℕ, ◌+◌, ◌<◌, List, [], ◌∷◌, ◌++◌, length, take, drop, get_or, drop-cons, add-one, refl, sym, ap, ◌∙◌, true≢false, Bool, true, false, cond, Option, Some, None, IsSome, is_none}
 use Rattle.std.proofs.Math.Seq.{take-suc}
 use Rattle.doc_op.specs.declared.component.Component.{Component}
@@ -13,6 +14,12 @@ use Rattle.doc_op.specs.Apply.{apply, valid}
 use Rattle.doc_op.specs.Refusals.{refusal, IsBuilt}
 use Rattle.doc_op.proofs.Built.{built_at, ascending_of_update, fits_of_boundary}
 use Rattle.doc_op.proofs.Lengths.{running-add}
+use Rattle.std.proofs.Common.{◌≤◌, subst}
+use Rattle.std.proofs.lemmas.List.{drop_all}
+use Rattle.doc_items.specs.Changes.{ChangeSet}
+use Rattle.doc_op.specs.Actions.{Action}
+use Rattle.op_validity.specs.Edits.{MakesAll}
+use Rattle.op_validity.specs.declared.edits.Edits.{Edits}
 use Rattle.op_validity.specs.Walks.{IsFit, IsPassable}
 
 fit_of : (cs : List Component) (c : Component) → refusal cs c ≡ None → IsFit c
@@ -71,3 +78,6 @@ valid_parts cs items h = let p = some_cond (is_none (first_break cs)) (apply (ac
 
 pub valid_is : (cs : List Component) (items out : List Item) → first_break cs ≡ None → apply (actions cs) items ≡ Some out → valid cs items ≡ Some out
 valid_is cs items out e f = ap (λ (o : Option ℕ). cond (is_none o) (apply (actions cs) items) None) e ∙ f
+
+pub walked : (all : List Action) (e : Edits) (u : ChangeSet) (i : ℕ) (cs : List Component) → length cs ≤ i → MakesAll all e (actions_from u (drop i cs)) → MakesAll all e []
+walked all e u i cs h = subst (λ (z : List Component). MakesAll all e (actions_from u z)) (drop_all i cs h)
