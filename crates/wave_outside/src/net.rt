@@ -82,7 +82,7 @@ pub trait Net {
         ensures looks { looks self.new ≡ looks self.old }
         ensures same { (accepted self.new ≡ accepted self.old) × (out self.new ≡ out self.old) × (back self.new ≡ back self.old) };
 
-    /// A new link, if one came. It may wait a while for one.
+    /// A new link, if one came. It doesn't wait for one.
     fn accept(&mut self, alloc: Global) -> Result<Accepted<Self::Link>, NetFault>
         ensures later { (door self.old ≤ door self.new) × (line self.new ≡ line self.old) }
         ensures failed { IfErr result (λ e. e ≡ Failed → Rose (door self.old) (door self.new)) }
