@@ -4,7 +4,7 @@
 --     made_last                one more file, which is empty
 --     named, found             each name has a file, and each file a name
 --     same_names               files of the same names
-use Rattle.std.proofs.Common.{◌≡◌, ◌≢◌, ◌==◌, ℕ, zero, suc, Bool, true, false, cond, List, [], ◌∷◌, ◌++◌, map, slice_get, Option, Some, None, IsSome, IfSome, is_some, string_bytes, refl, sym, ap, subst, ◌∙◌, true≢false}
+use Rattle.std.proofs.Common.{◌≡◌, ◌≢◌, ◌==◌, ℕ, zero, suc, Bool, true, false, cond, List, [], ◌∷◌, ◌++◌, slice_get, Option, Some, None, IsSome, IfSome, is_some, string_bytes, refl, sym, ap, subst, ◌∙◌, true≢false}
 use Rattle.std.specs.Cmp.Lexicographic.{pointwise, bytes_decides}
 use Rattle.disk_model.specs.Memory.{disk_view}
 use Rattle.disk_model.specs.declared.memory.MemoryDisk.{MemoryDisk}

@@ -1,6 +1,10 @@
 pub mod Clocks
 pub mod Counts
 pub mod Folders
+pub mod Links
 pub mod Memory
 pub mod MemoryFolders
+pub mod MemoryLinks
+pub mod MemoryNets
+pub mod Nets
 pub mod Streams
