@@ -24,7 +24,10 @@ impl<F: Folder + Drop> Shelf<F> {
         ensures others { IfSome result (λ f. IsTrue F.Disk.tells → IfSome (in_folder self) (λ g. (m : List ℕ) → (HasFile self m → ⊥) → F.files f m ≡ F.files g m)) }
         ensures counted { IfSome result (λ f. min (F.faults f) (2 ^ 64 - 1) ≡ fault_count self) }
     {
-        let (folder, mut containers) = self.into_parts();
+        let Shelf {
+            folder,
+            mut containers,
+        } = self;
         let mut folder = folder?;
         put_all(&mut folder, &mut containers);
         Some(folder)

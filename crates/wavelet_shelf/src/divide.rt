@@ -24,7 +24,10 @@ impl<F: Folder + Drop> Shelf<F> {
         ensures sixteen { IfOk result (λ v. length v.items ≡ 16) }
         ensures parts { IfOk result (λ v. (i : ℕ) → IfSome (slice_get v.items i) (IsPart self i)) }
     {
-        let (folder, mut containers) = self.into_parts();
+        let Shelf {
+            folder,
+            mut containers,
+        } = self;
         let mut parts = sixteen(alloc, &folder)?;
         spread(&mut containers, parts.as_mut_slice())?;
         Ok(parts)

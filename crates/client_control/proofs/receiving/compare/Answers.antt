@@ -26,4 +26,4 @@ returns-else-eq c =
     let mine = c.as_slice.ensures.value ∙ c.in_ok-spelled_own.ensures.value in
     let differ = λ (h : delta_bytes d ≡ delta_bytes own). both (c.eq.ensures ∙ (bytes_decides c.args.spelled.now c.as_slice.result.now).1 (c.requires.bytes ∙ h ∙ sym mine)) c.if-eq.false in
     let ops : own.ops ≡ g.ops = ap (λ (z : DeltaOf). z.ops) is in
-    (other_compared g d own c.requires.normal is differ, ap (λ (z : DeltaOf). z.ops) c.own.view_is ∙ ops ∙ sym (ops_back g.ops c.requires.normal), c.in_ok-theirs.ensures ∙ ap (λ (z : DeltaOf). z.ops) c.delta.view_is)
+    (other_compared g d own c.requires.normal is differ, c.into_ops.ensures ∙ ops ∙ sym (ops_back g.ops c.requires.normal), c.in_ok-theirs.ensures ∙ ap (λ (z : DeltaOf). z.ops) c.delta.view_is)
