@@ -1,0 +1,41 @@
+//! Rows of text, each with what a public call answers to it.
+//!
+//! Each line of standard input is printed again, with the answer after it. A line that is empty or begins with `#` stays as it is.
+//! `op_rows` says which verbs there are.
+#![tactic(auto)]
+
+use std::alloc::{AllocError, Global};
+use std::io;
+
+fn found(alloc: Global, row: &str) -> Result<Option<String>, AllocError> {
+    match op_rows::answer(alloc, row) {
+        Ok(answer) => Ok(answer),
+        Err(fault) => Ok(Some(format!(in alloc; " => {fault:?}")?)),
+    }
+}
+
+// What is printed after the row.
+fn answer(alloc: Global, row: &str) -> Result<String, AllocError> {
+    match found(alloc, row)? {
+        Some(answer) => Ok(answer),
+        None => String::from_str(alloc, " => no such verb"),
+    }
+}
+
+fn print(rt: &HostRuntime, alloc: Global, row: &str) -> io::Result<()> {
+    if row.is_empty() || row.starts_with('#') {
+        return println!(rt; "{row}");
+    }
+    match answer(alloc, row) {
+        Ok(answer) => println!(rt; "{row}{answer}"),
+        Err(_) => println!(rt; "{row} => no memory"),
+    }
+}
+
+fn main(rt: HostRuntime) -> io::Result<()> {
+    for line in rt.lines(rt.alloc()) {
+        let line = line?;
+        print(&rt, rt.alloc(), line.as_str())?;
+    }
+    Ok(())
+}
