@@ -1,14 +1,22 @@
 //! Rows of text, each with what a public call answers to it.
 //!
 //! Each line of standard input is printed again, with the answer after it. A line that is empty or begins with `#` stays as it is.
-//! `op_rows` says which verbs there are.
+//! `op_rows` and `wavelet_rows` say which verbs there are.
 #![tactic(auto)]
 
 use std::alloc::{AllocError, Global};
 use std::io;
 
-fn found(alloc: Global, row: &str) -> Result<Option<String>, AllocError> {
+// The answer of the first crate that has the verb.
+fn below(alloc: Global, row: &str) -> Result<Option<String>, AllocError> {
     match op_rows::answer(alloc, row) {
+        Ok(answer) => Ok(answer),
+        Err(fault) => Ok(Some(format!(in alloc; " => {fault:?}")?)),
+    }
+}
+
+fn above(alloc: Global, row: &str) -> Result<Option<String>, AllocError> {
+    match wavelet_rows::answer(alloc, row) {
         Ok(answer) => Ok(answer),
         Err(fault) => Ok(Some(format!(in alloc; " => {fault:?}")?)),
     }
@@ -16,10 +24,13 @@ fn found(alloc: Global, row: &str) -> Result<Option<String>, AllocError> {
 
 // What is printed after the row.
 fn answer(alloc: Global, row: &str) -> Result<String, AllocError> {
-    match found(alloc, row)? {
-        Some(answer) => Ok(answer),
-        None => String::from_str(alloc, " => no such verb"),
+    if let Some(answer) = below(alloc, row)? {
+        return Ok(answer);
     }
+    if let Some(answer) = above(alloc, row)? {
+        return Ok(answer);
+    }
+    String::from_str(alloc, " => no such verb")
 }
 
 fn print(rt: &HostRuntime, alloc: Global, row: &str) -> io::Result<()> {
