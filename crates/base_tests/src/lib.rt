@@ -1,7 +1,0 @@
-//! Tests of names and hashes.
-#![tactic(auto)]
-
-#[cfg(test)]
-mod hashes;
-#[cfg(test)]
-mod names;

@@ -1,7 +1,0 @@
-//! Tests of conversations.
-#![tactic(auto)]
-
-#[cfg(test)]
-mod edits;
-#[cfg(test)]
-mod trees;

@@ -1,0 +1,52 @@
+//! Rows of text, each with what a public call answers to it.
+//!
+//! Each line of standard input is printed again, with the answer after it. A line that is empty or begins with `#` stays as it is.
+//! `op_rows` and `wavelet_rows` say which verbs there are.
+#![tactic(auto)]
+
+use std::alloc::{AllocError, Global};
+use std::io;
+
+// The answer of the first crate that has the verb.
+fn below(alloc: Global, row: &str) -> Result<Option<String>, AllocError> {
+    match op_rows::answer(alloc, row) {
+        Ok(answer) => Ok(answer),
+        Err(fault) => Ok(Some(format!(in alloc; " => {fault:?}")?)),
+    }
+}
+
+fn above(alloc: Global, row: &str) -> Result<Option<String>, AllocError> {
+    match wavelet_rows::answer(alloc, row) {
+        Ok(answer) => Ok(answer),
+        Err(fault) => Ok(Some(format!(in alloc; " => {fault:?}")?)),
+    }
+}
+
+// What is printed after the row.
+fn answer(alloc: Global, row: &str) -> Result<String, AllocError> {
+    if let Some(answer) = below(alloc, row)? {
+        return Ok(answer);
+    }
+    if let Some(answer) = above(alloc, row)? {
+        return Ok(answer);
+    }
+    String::from_str(alloc, " => no such verb")
+}
+
+fn print(rt: &HostRuntime, alloc: Global, row: &str) -> io::Result<()> {
+    if row.is_empty() || row.starts_with('#') {
+        return println!(rt; "{row}");
+    }
+    match answer(alloc, row) {
+        Ok(answer) => println!(rt; "{row}{answer}"),
+        Err(_) => println!(rt; "{row} => no memory"),
+    }
+}
+
+fn main(rt: HostRuntime) -> io::Result<()> {
+    for line in rt.lines(rt.alloc()) {
+        let line = line?;
+        print(&rt, rt.alloc(), line.as_str())?;
+    }
+    Ok(())
+}
