@@ -1,13 +1,54 @@
 // A folder of the operating system: a shelf writes a history there, another reads it, and so do shelves over the file cut at every byte.
-use crate::damage::stored;
-use crate::words::{FIRST, NAME, answer, name, version};
+use delta_history::Copies;
+use std::alloc::Global;
 use std::fs;
 use std::test::Fail;
+use wave_base::{HashedVersion, WaveletName};
 use wave_files::FileFolder;
-use wave_outside::Folder;
+use wave_hash::zero_hash;
+use wave_outside::{Folder, MemoryFolder};
+use wavelet_op::{Submission, Verdict};
 use wavelet_shelf::{Shelf, ShelfFault, file_name};
+use wavelet_words::submission;
 
 const FOLDER: &str = "shelf_tests_folder";
+
+fn name(alloc: Global) -> Result<WaveletName, Fail> {
+    Ok(WaveletName::parse(alloc, "a.com/w1/a.com/conv+root")?)
+}
+
+// Alice's first delta of the wavelet.
+fn first(alloc: Global, name: &WaveletName) -> Result<Submission, Fail> {
+    let at = HashedVersion {
+        version: 0,
+        hash: zero_hash(name),
+    };
+    Ok(submission(alloc, "alice@a.com", 1, at, "add alice@a.com; b+1: +hi")?)
+}
+
+// Whether the first delta is acknowledged.
+fn is_submitted<F: Folder + Drop>(alloc: Global, shelf: &mut Shelf<F>) -> Result<bool, Fail> {
+    let name = name(alloc)?;
+    let made = first(alloc, &name)?;
+    Ok(match shelf.submit(alloc, &name, &made, 1000)? {
+        Verdict::Ack { at, to } => at == 0 && to.version == 2,
+        _ => false,
+    })
+}
+
+// The bytes of the file of a history with the first delta.
+fn stored(alloc: Global) -> Result<Vec<u8>, Fail> {
+    let folder = MemoryFolder::new(alloc, Vec::new(alloc), Vec::new(alloc));
+    let mut shelf = Shelf::over(alloc, folder);
+    is_submitted(alloc, &mut shelf)?;
+    match shelf.close() {
+        Some(folder) => match folder.files().first() {
+            Some(file) => Ok(file.disk.image(alloc, u64::MAX)?),
+            None => Ok(Vec::new(alloc)),
+        },
+        None => Ok(Vec::new(alloc)),
+    }
+}
 
 // The folder, which is made where it isn't there.
 fn entered(rt: &HostRuntime) -> Result<FileFolder<HostRuntime>, Fail> {
@@ -17,11 +58,10 @@ fn entered(rt: &HostRuntime) -> Result<FileFolder<HostRuntime>, Fail> {
     Ok(folder)
 }
 
-// What is told of the first delta.
-fn write_history(rt: &HostRuntime) -> Result<String, Fail> {
+fn is_written(rt: &HostRuntime) -> Result<bool, Fail> {
     let alloc = rt.alloc();
     let mut shelf = Shelf::over(alloc, entered(rt)?);
-    answer(alloc, &mut shelf, &name(alloc, NAME)?, 1, 0, FIRST)
+    is_submitted(alloc, &mut shelf)
 }
 
 // The version that is read, or the offset of the damage.
@@ -29,13 +69,16 @@ fn read_history(rt: &HostRuntime) -> Result<Result<u64, u64>, Fail> {
     let alloc = rt.alloc();
     let mut shelf = Shelf::over(alloc, entered(rt)?);
     match shelf.load(alloc) {
-        Ok(()) => Ok(Ok(version(&shelf, &name(alloc, NAME)?))),
+        Ok(()) => Ok(Ok(match shelf.copy_of(&name(alloc)?) {
+            Some(history) => history.head().version,
+            None => 0,
+        })),
         Err(ShelfFault::Damaged { offset, .. }) => Ok(Err(offset)),
         Err(_) => Ok(Err(u64::MAX)),
     }
 }
 
-// The header ends behind the first record's gate, at 37, and the file is whole with 134 bytes.
+// The header ends after the first record's gate, at 37, and the file is whole with 134 bytes.
 fn expected(length: usize) -> Result<u64, u64> {
     match length {
         0..=1 => Ok(0),
@@ -49,10 +92,9 @@ fn expected(length: usize) -> Result<u64, u64> {
 fn a_real_folder_is_read_again(rt: HostRuntime) -> Result<(), Fail> {
     let alloc = rt.alloc();
     let _before = fs::remove_dir_all(&rt, FOLDER);
-    let told = write_history(&rt)?;
-    assert!(rt; told.as_str() == "ack 0 2");
+    assert!(rt; is_written(&rt)?);
     assert!(rt; read_history(&rt)? == Ok(2));
-    let file = file_name(alloc, &name(alloc, NAME)?)?;
+    let file = file_name(alloc, &name(alloc)?)?;
     let path = format!(in alloc; "{}/{}", FOLDER, file.as_str())?;
     let bytes = fs::read(&rt, path.as_str())?;
     assert!(rt; bytes == stored(alloc)?);

@@ -80,7 +80,7 @@ fn numbered(
 }
 
 /// A message in a word or two.
-pub fn word(alloc: Global, message: &Message) -> Result<String, Memory> {
+pub(crate) fn word(alloc: Global, message: &Message) -> Result<String, Memory> {
     numbered(
         alloc,
         label(message),
@@ -90,7 +90,7 @@ pub fn word(alloc: Global, message: &Message) -> Result<String, Memory> {
 }
 
 /// Messages, each in a word or two.
-pub fn words(alloc: Global, messages: &[Message]) -> Result<String, Memory> {
+pub(crate) fn words(alloc: Global, messages: &[Message]) -> Result<String, Memory> {
     let mut all = String::new(alloc);
     for message in messages {
         let word = word(alloc, message)?;

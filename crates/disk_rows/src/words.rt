@@ -1,0 +1,39 @@
+// The program's words.
+use crate::Fault;
+use crate::text::put;
+use command_words::{Command, WordsFault, read_words};
+use std::alloc::Global;
+
+/// Words, apart by spaces; `.` stands for the empty word.
+pub fn words_of(alloc: Global, line: &str) -> Result<Vec<String>, Fault> {
+    let mut words = Vec::new(alloc);
+    if line.is_empty() {
+        return Ok(words);
+    }
+    for word in line.split(' ') {
+        let word = if word == "." { "" } else { word };
+        words.push(String::from_str(alloc, word)?)?;
+    }
+    Ok(words)
+}
+
+fn shown(alloc: Global, words: &[String]) -> Result<String, Fault> {
+    Ok(match read_words(alloc, words) {
+        Ok(Command::Pipe { store: None }) => String::from_str(alloc, "pipe")?,
+        Ok(
+            Command::Pipe {
+                store: Some(folder),
+            },
+        ) => format!(in alloc; "pipe over {folder}")?,
+        Ok(Command::Load { count }) => format!(in alloc; "load {count}")?,
+        Err(WordsFault::Usage) => String::from_str(alloc, "usage")?,
+        Err(WordsFault::Memory) => return Err(Fault::Memory),
+    })
+}
+
+/// `words WORDS`: what they name.
+pub(crate) fn words(alloc: Global, line: &str, out: &mut String) -> Result<(), Fault> {
+    let words = words_of(alloc, line)?;
+    let shown = shown(alloc, words.as_slice())?;
+    Ok(put(out, shown.as_str())?)
+}
