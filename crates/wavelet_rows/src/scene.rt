@@ -236,7 +236,8 @@ impl Scene {
         out: &mut String,
     ) -> Result<(), Fault> {
         let id = id(alloc, author, 5, number)?;
-        self.forge(alloc, self.follower.at(), id, words, out)
+        let from = self.follower.at();
+        self.forge(alloc, from, id, words, out)
     }
 
     // One at the follower's version with another hash.
