@@ -7,3 +7,4 @@ pub mod Turning
 pub mod Holding
 pub mod Seating
 pub mod Delivering
+mod Serving

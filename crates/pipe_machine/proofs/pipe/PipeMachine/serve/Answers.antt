@@ -1,3 +1,8 @@
+use Rattle.std.proofs.Common.{[], ◌∙◌}
+use Rattle.pipe_machine.specs.Seats.{begun}
+use Rattle.wavelet_shelf.specs.Shelves.{hosted_of}
+use Rattle.pipe_machine.specs.Pipes.{pipe_of}
+use Rattle.pipe_machine.proofs.Serving.{any_default, served_pipe, served_sent}
 use Rattle.pipe_machine.proofs.Seating.{plain_either, plain_with}
 use Rattle.pipe_machine.proofs.pipe.PipeMachine.serve.Goals as goal
 
@@ -15,3 +20,14 @@ invariant_of-self-2 g c = record {
   plain = plain_with c.seat_of.new.seats.items c.in_ok-place.place _ c.reply.ensures.plain
       (plain_either c.args.name c.args.self.now.seats.items c.seat_of.new.seats.items c.seat_of.result c.seat_of.ensures.seats c.seat_of.ensures.same c.args.self.now.plain);
 }
+
+pub returns-clause-pipe : goal.returns-clause-pipe
+returns-clause-pipe g c =
+    served_pipe (pipe_of c.args.self.now) c.args.time c.args.name c.args.message c.seat_of.new.seats.items c.in_ok-place.place c.index_mut-seat.result.now c.reply.new.session
+    (hosted_of c.reply.new.shelf) c.in_ok-message.message c.in_ok-place.ensures.place c.in_ok-place.ensures.seats (c.index_mut-seat.ensures.value ∙ any_default c.seat_of.new.seats.items c.in_ok-place.place c.index_mut-seat.result.now (begun []) c.in_ok-place.ensures.within) c.in_ok-message.ensures.reply
+
+pub returns-clause-sent : goal.returns-clause-sent
+returns-clause-sent g c =
+    served_sent (pipe_of c.args.self.now) c.args.time c.args.name c.args.message c.seat_of.new.seats.items c.in_ok-place.place c.index_mut-seat.result.now c.reply.new.session
+    (hosted_of c.reply.new.shelf) c.in_ok-message.message c.text.result.now c.args.out.now.items c.push_line.new.out.items
+    c.in_ok-place.ensures.place c.in_ok-place.ensures.seats (c.index_mut-seat.ensures.value ∙ any_default c.seat_of.new.seats.items c.in_ok-place.place c.index_mut-seat.result.now (begun []) c.in_ok-place.ensures.within) c.in_ok-message.ensures.reply c.text.ensures.same c.in_ok-place.ensures.named c.in_ok-push_line.ensures
