@@ -3,6 +3,7 @@ use crate::Fault;
 use crate::labels::{word, words};
 use crate::messages::put_message;
 use crate::shelves::small;
+use crate::version::hashed;
 use delta_history::{Copies, History};
 use disk_rows::{filled, first_word, number, put, text_of};
 use memory_copies::{Held, MemoryCopies, Noted, Notes};
@@ -173,17 +174,14 @@ fn place(
     word: &str,
 ) -> Result<HashedVersion, Fault> {
     if let Some(digits) = word.strip_suffix('!') {
-        return Ok(HashedVersion {
-            version: number(digits)?,
-            hash: [7; 32],
-        });
+        return hashed(number(digits)?, [7; 32]);
     }
     let version = number(word)?;
     let hash = match whole.copy_of(name) {
         Some(history) => history.hash_at(version).unwrap_or([0; 32]),
         None => [0; 32],
     };
-    Ok(HashedVersion { version, hash })
+    hashed(version, hash)
 }
 
 impl Hall {

@@ -15,6 +15,7 @@ mod repairs;
 mod runs;
 mod shelves;
 mod talk;
+mod version;
 
 pub use fault::Fault;
 pub use talk::Talk;

@@ -3,6 +3,7 @@ ghost use Rattle.std.specs.Prelude.{◌≤◌, IfOk};
 
 use crate::Fault;
 use crate::runs::{Runs, no_files};
+use crate::version::hashed;
 use delta_history::Copies;
 use disk_rows::{first_word, halves, number, put, put_digits};
 use doc_items::Memory;
@@ -59,7 +60,7 @@ fn place(shelf: &MemoryShelf, name: &WaveletName, word: &str) -> Result<HashedVe
     let version = number(digits)?;
     let hash = hash_at(shelf, name, version);
     let hash = if wrong { turned(hash) } else { hash };
-    Ok(HashedVersion { version, hash })
+    hashed(version, hash)
 }
 
 /// A verdict in words.
@@ -129,14 +130,8 @@ fn noop(
     number: u64,
 ) -> Result<(), Fault> {
     let version = version_of(shelf, name);
-    let hash = hash_at(shelf, name, version);
-    let made = made(
-        alloc,
-        "alice@a.com",
-        number,
-        HashedVersion { version, hash },
-        "noop",
-    )?;
+    let at = hashed(version, hash_at(shelf, name, version))?;
+    let made = made(alloc, "alice@a.com", number, at, "noop")?;
     match shelf.submit(alloc, name, &made, 1000) {
         Ok(_) => Ok(()),
         Err(_) => Err(Fault::BadRow),
