@@ -188,6 +188,7 @@ impl<R: RandomSource + Clock + Copy + Drop> SocketLink<R> {
     fn nothing(&mut self) -> Polled
         ensures result { result ≡ Nothing }
         ensures looks { self.new.looks ≡ raised self.old.looks }
+        ensures more_looks { self.old.looks ≤ self.new.looks }
         ensures same { (self.new.faults ≡ self.old.faults) × (self.new.closed ≡ self.old.closed) }
     {
         self.looks = self.looks.saturating_add(1);
@@ -198,6 +199,7 @@ impl<R: RandomSource + Clock + Copy + Drop> SocketLink<R> {
     fn idle(&mut self) -> Polled
         ensures result { result ≡ Nothing }
         ensures looks { self.new.looks ≡ raised self.old.looks }
+        ensures more_looks { self.old.looks ≤ self.new.looks }
         ensures same { (self.new.faults ≡ self.old.faults) × (self.new.closed ≡ self.old.closed) }
     {
         self.rest();
