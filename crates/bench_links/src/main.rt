@@ -5,16 +5,18 @@
 
 mod log;
 mod serving;
+mod spawner;
 mod talk;
 
 use crate::log::Log;
 use crate::serving::serve;
+use crate::spawner::TalkSpawner;
 use std::alloc::{AllocError, Global};
 use std::process::ExitCode;
 use std::sync::Arc;
 use std::{env, io};
 use wave_outside::Net;
-use wave_threads::{RingingGate, ThreadSpawner};
+use wave_threads::{RingingGate, ThreadStarter};
 use ws_link::{Bells, Limits, Patience, SocketNet};
 
 /// How many links have a bell.
@@ -56,7 +58,8 @@ fn main(rt: HostRuntime) -> io::Result<ExitCode> {
     if net.listen(alloc, address.as_str()).is_err() {
         return Ok(ExitCode::from(DOOR));
     }
-    let mut spawner = ThreadSpawner::new(for_spawner);
+    let starter = ThreadStarter::new(for_spawner);
+    let mut spawner = TalkSpawner { starter };
     let gate = RingingGate::new(for_gate);
     let log = Arc::new(alloc, Log::new(alloc))?;
     let status = serve(&rt, alloc, &mut net, &mut spawner, &gate, &log, sessions);

@@ -1,30 +1,14 @@
 // Jobs one after the other, refused, and in threads; and a gate that holds.
-ghost use Rattle.std.specs.Prelude.{◌≡◌};
 ghost use denote.Param.Send.{IsSend};
 
+use crate::numbered::{Numbered, NumberedSpawner};
 use std::alloc::Global;
 use std::sync::{Arc, Wait};
 use std::test::Fail;
 use std::thread;
-use wave_outside::{Gate, HoldingGate, InTurn, Job, RefusingSpawner, Spawner};
-use wave_threads::ThreadSpawner;
+use wave_outside::{Gate, HoldingGate, InTurn, RefusingSpawner, Spawner};
+use wave_threads::ThreadStarter;
 use ws_link::Bells;
-
-// A job that ends with its number.
-#[derive(Drop)]
-struct Numbered {
-    number: u64,
-}
-
-impl Job for Numbered {
-    type End = u64;
-
-    ghost may_give = { λ j e. e ≡ j.number };
-
-    fn work<R: Wait>(self, _rt: &R, _alloc: Global) -> u64 {
-        self.number
-    }
-}
 
 // Waits until the job has ended, as far as that can be seen.
 fn is_soon_done<R: Wait, P: Spawner<Numbered, R>>(spawner: &P, running: &P::Running) -> bool {
@@ -73,7 +57,8 @@ fn jobs_that_are_refused(rt: HostRuntime) -> Result<(), Fail> {
 #[test]
 fn jobs_in_threads(rt: HostRuntime) -> Result<(), Fail> {
     let alloc = rt.alloc();
-    let mut spawner = ThreadSpawner::new(Arc::new(alloc, Bells::new(alloc, 0)?)?);
+    let starter = ThreadStarter::new(Arc::new(alloc, Bells::new(alloc, 0)?)?);
+    let mut spawner = NumberedSpawner { starter };
     assert!(rt; end_of(&rt, alloc, &mut spawner, 7) == Some(7));
     assert!(rt; end_of(&rt, alloc, &mut spawner, 8) == Some(8));
     Ok(())

@@ -11,3 +11,4 @@ mod hostile;
 mod jobs;
 #[cfg(test)]
 mod loopback;
+pub mod numbered;

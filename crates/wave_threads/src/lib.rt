@@ -6,5 +6,5 @@ mod spawner;
 mod work;
 
 pub use gate::RingingGate;
-pub use spawner::ThreadSpawner;
-pub use work::{Child, Handed, Work};
+pub use spawner::ThreadStarter;
+pub use work::{Child, EndOf, Handed, Work};

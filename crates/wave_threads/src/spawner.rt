@@ -1,68 +1,61 @@
-//! Each job in a thread of its own.
+//! Work in threads, and how many starts were refused.
+//!
+//! A thread can't be started for a type that rests on a bound of the caller's trait. So a program that runs jobs of one type writes
+//! its own `Spawner`, over the calls here: `start` hands the job on as `Handed`, `done` and `take` are those of `Child`.
 ghost use Rattle.std.specs.Prelude.{◌≡◌, IfOk};
 ghost use Rattle.wave_outside.specs.Counts.{HasCause};
 
-use crate::work::{Child, Handed, start_thread};
+use crate::work::{Child, Work, start_thread};
 use std::alloc::Global;
-use std::sync::{Arc, Wait};
+use std::sync::Arc;
 use std::thread::Threads;
-use wave_outside::{Faults, Job, Refused, Spawner};
+use wave_outside::{Faults, Refused};
 use ws_link::Bells;
 
-/// A spawner that starts a thread for each job. At its end a job rings the bell at the door.
-pub struct ThreadSpawner {
+/// What starts a thread for each piece of work. At its end the work rings the bell at the door.
+pub struct ThreadStarter {
     bells: Arc<Bells, Global>,
-    refused: Faults,
+    /// How many starts were refused.
+    pub refused: Faults,
 }
 
-impl Drop for ThreadSpawner {
+impl Drop for ThreadStarter {
     fn drop(self) {
-        let ThreadSpawner {
+        let ThreadStarter {
             bells: _bells,
             refused: _refused,
         } = self;
     }
 }
 
-impl ThreadSpawner {
-    pub fn new(bells: Arc<Bells, Global>) -> ThreadSpawner
+impl ThreadStarter {
+    pub fn new(bells: Arc<Bells, Global>) -> ThreadStarter
         ensures { result.refused.count ≡ 0 }
     {
-        ThreadSpawner {
+        ThreadStarter {
             bells,
             refused: Faults::none(),
         }
     }
-}
 
-impl<
-    J: Job + Send + 'static,
-    R: Threads + Wait + Copy + Send + Sync + Drop + 'static,
-> Spawner<J, R> for ThreadSpawner
-where
-    J::End: Send + 'static,
-{
-    type Running = Child<Handed<R, J>>;
-
-    ghost job_of = { λ child. child.handle.promise.0.value.job };
-
-    ghost refused = { λ s. s.refused.count };
-
-    fn start(&mut self, rt: &R, alloc: Global, job: J) -> Result<Child<Handed<R, J>>, Refused> {
-        match start_thread(rt, alloc, &self.bells, Handed::new(*rt, alloc, job)) {
+    /// Starts a thread for some work. Work that is refused is dropped.
+    pub fn start<W: Work + Send + 'static, R: Threads>(
+        &mut self,
+        rt: &R,
+        alloc: Global,
+        work: W,
+    ) -> Result<Child<W>, Refused>
+    where
+        W::End: Send + 'static,
+        ensures cause { HasCause self.old.refused.count self.new.refused.count result }
+        ensures work { IfOk result (λ child. child.handle.promise.0.value ≡ work) }
+    {
+        match start_thread(rt, alloc, &self.bells, work) {
             Some(child) => Ok(child),
             None => {
                 let _failed = self.refused.raise();
                 Err(Refused)
             }
         }
-    }
-
-    fn done(&self, running: &Child<Handed<R, J>>) -> bool {
-        running.is_done()
-    }
-
-    fn take(&mut self, rt: &R, _alloc: Global, running: Child<Handed<R, J>>) -> J::End {
-        running.join(rt)
     }
 }

@@ -25,7 +25,7 @@ pub trait Work: Drop {
 pub struct Handed<R: Drop, J: Job> {
     rt: R,
     alloc: Global,
-    job: J,
+    pub job: J,
 }
 
 impl<R: Drop, J: Job> Drop for Handed<R, J> {
@@ -59,7 +59,7 @@ impl<R: Wait + Drop, J: Job> Work for Handed<R, J> {
 
 /// What a thread promises of its end.
 #[derive(Drop)]
-pub struct EndOf<W: Work>(Snapshot<W>);
+pub struct EndOf<W: Work>(pub Snapshot<W>);
 
 impl<W: Work> Promise<W::End> for EndOf<W> {
     ghost kept_by = { λ p end. W.may_end p.0.value end };
@@ -67,7 +67,7 @@ impl<W: Work> Promise<W::End> for EndOf<W> {
 
 /// Work that goes on in a thread.
 pub struct Child<W: Work> {
-    handle: PromisedHandle<W::End, EndOf<W>>,
+    pub handle: PromisedHandle<W::End, EndOf<W>>,
     ended: Arc<AtomicBool, Global>,
 }
 
@@ -108,12 +108,12 @@ where
 
 impl<W: Work> Child<W> {
     /// Whether the work has ended.
-    pub(crate) fn is_done(&self) -> bool {
+    pub fn is_done(&self) -> bool {
         self.ended.load(Ordering::SeqCst)
     }
 
     /// Waits for the end of the work.
-    pub(crate) fn join<R: Wait>(self, rt: &R) -> W::End
+    pub fn join<R: Threads>(self, rt: &R) -> W::End
         ensures { W.may_end self.handle.promise.0.value result }
     {
         let Child {

@@ -1,6 +1,7 @@
 //! The net over sockets.
-ghost use Rattle.std.specs.Prelude.{◌≡◌, ◌≤◌, ◌<◌, ◌+◌, ◌^◌, [], false, map, IfOk, OnOk, vec_len, vec_capacity};
-ghost use Rattle.wave_outside.specs.Counts.{raised};
+ghost use Rattle.std.specs.Prelude.{◌≡◌, ◌≤◌, ◌<◌, ◌+◌, ◌^◌, [], false, map, Ok, IfOk, OnOk, vec_len, vec_capacity};
+ghost use Rattle.wave_outside.specs.Counts.{raised, Rose};
+ghost use Rattle.wave_outside.specs.Nets.{IfLink, IfNone, accepted_more, out_more};
 ghost use Rattle.wave_outside.specs.declared.net.Accepted.TheVariants.{Nothing};
 
 use crate::bells::Bells;
@@ -166,10 +167,35 @@ impl<R: Sockets + RandomSource + Clock + Copy + Drop> SocketNet<R> {
         }
     }
 
+    // Hands out the link of a socket, for which there is room. Where the system has none for it, it is dropped.
+    fn admit(
+        &mut self,
+        alloc: Global,
+        socket: WebSocket<TcpStream, NoMask>,
+    ) -> Accepted<SocketLink<R>>
+        requires { (vec_len self.old.back + self.old.out + 1 ≤ vec_capacity self.old.back) × (self.old.out + 1 < 2 ^ 64) }
+        ensures nothing { IfNone result (Rose self.old.looks self.new.looks) }
+        ensures more_looks { self.old.looks ≤ self.new.looks }
+        ensures unused { IfLink result (λ l. (l.faults.count ≡ 0) × (l.closed ≡ false)) }
+        ensures accepted { self.new.accepted ≡ accepted_more (Ok result) self.old.accepted }
+        ensures out { self.new.out ≡ out_more (Ok result) self.old.out }
+        ensures same { (self.new.back ≡ self.old.back) × (self.new.door_faults ≡ self.old.door_faults) × (self.new.line ≡ self.old.line) }
+    {
+        match self.link(alloc, socket) {
+            Ok(link) => {
+                self.accepted = self.accepted.saturating_add(1);
+                self.out += 1;
+                Accepted::Link(link)
+            }
+            Err(_) => self.nothing(),
+        }
+    }
+
     // There is no new link.
     fn nothing(&mut self) -> Accepted<SocketLink<R>>
         ensures result { result ≡ Nothing }
         ensures looks { self.new.looks ≡ raised self.old.looks }
+        ensures more_looks { self.old.looks ≤ self.new.looks }
         ensures back { (self.new.back ≡ self.old.back) × (self.new.out ≡ self.old.out) × (self.new.accepted ≡ self.old.accepted) }
         ensures same { (self.new.door_faults ≡ self.old.door_faults) × (self.new.line ≡ self.old.line) }
     {
@@ -237,15 +263,7 @@ impl<R: Sockets + RandomSource + Clock + Copy + Drop> Net for SocketNet<R> {
     fn accept(&mut self, alloc: Global) -> Result<Accepted<SocketLink<R>>, NetFault> {
         self.reserve()?;
         match self.knock(alloc) {
-            Knock::Greeted(socket) => match self.link(alloc, socket) {
-                Ok(link) => {
-                    self.accepted = self.accepted.saturating_add(1);
-                    self.out += 1;
-                    Ok(Accepted::Link(link))
-                }
-                // There is no room for it, and it is dropped.
-                Err(_) => Ok(self.nothing()),
-            },
+            Knock::Greeted(socket) => Ok(self.admit(alloc, socket)),
             Knock::Nothing => Ok(self.nothing()),
             Knock::Failed => Err(self.door_faults.raise().into()),
         }
