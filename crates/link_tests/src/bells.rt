@@ -33,7 +33,12 @@ fn news_wake_who_opened_the_shard(rt: HostRuntime) -> Result<(), Fail> {
     let mut other = own.another();
     own.before(0, 3);
     tire(alloc, &mut link);
-    for (shard, session, wakes) in [(3u8, 1u64, true), (4, 1, false), (3, 0, false), (3, 1, true)] {
+    for (shard, session, wakes) in [
+        (3u8, 1u64, true),
+        (4, 1, false),
+        (3, 0, false),
+        (3, 1, true),
+    ] {
         let began = Instant::now(&rt)?;
         if session == 0 {
             own.news(session, shard);

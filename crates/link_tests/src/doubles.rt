@@ -59,8 +59,8 @@ fn talk<L: Link>(alloc: Global, link: &mut L, calls: &str) -> Result<String, All
 
 fn letter_of(kept: &Kept) -> char {
     match kept {
-        Kept::Received(bytes) if bytes.as_slice() == b"x" => 'r',
-        Kept::Sent(bytes) if bytes.as_slice() == b"y" => 's',
+        Kept::Received(bytes) if bytes.as_slice() == b"x".as_slice() => 'r',
+        Kept::Sent(bytes) if bytes.as_slice() == b"y".as_slice() => 's',
         Kept::Idle => 'i',
         Kept::Ended => 'e',
         _ => '?',

@@ -3,7 +3,6 @@ use crate::loopback::{address, net};
 use std::alloc::{AllocError, Global};
 use std::io::{Read, Write};
 use std::net::{Net as Sockets, Shutdown, TcpStream};
-
 use std::random::RandomSource;
 use std::test::Fail;
 use std::time::Clock;
@@ -13,11 +12,12 @@ use ws_link::{Limits, SocketLink, SocketNet, UNSENT};
 const LOOKS: u64 = 1_000;
 
 // The opening of RFC 6455, section 1.3, and what the server's answer to it has.
-pub const HELLO: &[u8] = b"GET /chat HTTP/1.1\r\nHost: server.example.com\r\nUpgrade: websocket\r\nConnection: Upgrade\r\nSec-WebSocket-Key: dGhlIHNhbXBsZSBub25jZQ==\r\nSec-WebSocket-Version: 13\r\n\r\n";
+pub const HELLO: &[u8] =
+    b"GET /chat HTTP/1.1\r\nHost: server.example.com\r\nUpgrade: websocket\r\nConnection: Upgrade\r\nSec-WebSocket-Key: dGhlIHNhbXBsZSBub25jZQ==\r\nSec-WebSocket-Version: 13\r\n\r\n";
 
 const ACCEPT: &str = "s3pPLMBiTxaQ9kYGzzhZRbK+xOo=";
 
-// What a client sends after its opening, before it sends no more, and what the server's polls find: the lengths of messages, a close, or
+// What a client sends after the answer to its opening, before it sends no more, and what the server's polls find: the lengths of messages, a close, or
 // a failure.
 const FRAMES: [(&[u8], &str); 14] = [
     // A text, a binary message, a text in two pieces with a ping between them, and one of the RFC's examples.
@@ -97,11 +97,11 @@ fn is_met_so<R: Sockets<Stream = TcpStream> + RandomSource + Clock + Copy + Drop
     let (frames, expected) = *row;
     let address = address(alloc, net)?;
     let mut stream = knocked(&rt, address.as_str(), HELLO)?;
-    stream.write_all(frames)?;
-    stream.shutdown(Shutdown::Write)?;
     let Some(mut link) = came(alloc, net, LOOKS) else {
         return Ok(false);
     };
+    stream.write_all(frames)?;
+    stream.shutdown(Shutdown::Write)?;
     let found = found(alloc, &mut link)?;
     Ok(found.as_str() == expected)
 }
@@ -123,13 +123,13 @@ fn a_ping_is_answered(rt: HostRuntime) -> Result<(), Fail> {
     let mut net = net(rt, alloc, Limits::for_clients())?;
     let address = address(alloc, &net)?;
     let mut stream = knocked(&rt, address.as_str(), HELLO)?;
-    stream.write_all(b"\x89\x82\0\0\0\0hi")?;
-    stream.shutdown(Shutdown::Write)?;
     let Some(mut link) = came(alloc, &mut net, LOOKS) else {
         panic!(rt; "no link")
     };
+    stream.write_all(b"\x89\x82\0\0\0\0hi")?;
+    stream.shutdown(Shutdown::Write)?;
     let _found = found(alloc, &mut link)?;
-    net.put(link);
+    drop(link);
     let mut answer = Vec::new(alloc);
     let _length = stream.read_to_end(&mut answer)?;
     let text = String::from_utf8_lossy(alloc, answer.as_slice())?;
@@ -139,8 +139,9 @@ fn a_ping_is_answered(rt: HostRuntime) -> Result<(), Fail> {
     Ok(())
 }
 
-// What comes and is no opening, or isn't ended.
-const STRANGERS: [&[u8]; 5] = [
+// What comes and is no opening, or isn't ended, or sends more before it is answered.
+const STRANGERS: [&[u8]; 6] = [
+    b"GET /chat HTTP/1.1\r\nHost: server.example.com\r\nUpgrade: websocket\r\nConnection: Upgrade\r\nSec-WebSocket-Key: dGhlIHNhbXBsZSBub25jZQ==\r\nSec-WebSocket-Version: 13\r\n\r\n\x81\x81\0\0\0\0x",
     b"",
     b"GET /chat HTTP/1.1\r\nHost: server.example.com\r\n",
     b"GET / HTTP/1.1\r\nHost: a.com\r\n\r\n",
@@ -159,11 +160,11 @@ fn is_alone<R: Sockets<Stream = TcpStream> + RandomSource + Clock + Copy + Drop>
         strangers.push(knocked(&rt, address.as_str(), bytes)?)?;
     }
     let mut stream = knocked(&rt, address.as_str(), HELLO)?;
-    stream.write_all(b"\x81\x81\0\0\0\0x")?;
-    stream.shutdown(Shutdown::Write)?;
     let Some(mut link) = came(alloc, &mut net, LOOKS) else {
         return Ok(false);
     };
+    stream.write_all(b"\x81\x81\0\0\0\0x")?;
+    stream.shutdown(Shutdown::Write)?;
     let found = found(alloc, &mut link)?;
     Ok(found.as_str() == "1C" && came(alloc, &mut net, 2).is_none())
 }

@@ -147,10 +147,12 @@ fn is_early_carried<R: Sockets + RandomSource + Clock + Copy + Drop>(
     let one = heard(alloc, &mut client, &mut server)?;
     let two = heard(alloc, &mut client, &mut server)?;
     drop(server);
-    Ok(one.as_slice() == b"one"
-        && two.as_slice() == b"two"
-        && is_soon_closed(alloc, &mut client)
-        && is_soon_closed(alloc, &mut client))
+    Ok(
+        one.as_slice() == b"one".as_slice()
+            && two.as_slice() == b"two".as_slice()
+            && is_soon_closed(alloc, &mut client)
+            && is_soon_closed(alloc, &mut client),
+    )
 }
 
 #[test]
