@@ -1,0 +1,254 @@
+//! A link over a socket.
+ghost use Rattle.std.specs.Prelude.{◌≡◌, ◌≤◌, [], false};
+ghost use Rattle.wave_outside.specs.Counts.{Rose, raised};
+ghost use Rattle.wave_outside.specs.declared.link.LinkFault.TheVariants.{Failed};
+ghost use Rattle.wave_outside.specs.declared.link.Polled.TheVariants.{Nothing};
+
+use crate::dialling::{Asked, Asking, Dialled};
+use crate::patience::Patience;
+use crate::socket::{Heard, Written, read_message, write_message};
+use crate::waiting::Waiting;
+use mio::net::TcpStream;
+use std::alloc::Global;
+use std::mem::replace;
+use std::random::RandomSource;
+use std::time::Clock;
+use tungstenite::{NoMask, WebSocket};
+use wave_outside::{Faults, Link, LinkFault, Polled};
+
+/// How far the socket is.
+pub(crate) enum State<R: RandomSource + Clock + Copy + Drop> {
+    Asking(Asking<R>),
+    Served(WebSocket<TcpStream, NoMask>),
+    Dialled(Dialled<R>),
+    Gone,
+}
+
+impl<R: RandomSource + Clock + Copy + Drop> Drop for State<R> {
+    fn drop(self) {
+        match self {
+            State::Asking(_asking) => {}
+            State::Served(_socket) => {}
+            State::Dialled(_socket) => {}
+            State::Gone => {}
+        }
+    }
+}
+
+impl<R: RandomSource + Clock + Copy + Drop> State<R> {
+    // A look at the socket, and the state after it.
+    fn looked(self, alloc: Global) -> (State<R>, Heard) {
+        match self {
+            State::Asking(asking) => match asking.step(alloc) {
+                Asked::Done(socket) => (State::Dialled(socket), Heard::Other),
+                Asked::Goes(asking) => (State::Asking(asking), Heard::Empty),
+                Asked::Failed => (State::Gone, Heard::Failed),
+                Asked::Memory => (State::Gone, Heard::Memory),
+            },
+            State::Served(mut socket) => {
+                let heard = read_message(alloc, &mut socket);
+                (State::Served(socket), heard)
+            }
+            State::Dialled(mut socket) => {
+                let heard = read_message(alloc, &mut socket);
+                (State::Dialled(socket), heard)
+            }
+            State::Gone => (State::Gone, Heard::Failed),
+        }
+    }
+
+    fn give(&mut self, alloc: Global, bytes: &[u8]) -> Written {
+        match self {
+            State::Asking(asking) => asking.keep(alloc, bytes),
+            State::Served(socket) => write_message(alloc, socket, bytes),
+            State::Dialled(socket) => write_message(alloc, socket, bytes),
+            State::Gone => Written::Failed,
+        }
+    }
+
+    // Writes what waits, and a close frame, as far as the socket takes it.
+    fn close(self) {
+        match self {
+            State::Asking(_asking) => {}
+            State::Served(mut socket) => {
+                let _closed = socket.close(None);
+            }
+            State::Dialled(mut socket) => {
+                let _closed = socket.close(None);
+            }
+            State::Gone => {}
+        }
+    }
+}
+
+/// A link over a socket that doesn't block. It tells nothing of its content.
+pub struct SocketLink<R: RandomSource + Clock + Copy + Drop> {
+    state: State<R>,
+    // Where it waits; None where its owner waits elsewhere.
+    waiting: Option<Waiting>,
+    patience: Patience,
+    // Whether a look at the socket may find something, or something is to leave.
+    awake: bool,
+    faults: Faults,
+    looks: u64,
+    closed: bool,
+}
+
+impl<R: RandomSource + Clock + Copy + Drop> Drop for SocketLink<R> {
+    fn drop(self) {
+        let SocketLink {
+            state: _state,
+            waiting: _waiting,
+            patience: _patience,
+            awake: _awake,
+            faults: _faults,
+            looks: _looks,
+            closed: _closed,
+        } = self;
+    }
+}
+
+impl<R: RandomSource + Clock + Copy + Drop> SocketLink<R> {
+    /// A link whose socket is in this state.
+    pub(crate) fn over(
+        state: State<R>,
+        waiting: Option<Waiting>,
+        patience: Patience,
+    ) -> SocketLink<R>
+        ensures { (result.faults.count ≡ 0) × (result.closed ≡ false) }
+    {
+        SocketLink {
+            state,
+            waiting,
+            patience,
+            awake: true,
+            faults: Faults::none(),
+            looks: 0,
+            closed: false,
+        }
+    }
+
+    /// How many calls have failed.
+    pub(crate) fn faults(&self) -> u64
+        ensures { result ≡ self.now.faults.count }
+    {
+        self.faults.count
+    }
+
+    /// Closes the link.
+    pub(crate) fn leave(self) {
+        let SocketLink {
+            state,
+            waiting: _waiting,
+            patience: _patience,
+            awake: _awake,
+            faults: _faults,
+            looks: _looks,
+            closed: _closed,
+        } = self;
+        state.close();
+    }
+
+    // Looks at the socket.
+    fn look(&mut self, alloc: Global) -> Heard
+        ensures { (self.new.faults ≡ self.old.faults) × (self.new.looks ≡ self.old.looks) × (self.new.closed ≡ self.old.closed) }
+    {
+        let state = replace(&mut self.state, State::Gone);
+        let (state, heard) = state.looked(alloc);
+        self.state = state;
+        heard
+    }
+
+    // Sleeps until the socket is ready or the bell rings.
+    fn rest(&mut self)
+        ensures { (self.new.faults ≡ self.old.faults) × (self.new.looks ≡ self.old.looks) × (self.new.closed ≡ self.old.closed) }
+    {
+        let time = self.patience.take();
+        if time == 0 {
+            return;
+        }
+        if let Some(waiting) = &mut self.waiting {
+            waiting.wait(time);
+            self.awake = waiting.may_find();
+        }
+    }
+
+    // The link is of no more use.
+    fn fail(&mut self) -> LinkFault
+        ensures fault { result ≡ Failed }
+        ensures rose { Rose self.old.faults.count self.new.faults.count }
+        ensures later { self.old.faults.count ≤ self.new.faults.count }
+        ensures same { (self.new.looks ≡ self.old.looks) × (self.new.closed ≡ self.old.closed) }
+    {
+        self.state = State::Gone;
+        self.faults.raise().into()
+    }
+
+    // Nothing was there.
+    fn nothing(&mut self) -> Polled
+        ensures result { result ≡ Nothing }
+        ensures looks { self.new.looks ≡ raised self.old.looks }
+        ensures more_looks { self.old.looks ≤ self.new.looks }
+        ensures same { (self.new.faults ≡ self.old.faults) × (self.new.closed ≡ self.old.closed) }
+    {
+        self.looks = self.looks.saturating_add(1);
+        Polled::Nothing
+    }
+
+    // Nothing is there to be read.
+    fn idle(&mut self) -> Polled
+        ensures result { result ≡ Nothing }
+        ensures looks { self.new.looks ≡ raised self.old.looks }
+        ensures more_looks { self.old.looks ≤ self.new.looks }
+        ensures same { (self.new.faults ≡ self.old.faults) × (self.new.closed ≡ self.old.closed) }
+    {
+        self.rest();
+        self.nothing()
+    }
+}
+
+impl<R: RandomSource + Clock + Copy + Drop> Link for SocketLink<R> {
+    ghost tells = { false };
+
+    ghost events = { λ _. [] };
+
+    ghost faults = { λ l. l.faults.count };
+
+    ghost looks = { λ l. l.looks };
+
+    ghost closed = { λ l. l.closed };
+
+    fn poll(&mut self, alloc: Global) -> Result<Polled, LinkFault> {
+        if self.closed {
+            return Ok(Polled::Closed);
+        }
+        if !self.awake {
+            return Ok(self.idle());
+        }
+        match self.look(alloc) {
+            Heard::Message(bytes) => {
+                self.patience.renew();
+                Ok(Polled::Message(bytes))
+            }
+            Heard::Other => Ok(self.nothing()),
+            Heard::Empty => Ok(self.idle()),
+            Heard::Closed => {
+                self.closed = true;
+                self.state = State::Gone;
+                Ok(Polled::Closed)
+            }
+            Heard::Failed => Err(self.fail()),
+            Heard::Memory => Err(LinkFault::Memory),
+        }
+    }
+
+    fn send(&mut self, alloc: Global, bytes: &[u8]) -> Result<(), LinkFault> {
+        self.awake = true;
+        self.patience.renew();
+        match self.state.give(alloc, bytes) {
+            Written::Taken => Ok(()),
+            Written::Memory => Err(LinkFault::Memory),
+            Written::Failed => Err(self.fail()),
+        }
+    }
+}
