@@ -1,5 +1,5 @@
 #!/usr/bin/env python3
-"""Prints what reading, writing, composing, transforming and applying operations costs.
+"""Prints what reading, writing, composing, transforming, inverting and applying operations costs.
 
     python3 bench/operations.py [PROGRAM]
 
@@ -8,7 +8,7 @@ reads operations as bytes from standard input, so nothing but the work named is 
 
 A comb is an operation on a document of 1,000,000 items that retains and inserts in turn. The hostile operation has as many
 bytes as a delta may: 17,000 annotations run at once, and at each of 7,000 boundaries one of them ends. An edit inserts or
-deletes one letter in the middle of a document in pieces.
+deletes one letter in the middle of a document in pieces; what is inverted inserts one there, or deletes one or 500.
 """
 
 import os
@@ -96,9 +96,19 @@ def show_edits(count, repeats):
     print("%9d letters, an edit %9.2f microseconds %9d KiB at the peak" % (size, each / 2000, peak), flush=True)
 
 
+def show_inverses(count, repeats):
+    there, more = count // 2, "abcdefghij" * 50
+    for what, change, taken in (("inserts one letter", b"\x02" + text("x"), 0), ("deletes one", b"\x05" + text("a"), 1), ("deletes 500", b"\x05" + text(more), 500)):
+        op = operation([part for part in (retain(there), change, retain(count - there - taken)) if part != retain(0)])
+        each, _, peak = measure(PROGRAM, "invert", op, op, repeats, letters(count))
+        print("%9d letters, the inverse of what %s %9.2f microseconds %9d KiB at the peak" % (count, what, each / 1000, peak), flush=True)
+
+
 def main():
     for count in (1_000, 100_000, 1_000_000):
         show_edits(count, 20_000)
+    for count in (1_000, 100_000):
+        show_inverses(count, 20_000)
     for count in (10, 100, 1_000):
         first, second = comb(count, ITEMS, "a"), comb(count, ITEMS, "b")
         onto = comb(count, ITEMS + count // 2, "c")

@@ -1,4 +1,5 @@
-//! What it costs to read, write, compose and transform operations, and to apply them to a document in pieces.
+//! What it costs to read, write, compose and transform operations, and to invert them at a document in pieces and apply them
+//! to it.
 //!
 //! Standard input is one spelling behind the other: a first (earlier) operation, a second (later) one, and one that makes a
 //! document. With no arguments each kind of work is done once, and what came of it is printed, which is the same in every run.
@@ -13,7 +14,7 @@ use std::io::{self, Read};
 use std::time::Instant;
 use work::{Inputs, Work};
 
-const ALL: [&str; 5] = ["read", "write", "compose", "transform", "edit"];
+const ALL: [&str; 6] = ["read", "write", "compose", "transform", "invert", "edit"];
 
 fn main(rt: HostRuntime) -> io::Result<()> {
     let alloc = rt.alloc();

@@ -4,6 +4,7 @@ use doc_op::DocOp;
 use doc_rope::Rope;
 use op_codec::{read, spelling_len, write};
 use op_compose::compose;
+use op_invert::invert_rope;
 use op_transform::transform;
 use op_validity::apply_rope;
 use std::alloc::Global;
@@ -53,6 +54,8 @@ pub enum Work {
     Compose,
     /// The second, as the later one, and the first are taken past each other.
     Transform,
+    /// The first is inverted at the document.
+    Invert,
     /// The first and then the second are applied to the document.
     Edit,
 }
@@ -65,6 +68,7 @@ impl Work {
             "write" => Some(Work::Write),
             "compose" => Some(Work::Compose),
             "transform" => Some(Work::Transform),
+            "invert" => Some(Work::Invert),
             "edit" => Some(Work::Edit),
             _ => None,
         }
@@ -81,6 +85,10 @@ impl Work {
                 Some(op.count())
             }
             Work::Transform => transformed(alloc, &inputs.second, &inputs.first),
+            Work::Invert => {
+                let inverse = invert_rope(alloc, &inputs.first, &inputs.rope).ok()?;
+                Some(inverse.count())
+            }
             Work::Edit => edited(alloc, inputs),
         }
     }

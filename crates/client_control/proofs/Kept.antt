@@ -37,7 +37,7 @@ use Rattle.client_control.specs.Steps.{IsTried}
 use Rattle.client_control.proofs.Pending.{settled_none, settled_screen}
 use Rattle.client_control.proofs.Small.{items_small}
 
-true_le : (a b : ℕ) → a ≤ b → nat_le a b ≡ true
+pub true_le : (a b : ℕ) → a ≤ b → nat_le a b ≡ true
 true_le a b h = grind (arith, nat_tests)
 
 false_le : (a b : ℕ) → b < a → nat_le a b ≡ false

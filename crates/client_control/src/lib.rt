@@ -16,4 +16,5 @@ mod submitting;
 
 pub use follower::Follower;
 pub use node_rules::{FollowerFault, Received, Taken};
+pub use past::{Rebased, rebase};
 pub use submitting::SUBMIT_BYTES;

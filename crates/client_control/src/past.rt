@@ -13,7 +13,7 @@ use wavelet_op::{Ops, OpsPair, WaveletFault, transform_delta};
 
 /// Entries past operations, and what is left of these.
 #[derive(Drop)]
-pub(crate) struct Rebased {
+pub struct Rebased {
     pub entries: Vec<Ops>,
     pub left: Ops,
 }
@@ -49,9 +49,9 @@ fn put(list: &mut Vec<Ops>, ops: Ops) -> Result<(), Memory>
     Ok(())
 }
 
-// Entries in turn past operations; None where some have no transform.
+/// Entries in turn past operations, each past what the ones before it left of them; None exactly where some have no transform.
 #[tactic(auto, using(crate::proofs::Passing::rebasing_start, crate::proofs::Passing::rebasing_end))]
-fn rebase(alloc: Global, entries: &[Ops], ops: Ops) -> Result<Option<Rebased>, Memory>
+pub fn rebase(alloc: Global, entries: &[Ops], ops: Ops) -> Result<Option<Rebased>, Memory>
     requires entries { AreStructured entries.now }
     requires ops { AreStructuredActs (meanings ops) }
     ensures { IfOk result (λ o. MatchOption o (rebase (map meanings entries.now) (meanings ops) ≡ None) (λ p. IsRebased entries.now ops p)) }

@@ -4,7 +4,7 @@
 --     stays                 one that stays as it is
 --     only_if               one that may move at fewer names
 --     taken_in, refused_in  one that took a submission; one where it was refused
-use Rattle.std.proofs.Common.{◌≡◌, ◌≢◌, ◌⊎◌, inl, inr, ◌↔◌, ◌≤◌, ℕ, Bool, false, List, [], ◌∷◌, ◌++◌, Option, None, Some, IsSome, refl, sym, ap, subst, ◌∙◌, option_map, append-nil, arith, true≢false, append_assoc}
+use Rattle.std.proofs.Common.{◌≡◌, ◌≢◌, ◌⊎◌, inl, inr, ◌≤◌, ℕ, Bool, true, false, List, [], ◌∷◌, ◌++◌, Option, None, Some, refl, sym, ap, subst, ◌∙◌, option_map, append-nil, arith, true≢false, append_assoc}
 use Rattle.doc_items.specs.Maps.{Key, same_text}
 use Rattle.wave_base.specs.Versions.{IdOf}
 use Rattle.wavelet_op.specs.Deltas.{DeltaOf}
@@ -16,12 +16,15 @@ use Rattle.delta_history.specs.Verdicts.{kept}
 use Rattle.disk_model.specs.declared.disk.Disk as disk_of
 use Rattle.wave_outside.specs.declared.folder.Folder as folder_of
 use Rattle.session_core.specs.Access.{shown}
+use Rattle.wavelet_shelf.specs.FileNames.{file_name_of}
+use Rattle.wavelet_shelf.specs.Folders.{IsUsedIn}
 use Rattle.wavelet_shelf.specs.Hosting.{Hosted, names_of, deltas_in, copy_in, IsCopyOf, judged_in, with_added, after_submission}
 use Rattle.wavelet_shelf.specs.Shelves.{acknowledged, in_folder, hosted_of, container_in, copies_of, outcome_of, fault_count, IsKept}
 use Rattle.wavelet_shelf.specs.declared.shelf.Shelf.{Shelf}
 use Rattle.wavelet_shelf.proofs.Growing.{grows_alone}
 use Rattle.wavelet_shelf.proofs.Names.{own, same_or_not}
-use Rattle.pipe_machine.specs.Keeping.{Begins, IsMoved}
+use Rattle.wavelet_shelf.proofs.Still.{used_as, used_more}
+use Rattle.pipe_machine.specs.Keeping.{Begins, IsFileAmong, IsMoved}
 use Rattle.pipe_machine.specs.Machine.{shown_in}
 use Rattle.pipe_machine.specs.Shows.{IsSameShown}
 
@@ -50,6 +53,10 @@ begins_added hs n (Some d) m up = begins_grown hs n d m up (same_or_not m n)
 begins_as : (ds es fs : List DeltaOf) → es ≡ fs → Begins ds es → Begins ds fs
 begins_as ds es fs e b = (b.0, b.1 ∙ e)
 
+still_may : (a b : Bool) → (a ≡ false → b ≡ false) → b ≡ true → a ≡ true
+still_may true b f e = refl
+still_may false b f e = absurd (true≢false (sym e ∙ f refl))
+
 other_name : (n m : Key) → same_text n m ≡ false → m ≢ n
 other_name n m apart e = true≢false (sym (own n) ∙ ap (same_text n) (sym e) ∙ apart)
 
@@ -68,22 +75,31 @@ module _ {F D : Type 0} {folder : folder_of.Ghosts F D} {disk : disk_of.Ghosts D
     grown = λ n. begins_itself (deltas_in (hosted_of s) n);
     others = λ n h. refl;
     kept = λ k. k;
-    filed = (λ f. f, λ f. f);
+    used = used_as folder (IsFileAmong may) (in_folder s);
     later = omega arith;
   }
 
   pub only_if : {may fewer : Key → Bool} (a b : Shelf F D folder disk) → ((n : Key) → may n ≡ false → fewer n ≡ false) → IsMoved fewer a b → IsMoved may a b
-  only_if a b f m = record { grown = m.grown; others = λ n h. m.others n (f n h); kept = m.kept; filed = m.filed; later = m.later }
+  only_if {may} {fewer} a b f m = record {
+    grown = m.grown;
+    others = λ n h. m.others n (f n h);
+    kept = m.kept;
+    used = used_more folder (IsFileAmong fewer) (IsFileAmong may) (λ l x. (x.0, still_may (may x.0) (fewer x.0) (f x.0) x.1, x.2)) (in_folder a) (in_folder b) m.used;
+    later = m.later;
+  }
 
   module _ (a b : Shelf F D folder disk) (name : Key) (others : (m : Key) → m ≢ name → container_in b m ≡ container_in a m)
-      (kept : IsKept a → IsKept b) (filed : IsSome (in_folder a) ↔ IsSome (in_folder b)) (later : fault_count a ≤ fault_count b) where
+      (kept : IsKept a → IsKept b) (used : IsUsedIn folder (λ m. m ≡ file_name_of name) (in_folder a) (in_folder b)) (later : fault_count a ≤ fault_count b) where
+    used_file : IsUsedIn folder (IsFileAmong (same_text name)) (in_folder a) (in_folder b)
+    used_file = used_more folder (λ m. m ≡ file_name_of name) (IsFileAmong (same_text name)) (λ m e. (name, own name, e)) (in_folder a) (in_folder b) used
+
     pub taken_in : (s : Submission) (t : ℕ) → AreAscending (names_of (hosted_of a)) → hosted_of b ≡ after_submission (hosted_of a) name s t → IsMoved (same_text name) a b
     taken_in s t up is = record {
       grown = λ n. begins_as (deltas_in (hosted_of a) n) (deltas_in (after_submission (hosted_of a) name s t) n) (deltas_in (hosted_of b) n) (ap (λ hs. deltas_in hs n) (sym is))
           (begins_added (hosted_of a) name (judged_in (hosted_of a) name s t).1 n up);
       others = λ n apart. others n (other_name name n apart);
       kept = kept;
-      filed = filed;
+      used = used_file;
       later = later;
     }
 
@@ -92,6 +108,6 @@ module _ {F D : Type 0} {folder : folder_of.Ghosts F D} {disk : disk_of.Ghosts D
       grown = λ n. ([], append-nil (deltas_in (hosted_of a) n) ∙ ap (λ hs. deltas_in hs n) (sym is));
       others = λ n apart. others n (other_name name n apart);
       kept = kept;
-      filed = filed;
+      used = used_file;
       later = later;
     }

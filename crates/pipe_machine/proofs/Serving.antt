@@ -10,7 +10,7 @@ use Rattle.message_table.specs.declared.message.Message.{Message}
 use Rattle.session_core.specs.declared.session.Session.{Session}
 use Rattle.wavelet_shelf.specs.Hosting.{Hosted}
 use Rattle.pipe_machine.specs.declared.seats.Seat.{Seat}
-use Rattle.pipe_machine.specs.Lines.{Sent, sent_to, line_of, lines_of}
+use Rattle.pipe_machine.specs.Lines.{sent_to, line_of, lines_of}
 use Rattle.pipe_machine.specs.Machine.{Pipe, Reply, Answer, reply_of, replied, seated_answer, served_at, served}
 use Rattle.pipe_machine.specs.Seats.{place_in, seated, seat_in}
 

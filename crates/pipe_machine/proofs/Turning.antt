@@ -7,18 +7,18 @@
 use Rattle.std.proofs.Common.{◌≡◌, ◌↔◌, ◌≤◌, ℕ, Bool, true, false, ◌||◌, List, [], ◌∷◌, ◌++◌, Option, Some, None, IsSome, Result, IsErrOf, refl, sym, ap, ◌∙◌, append_assoc, arith, true≢false, Ok, Err, OnOk}
 use Rattle.std.specs.List.{list_any}
 use Rattle.doc_items.specs.Maps.{Key}
-use Rattle.wavelet_op.specs.Deltas.{DeltaOf}
 use Rattle.disk_model.specs.declared.disk.Disk as disk_of
 use Rattle.wave_outside.specs.declared.folder.Folder as folder_of
 use Rattle.wavelet_shelf.specs.Hosting.{deltas_in}
 use Rattle.wave_outside.specs.Counts.{Rose}
 use Rattle.wavelet_shelf.specs.Shelves.{hosted_of, in_folder, fault_count}
 use Rattle.wavelet_shelf.specs.declared.shelf.Shelf.{Shelf}
+use Rattle.wavelet_shelf.proofs.Still.{used_on, used_more, used_there}
 use Rattle.line_run.specs.Turns.{Turn, turn_at}
 use Rattle.line_run.specs.declared.line_machine.TurnFault.{TurnFault}
 use Rattle.line_run.specs.declared.line_machine.TurnFault.TheVariants.{Store}
 use Rattle.pipe_machine.specs.Pipes.{faults_where, store_faults}
-use Rattle.pipe_machine.specs.Keeping.{Begins, submits_to, submitted_in, IsMoved, IsEnded}
+use Rattle.pipe_machine.specs.Keeping.{submits_to, submitted_in, IsFileAmong, IsMoved, IsEnded}
 use Rattle.pipe_machine.specs.Lines.{lines_of}
 use Rattle.pipe_machine.specs.Machine.{Pipe, Answer, delivered, turned, turn, sent, after}
 use Rattle.pipe_machine.proofs.Gathering.{lines_append}
@@ -51,6 +51,13 @@ any_more p (y ∷ ys) x = go (p y) (any_more p ys x)
     go true e = refl
     go false e = e
 
+or_left : (a b : Bool) → a ≡ true → (a || b) ≡ true
+or_left a b e = ap (λ z. z || b) e
+
+or_right : (a b : Bool) → b ≡ true → (a || (b || false)) ≡ true
+or_right true b e = refl
+or_right false b e = ap (λ z. z || false) e
+
 apart : (b : Bool) → (b || false) ≡ false → b ≡ false
 apart true e = absurd (true≢false e)
 apart false e = refl
@@ -73,12 +80,16 @@ module _ {F D : Type 0} {folder : folder_of.Ghosts F D} {disk : disk_of.Ghosts D
     others = λ k other. let none = none_of (submitted_in ts k) (submits_to line k || false) (sym (any_more (λ (t : Turn). submits_to t.line k) ts (turn_at time line)) ∙ other) in
         n.others k (apart (submits_to line k) none.1) ∙ m.others k none.0;
     kept = λ k. n.kept (m.kept k);
-    filed = (λ f. n.filed.0 (m.filed.0 f), λ f. m.filed.1 (n.filed.1 f));
+    used =
+        let all = IsFileAmong (submitted_in (ts ++ turn_at time line ∷ [])) in
+        used_on folder all (in_folder a) (in_folder b) (in_folder c)
+        (used_more folder (IsFileAmong (submitted_in ts)) all (λ l x. (x.0, any_more (λ (t : Turn). submits_to t.line x.0) ts (turn_at time line) ∙ or_left (submitted_in ts x.0) (submits_to line x.0 || false) x.1, x.2)) (in_folder a) (in_folder b) m.used)
+        (used_more folder (IsFileAmong (submits_to line)) all (λ l x. (x.0, any_more (λ (t : Turn). submits_to t.line x.0) ts (turn_at time line) ∙ or_right (submitted_in ts x.0) (submits_to line x.0) x.1, x.2)) (in_folder b) (in_folder c) n.used);
     later = omega (arith, m.later, n.later);
   }
 
   pub faults_later : (a b : Shelf F D folder disk) (may : Key → Bool) → IsMoved may a b → store_faults a ≤ store_faults b
-  faults_later a b may m = where_later (in_folder a) (in_folder b) (fault_count a) (fault_count b) m.filed m.later
+  faults_later a b may m = where_later (in_folder a) (in_folder b) (fault_count a) (fault_count b) (used_there folder (IsFileAmong may) (in_folder a) (in_folder b) m.used) m.later
 
   pub faults_rose : {A : Type 0} (a b : Shelf F D folder disk) (may : Key → Bool) (r : Result A TurnFault) → IsMoved may a b → IsEnded a b r → IsErrOf r Store → Rose (store_faults a) (store_faults b)
-  faults_rose a b may r m e store = where_rose (in_folder a) (in_folder b) (fault_count a) (fault_count b) (e.store store) m.filed (e.failed store)
+  faults_rose a b may r m e store = where_rose (in_folder a) (in_folder b) (fault_count a) (fault_count b) (e.store store) (used_there folder (IsFileAmong may) (in_folder a) (in_folder b) m.used) (e.failed store)

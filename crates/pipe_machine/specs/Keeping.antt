@@ -4,9 +4,10 @@
 --     asks_for r n        the request is one
 --     submits_to l n      the line is one
 --     submitted_in ts n   one of the turns is one
+--     IsFileAmong may m   this is the file of a name of which this holds
 --     IsMoved may a b     the shelf before and behind a step that may submit to the names of which this holds
 --     IsEnded a b r       that no repair waits behind it, or why it failed
-use Rattle.std.specs.Prelude.{◌≡◌, ◌↔◌, ◌≤◌, ℕ, List, ◌++◌, Bool, false, Result, Ok, Err, IsSome, OnOk, IsErrOf}
+use Rattle.std.specs.Prelude.{◌≡◌, ◌≤◌, ℕ, List, ◌++◌, Bool, true, false, Result, Ok, Err, IsSome, OnOk, IsErrOf}
 use Rattle.std.specs.List.{list_any}
 use Rattle.doc_items.specs.Maps.{Key, same_text}
 use Rattle.wavelet_op.specs.Deltas.{DeltaOf}
@@ -16,6 +17,8 @@ use Rattle.message_table.specs.declared.message.Message.TheVariants.{Hello, Open
 use Rattle.wave_messages.specs.Read as reading
 use Rattle.wave_outside.specs.Counts.{Rose}
 use Rattle.wave_outside.specs.declared.folder.Folder as folder_of
+use Rattle.wavelet_shelf.specs.FileNames.{file_name_of}
+use Rattle.wavelet_shelf.specs.Folders.{IsUsedIn}
 use Rattle.wavelet_shelf.specs.Hosting.{deltas_in}
 use Rattle.wavelet_shelf.specs.Shelves.{hosted_of, in_folder, container_in, fault_count, IsKept, IsSettled}
 use Rattle.wavelet_shelf.specs.declared.shelf.Shelf.{Shelf}
@@ -66,12 +69,15 @@ submits_to line n = submits_read (reading.line_read line) n
 abbrev pub submitted_in : List Turn → Key → Bool
 submitted_in ts n = list_any (λ t. submits_to t.line n) ts
 
+abbrev pub IsFileAmong : (Key → Bool) → List ℕ → Type 0
+IsFileAmong may m = (n : Key) × (may n ≡ true) × (m ≡ file_name_of n)
+
 module _ {F D : Type 0} {folder : folder_of.Ghosts F D} {disk : disk_of.Ghosts D} where
   pub record IsMoved (may : Key → Bool) (a b : Shelf F D folder disk) : Type 0 where
     pub grown : (n : Key) → Begins (deltas_in (hosted_of a) n) (deltas_in (hosted_of b) n)
     pub others : (n : Key) → may n ≡ false → container_in b n ≡ container_in a n
     pub kept : IsKept a → IsKept b
-    pub filed : IsSome (in_folder a) ↔ IsSome (in_folder b)
+    pub used : IsUsedIn folder (IsFileAmong may) (in_folder a) (in_folder b)
     pub later : fault_count a ≤ fault_count b
 
   pub record IsEnded {A : Type 0} (a b : Shelf F D folder disk) (r : Result A TurnFault) : Type 0 where

@@ -1,13 +1,18 @@
 -- What stays so of a machine that does nothing.
 --     unmoved m     nothing happened since
-use Rattle.std.specs.Prelude.{[], refl}
+use Rattle.std.specs.Prelude.{ℕ, List, Option, Some, None, [], refl}
 use Rattle.std.proofs.Common.{append-nil, arith}
 use Rattle.disk_model.specs.declared.disk.Disk as disk_of
 use Rattle.wave_outside.specs.declared.folder.Folder as folder_of
+use Rattle.wavelet_shelf.specs.Folders.{IsUsedIn}
 use Rattle.wavelet_shelf.specs.Hosting.{deltas_in}
-use Rattle.wavelet_shelf.specs.Shelves.{hosted_of}
+use Rattle.wavelet_shelf.specs.Shelves.{hosted_of, in_folder}
 use Rattle.pipe_machine.specs.declared.pipe.PipeMachine.{PipeMachine}
 use Rattle.pipe_machine.specs.Pipes.{IsSince}
+
+same_folder : {F D : Type 0} (folder : folder_of.Ghosts F D) (may : List ℕ → Type 0) (o : Option F) → IsUsedIn folder may o o
+same_folder folder may None = tt
+same_folder folder may (Some f) = record { still = λ told. refl; others = λ told m not. refl }
 
 module _ {F D : Type 0} {folder : folder_of.Ghosts F D} {disk : disk_of.Ghosts D} where
   pub unmoved : (m : PipeMachine F D folder disk) → IsSince m [] m
@@ -15,6 +20,6 @@ module _ {F D : Type 0} {folder : folder_of.Ghosts F D} {disk : disk_of.Ghosts D
     grown = λ n. ([], append-nil (deltas_in (hosted_of m.shelf) n));
     others = λ n h. refl;
     kept = λ k. k;
-    filed = (λ f. f, λ f. f);
+    used = same_folder folder _ (in_folder m.shelf);
     later = omega arith;
   }

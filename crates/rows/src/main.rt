@@ -1,7 +1,7 @@
 //! Rows of text, each with what a public call answers to it.
 //!
 //! Each line of standard input is printed again, with the answer after it. A line that is empty or begins with `#` stays as it is.
-//! `op_rows`, `wavelet_rows` and `talk_rows` say which verbs there are.
+//! `op_rows`, `undo_rows`, `wavelet_rows` and `talk_rows` say which verbs there are.
 #![tactic(auto)]
 
 use std::alloc::{AllocError, Global};
@@ -11,6 +11,13 @@ use talk_rows::Talk;
 // The answer of the first crate that has the verb.
 fn below(alloc: Global, row: &str) -> Result<Option<String>, AllocError> {
     match op_rows::answer(alloc, row) {
+        Ok(answer) => Ok(answer),
+        Err(fault) => Ok(Some(format!(in alloc; " => {fault:?}")?)),
+    }
+}
+
+fn undone(alloc: Global, row: &str) -> Result<Option<String>, AllocError> {
+    match undo_rows::answer(alloc, row) {
         Ok(answer) => Ok(answer),
         Err(fault) => Ok(Some(format!(in alloc; " => {fault:?}")?)),
     }
@@ -34,6 +41,9 @@ fn talked(alloc: Global, talk: &mut Talk, row: &str) -> Result<Option<String>, A
 // What is printed after the row.
 fn answer(alloc: Global, talk: &mut Talk, row: &str) -> Result<String, AllocError> {
     if let Some(answer) = below(alloc, row)? {
+        return Ok(answer);
+    }
+    if let Some(answer) = undone(alloc, row)? {
         return Ok(answer);
     }
     if let Some(answer) = above(alloc, row)? {

@@ -6,12 +6,14 @@ use std::test::Fail;
 use wave_base::{HashedVersion, WaveletName};
 use wave_files::FileFolder;
 use wave_hash::zero_hash;
-use wave_outside::{Folder, MemoryFolder};
+use wave_outside::{Folder, FolderFault, MemoryFolder};
 use wavelet_op::{Submission, Verdict};
 use wavelet_shelf::{Shelf, ShelfFault, file_name};
 use wavelet_words::submission;
 
-const FOLDER: &str = "shelf_tests_folder";
+const TOP: &str = "shelf_tests_folder";
+
+const FOLDER: &str = "shelf_tests_folder/below/it";
 
 fn name(alloc: Global) -> Result<WaveletName, Fail> {
     Ok(WaveletName::parse(alloc, "a.com/w1/a.com/conv+root")?)
@@ -50,7 +52,7 @@ fn stored(alloc: Global) -> Result<Vec<u8>, Fail> {
     }
 }
 
-// The folder, which is made where it isn't there.
+// The folder, which is made where it isn't there, with those above it.
 fn entered(rt: &HostRuntime) -> Result<FileFolder<HostRuntime>, Fail> {
     let alloc = rt.alloc();
     let mut folder = FileFolder::new(rt.clone()?, alloc);
@@ -88,11 +90,22 @@ fn expected(length: usize) -> Result<u64, u64> {
     }
 }
 
+// Whether a folder that is entered can't be entered a second time.
+fn is_locked(rt: &HostRuntime) -> Result<bool, Fail> {
+    let alloc = rt.alloc();
+    let _first = entered(rt)?;
+    let mut second = FileFolder::new(rt.clone()?, alloc);
+    Ok(second.enter(alloc, FOLDER) == Err(FolderFault::Failed))
+}
+
 #[test]
 fn a_real_folder_is_read_again(rt: HostRuntime) -> Result<(), Fail> {
     let alloc = rt.alloc();
-    let _before = fs::remove_dir_all(&rt, FOLDER);
+    let _before = fs::remove_dir_all(&rt, TOP);
     assert!(rt; is_written(&rt)?);
+    let other = format!(in alloc; "{}/old.wave", FOLDER)?;
+    fs::write(&rt, other.as_str(), b"\x01W".as_slice())?;
+    assert!(rt; is_locked(&rt)?);
     assert!(rt; read_history(&rt)? == Ok(2));
     let file = file_name(alloc, &name(alloc)?)?;
     let path = format!(in alloc; "{}/{}", FOLDER, file.as_str())?;
@@ -102,6 +115,6 @@ fn a_real_folder_is_read_again(rt: HostRuntime) -> Result<(), Fail> {
         fs::write(&rt, path.as_str(), &bytes[..length])?;
         assert!(rt; read_history(&rt)? == expected(length), "cut to {length}");
     }
-    fs::remove_dir_all(&rt, FOLDER)?;
+    fs::remove_dir_all(&rt, TOP)?;
     Ok(())
 }

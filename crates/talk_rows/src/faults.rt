@@ -2,7 +2,7 @@
 use crate::Fault;
 use crate::runs::{Runs, crashed, no_files, one_file, outcome};
 use disk_model::MemoryDisk;
-use disk_rows::{first_word, number, put};
+use disk_rows::{bytes_of, first_word, number, put};
 use std::alloc::Global;
 use std::mem::replace;
 use wave_outside::{MemoryFolder, MemorySink};
@@ -60,10 +60,11 @@ fn images_say_all(
     Ok(count)
 }
 
-// How many runs end as told, and how many images say all of it.
+// How many runs end as told, how many met the fault, and how many images say all of it.
 #[derive(Clone, Copy)]
 struct Tally {
     runs: u64,
+    met: u64,
     images: u64,
 }
 
@@ -78,37 +79,47 @@ fn try_one(
     if is_front(status, &sink, whole.said) {
         tally.runs = tally.runs.saturating_add(1);
     }
+    if status == 5 {
+        tally.met = tally.met.saturating_add(1);
+    }
     let more = images_say_all(alloc, input, folder, whole)?;
     tally.images = tally.images.saturating_add(more);
     Ok(())
 }
 
-// A folder with an empty file whose disk fails at this call, or from it on.
-fn failing(alloc: Global, name: &str, call: u64, stops: bool) -> Result<MemoryFolder, Fault> {
+// The file under which the runs begin.
+#[derive(Clone, Copy)]
+struct Start<'a> {
+    name: &'a str,
+    bytes: &'a [u8],
+}
+
+// A folder with the file, whose disk fails at this call, or from it on.
+fn failing(alloc: Global, start: Start<'_>, call: u64, stops: bool) -> Result<MemoryFolder, Fault> {
+    let bytes = Vec::from_slice(alloc, start.bytes)?;
     let disk = if stops {
-        MemoryDisk::new(alloc, Vec::new(alloc), Vec::new(alloc), Some(call))
+        MemoryDisk::new(alloc, bytes, Vec::new(alloc), Some(call))
     } else {
-        MemoryDisk::new(
-            alloc,
-            Vec::new(alloc),
-            Vec::from_slice(alloc, &[call])?,
-            None,
-        )
+        MemoryDisk::new(alloc, bytes, Vec::from_slice(alloc, &[call])?, None)
     };
-    Ok(one_file(alloc, name, disk)?)
+    Ok(one_file(alloc, start.name, disk)?)
 }
 
 fn try_all(
     alloc: Global,
     input: &[u8],
-    name: &str,
+    start: Start<'_>,
     calls: u64,
     whole: Whole<'_>,
 ) -> Result<Tally, Fault> {
-    let mut tally = Tally { runs: 0, images: 0 };
+    let mut tally = Tally {
+        runs: 0,
+        met: 0,
+        images: 0,
+    };
     for call in 0..calls {
         for stops in [false, true] {
-            let mut folder = failing(alloc, name, call, stops)?;
+            let mut folder = failing(alloc, start, call, stops)?;
             try_one(alloc, input, &mut folder, whole, &mut tally)?;
         }
     }
@@ -122,7 +133,7 @@ fn image_of(alloc: Global, folder: &MemoryFolder) -> Result<Vec<u8>, Fault> {
     }
 }
 
-fn tried(alloc: Global, input: &[u8], name: &str, calls: u64) -> Result<Tally, Fault> {
+fn tried(alloc: Global, input: &[u8], start: Start<'_>, calls: u64) -> Result<Tally, Fault> {
     let mut folder = no_files(alloc);
     let (_, sink) = outcome(alloc, WORDS, input, "", &mut folder)?;
     let file = image_of(alloc, &folder)?;
@@ -130,22 +141,32 @@ fn tried(alloc: Global, input: &[u8], name: &str, calls: u64) -> Result<Tally, F
         said: sink.bytes(),
         file: file.as_slice(),
     };
-    try_all(alloc, input, name, calls, whole)
+    try_all(alloc, input, start, calls, whole)
 }
 
 impl Runs {
-    /// `faults FILE CALLS`: the lines since the last run over a store whose file's disk fails at each of so many calls, or from it on:
-    /// how many runs end at 0 with all, or at 5 with its front, and after how many of four crashes of each all is said again.
+    /// `faults FILE DIGITS CALLS`: the lines since the last run over a store with this file, whose disk fails at each of so many calls, or
+    /// from it on: how many runs end at 0 with all, or at 5 with its front, how many ended at 5, and after how many of four crashes of each
+    /// all is said again.
     pub(crate) fn faults(
         &mut self,
         alloc: Global,
         rest: &str,
         out: &mut String,
     ) -> Result<(), Fault> {
-        let (name, calls) = first_word(rest);
+        let (name, rest) = first_word(rest);
+        let (digits, calls) = first_word(rest);
+        let bytes = bytes_of(alloc, digits)?;
         let input = replace(&mut self.input, Vec::new(alloc));
-        let tally = tried(alloc, input.as_slice(), name, number(calls)?)?;
-        let told = format!(in alloc; "{} runs, {} images", tally.runs, tally.images)?;
+        let start = Start {
+            name,
+            bytes: bytes.as_slice(),
+        };
+        let tally = tried(alloc, input.as_slice(), start, number(calls)?)?;
+        let told = format!(in alloc;
+            "{} runs, {} met the fault, {} images",
+            tally.runs, tally.met, tally.images
+        )?;
         Ok(put(out, told.as_str())?)
     }
 }

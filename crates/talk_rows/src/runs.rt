@@ -10,6 +10,24 @@ use std::mem::replace;
 use wave_outside::{MemoryFolder, MemorySink, MemorySource, StoredFile, TickClock};
 use wave_program::run;
 
+// The files of a folder, each on a disk of its own that reads the same, and one more.
+fn one_more(
+    alloc: Global,
+    folder: &MemoryFolder,
+    name: &str,
+    disk: MemoryDisk,
+) -> Result<MemoryFolder, Memory> {
+    let mut files = Vec::new(alloc);
+    for file in folder.files() {
+        let name = String::from_str(alloc, file.name.as_str())?;
+        let disk = file.disk.fork(alloc)?;
+        files.push(StoredFile { name, disk })?;
+    }
+    let name = String::from_str(alloc, name)?;
+    files.push(StoredFile { name, disk })?;
+    Ok(MemoryFolder::new(alloc, files, Vec::new(alloc)))
+}
+
 /// The lines for the next run, and the folder that the runs share.
 pub(crate) struct Runs {
     pub(crate) input: Vec<u8>,
@@ -195,6 +213,26 @@ impl Runs {
         let (digits, faults) = first_word(rest);
         let disk = disk(alloc, bytes_of(alloc, digits)?, faults)?;
         self.folder = one_file(alloc, name, disk)?;
+        Ok(())
+    }
+
+    /// `beside NAME DIGITS FAULTS`: one more file in the folder.
+    pub(crate) fn beside(&mut self, alloc: Global, rest: &str) -> Result<(), Fault> {
+        let (name, rest) = first_word(rest);
+        let (digits, faults) = first_word(rest);
+        let disk = disk(alloc, bytes_of(alloc, digits)?, faults)?;
+        self.folder = one_more(alloc, &self.folder, name, disk)?;
+        Ok(())
+    }
+
+    /// `entered`: the paths that the folder was asked to enter, with `!` where its files were used between the one before and it.
+    pub(crate) fn entered(&self, out: &mut String) -> Result<(), Fault> {
+        for entered in self.folder.entered() {
+            put(out, entered.path.as_str())?;
+            if entered.after_use {
+                out.push('!')?;
+            }
+        }
         Ok(())
     }
 

@@ -1,5 +1,5 @@
 -- What each step needs: whatever the state is, it keeps the rule, and tells what it is to tell.
-use Rattle.std.proofs.Common.{◌≡◌, ◌≢◌, inl, inr, ℕ, ◌+◌, ◌<◌, ◌≤◌, eqb, List, [], ◌∷◌, ◌++◌, length, get_or, sym, refl, ap, ◌∙◌, subst, arith, Option, Some, None, Bool, true, false, MatchBool, IfSome, IfNone, append-nil, length-append, eq-eqb, ne_eqb}
+use Rattle.std.proofs.Common.{◌≡◌, inl, inr, ℕ, ◌+◌, ◌<◌, ◌≤◌, eqb, List, [], ◌∷◌, ◌++◌, length, get_or, sym, refl, ap, ◌∙◌, subst, arith, Option, Some, None, Bool, true, false, MatchBool, IfSome, append-nil, length-append, eq-eqb, ne_eqb}
 use mathlib.Core.Logic.{dite}
 use mathlib.Core.Option.{none, some, some-injective}
 use mathlib.Core.Option as maybe
@@ -14,10 +14,9 @@ use Rattle.turn_lock.specs.declared.view.Stage.{Stage}
 use Rattle.turn_lock.specs.declared.view.Stage.TheVariants.{Out, Waits, Turn, Inside, Fresh, Gave, Told, Joined}
 use Rattle.turn_lock.specs.Turns.{turn_limit, InTurn, newcomer, nobody, told, longer_of}
 use Rattle.turn_lock.specs.Tells.{TellsTicket, TellsDraw, TellsServing, TellsHead, TellsTaken, TellsGiven, TellsAdded, TellsPublished, TellsPassed, TellsSettled}
-use Rattle.turn_lock.specs.Kinds.{Stands}
 use Rattle.turn_lock.specs.Passes.{IsOneMore}
 use Rattle.turn_lock.proofs.Beginnings.{prefix_more, longer_begins}
-use Rattle.turn_lock.proofs.Keeping.{fits_as, draws_keep, ticket_looks_keep, serving_looks_keep, head_looks_keep, settling_keeps, takes_keep, gives_keep, gives_new_keep, publishing, passing_keeps, splitting_keeps, joining_keeps, opens, empty_inside}
+use Rattle.turn_lock.proofs.Keeping.{fits_as, draws_keep, ticket_looks_keep, serving_looks_keep, head_looks_keep, settling_keeps, takes_keep, gives_keep, gives_new_keep, publishing, passing_keeps, splitting_keeps, joining_keeps, opens}
 
 module _ {T E : Type 0} (entries : T → List E) where
   abbrev St : Type 0
@@ -174,19 +173,13 @@ module _ {T E : Type 0} (entries : T → List E) where
   starts x first n small is = (entries x, opens entries x first n small is)
 
   -- at the end the value lies in the slot where word 3 is 0, and its entries begin with what the pass has seen
-  pub closes_full : (id : ℕ) (v : View E) (ws : List ℕ) (xs : List (Option T)) (n : ℕ) (y : Option T) (X : Type 0) → v.stage ≡ Out → Final (Seen (InTurn entries) id v) ws xs → get_elem? ws 3 ≡ some n → n ≡ 0 → get_elem? xs 0 ≡ some y
-      → IfSome y (λ x. IsPrefix v.seen (entries x)) × IfNone y X
-  closes_full id v ws xs n y X is final word zero_word there = let s = final.0 in let r = final.1.0 in let log : List E = r.0 in let k = r.1 in let before : IsPrefix v.seen log = fits_as entries log s k id v Out final.1.1 is in
+  pub closes_full : (id : ℕ) (v : View E) (ws : List ℕ) (xs : List (Option T)) (n : ℕ) (y : Option T) → v.stage ≡ Out → Final (Seen (InTurn entries) id v) ws xs → get_elem? ws 3 ≡ some n → n ≡ 0 → get_elem? xs 0 ≡ some y
+      → IfSome y (λ x. IsPrefix v.seen (entries x))
+  closes_full id v ws xs n y is final word zero_word there = let s = final.0 in let r = final.1.0 in let log : List E = r.0 in let k = r.1 in let before : IsPrefix v.seen log = fits_as entries log s k id v Out final.1.1 is in
       let home : k.away ≡ 0 = some-injective k.away n (sym (ap (λ l. get_elem? l 3) k.words) ∙ (ap (λ l. get_elem? l 3) final.2 ∙ word)) ∙ zero_word in let at_home = k.home home in
       let here = final.4 0 (Some at_home.0) (ap (λ (h : Homes). get_elem? h 0) at_home.1) in
       let whole : Some at_home.0 ≡ y = some-injective (Some at_home.0) y (sym here ∙ there) in
-      subst (λ (z : Option T). IfSome z (λ x. IsPrefix v.seen (entries x)) × IfNone z X) whole (subst (IsPrefix v.seen) (sym at_home.2) (prefix_more v.seen log k.fresh before), tt)
-
-  pub closes_empty : (id : ℕ) (v : View E) (ws : List ℕ) (xs : List (Option T)) (n : ℕ) → Final (Seen (InTurn entries) id v) ws xs → get_elem? ws 3 ≡ some n → n ≢ 0
-      → (s : St) × InTurn entries s × (get_elem? s.views id ≡ some v) × (s.homes ≡ none ∷ []) × ((j : ℕ) × (u : View E) × (t : ℕ) × Stands s j u (Inside t))
-  closes_empty id v ws xs n final word some_word = let s = final.0 in let r = final.1.0 in let k = r.1 in let o = k.order.2 in
-      let same : k.away ≡ n = some-injective k.away n (sym (ap (λ l. get_elem? l 3) k.words) ∙ (ap (λ l. get_elem? l 3) final.2 ∙ word)) in
-      let not_zero : k.away ≢ 0 = λ e. some_word (sym same ∙ e) in let empty : s.homes ≡ none ∷ [] = k.out (omega arith) in (s, r, final.1.1, empty, empty_inside entries s r empty)
+      subst (λ (z : Option T). IfSome z (λ x. IsPrefix v.seen (entries x))) whole (subst (IsPrefix v.seen) (sym at_home.2) (prefix_more v.seen log k.fresh before))
 
   -- what the seat carries once it wrote the value into the slot
   pub carries : (m m' : M) (t : ℕ) (x : T) → m.1 ≡ (0, None) ∷ [] → m.0.stage ≡ Inside t → m' ≡ sat m.0 ((0, Some x) ∷ rest m.1) → (m'.0.stage ≡ Inside t) × (m'.1 ≡ (0, Some x) ∷ [])

@@ -1,13 +1,7 @@
--- What a clause reads of a pass: `seen`, `loads`, `added`, `ticket`; that it is of a cell, and where it stands there: `IsOf`, `IsWaiting`, `IsOnTurn`, `IsInside`, `IsGiven`; what stays: `IsSameView`, `IsAsBusy`. Of entries: `IsOneMore`. What `close` tells with no value: `MayBeOut`.
-use Rattle.std.specs.Prelude.{◌≡◌, ℕ, List, [], ◌∷◌, ◌++◌, length, None, Option}
+-- What a clause reads of a pass: `seen`, `loads`, `added`, `ticket`; that it is of a cell, and where it stands there: `IsOf`, `IsWaiting`, `IsOnTurn`, `IsInside`, `IsGiven`; what stays: `IsSameView`, `IsAsBusy`. Of entries: `IsOneMore`.
+use Rattle.std.specs.Prelude.{◌≡◌, ℕ, List, [], ◌∷◌, ◌++◌, length, None}
 use Rattle.std.specs.Coded.{Coded-set, coded_ℕ}
-use mathlib.Core.Option.{some, none}
-use lib.ListN.{get_elem?}
-use Rattle.atomic_table.specs.Table.{State}
 use Rattle.atomic_table.specs.Seated.{table_id_coded}
-use Rattle.turn_lock.specs.Turns.{InTurn}
-use Rattle.turn_lock.specs.Kinds.{Stands}
-use Rattle.turn_lock.specs.declared.view.View.{View}
 use Rattle.turn_lock.specs.declared.view.Stage.{Stage}
 use Rattle.turn_lock.specs.declared.cell.Pass.{Pass}
 use Rattle.turn_lock.specs.declared.cell.TurnCell.{TurnCell}
@@ -76,11 +70,6 @@ module _ {T E : Type 0} where
   -- it has seen, looked, added and read what it had
   abbrev pub IsSameView : Pass T E → Pass T E → Type 0
   IsSameView p q = (seen q ≡ seen p) × (loads q ≡ loads p) × (added q ≡ added p) × (ticket q ≡ ticket p)
-
-  -- some state keeps the rule, in which this pass has its view, the slot is empty, and another seat is inside
-  abbrev pub MayBeOut : (T → List E) → Pass T E → Type 0
-  MayBeOut entries p = (s : State (Option T) (View E)) × InTurn entries s × (get_elem? s.views p.seat.id ≡ some p.seat.me.0) × (s.homes ≡ none ∷ [])
-      × ((j : ℕ) × (v : View E) × (t : ℕ) × Stands s j v (Inside t))
 
 -- these entries and one more
 abbrev pub IsOneMore : {E : Type 0} → List E → List E → Type 0

@@ -5,16 +5,18 @@ ghost use Rattle.wave_outside.specs.declared.folder.FolderFault.TheVariants.{Fai
 
 use crate::FileDisk;
 use std::alloc::{AllocError, Global};
-use std::fs::{File, OpenOptions, create_dir_all, read_dir};
+use std::fs::{File, OpenOptions, create_dir, metadata, read_dir};
 use std::io;
 use std::rt::Files;
 use wave_outside::{Folder, FolderFault};
 
-/// A folder of the operating system, which is the working directory until one is entered.
+/// A folder of the operating system, which is the working directory until one is entered. The one that is entered is locked, so that
+/// no other process enters it.
 #[derive(Drop)]
 pub struct FileFolder<R: Files<File = File> + Alloc<A = Global> + Clone + Drop> {
     rt: R,
     path: String,
+    lock: Option<File>,
     faults: u64,
 }
 
@@ -24,6 +26,7 @@ impl<R: Files<File = File> + Alloc<A = Global> + Clone + Drop> FileFolder<R> {
         FileFolder {
             rt,
             path: String::new(alloc),
+            lock: None,
             faults: 0,
         }
     }
@@ -49,6 +52,53 @@ impl<R: Files<File = File> + Alloc<A = Global> + Clone + Drop> FileFolder<R> {
     }
 }
 
+// What the folder synced has in it stays there after a crash.
+fn sync_folder<R: Files<File = File>>(rt: &R, path: &str) -> io::Result<()> {
+    let path = if path.is_empty() { "." } else { path };
+    File::open(rt, path)?.sync_all()
+}
+
+// The folder in which the path's last name stands.
+fn parent(path: &str) -> &str {
+    match path.rsplit_once('/') {
+        Some(("", _)) => "/",
+        Some((parent, _)) => parent,
+        None => "",
+    }
+}
+
+// Makes the folder where it isn't there, in one that is, also after a crash.
+fn make_in_parent<R: Files<File = File>>(rt: &R, path: &str) -> io::Result<()> {
+    match create_dir(rt, path) {
+        Ok(()) => sync_folder(rt, parent(path)),
+        Err(error) => match metadata(rt, path) {
+            Ok(found) if found.is_dir() => Ok(()),
+            _ => Err(error),
+        },
+    }
+}
+
+// Makes the folder where it isn't there, and so each on the way.
+fn make_all<R: Files<File = File>>(rt: &R, path: &str) -> io::Result<()> {
+    for end in 1..=path.len() {
+        match path.split_at_checked(end) {
+            Some((front, rest)) if rest.is_empty() || rest.starts_with('/') => {
+                make_in_parent(rt, front)?;
+            }
+            _ => {}
+        }
+    }
+    Ok(())
+}
+
+// The folder, which is made where it isn't there, as nobody else has it who asks for its lock.
+fn locked<R: Files<File = File>>(rt: &R, path: &str) -> io::Result<File> {
+    make_all(rt, path)?;
+    let folder = File::open(rt, path)?;
+    folder.try_lock()?;
+    Ok(folder)
+}
+
 // Opens the file, and makes it where it isn't there.
 fn open<R: Files<File = File>>(rt: &R, path: &str) -> io::Result<File> {
     OpenOptions::new()
@@ -67,12 +117,11 @@ fn open_fresh<R: Files<File = File>>(rt: &R, folder: &str, path: &str) -> io::Re
         .truncate(true)
         .open(rt, path)?;
     file.sync_all()?;
-    let folder = if folder.is_empty() { "." } else { folder };
-    File::open(rt, folder)?.sync_all()?;
+    sync_folder(rt, folder)?;
     Ok(file)
 }
 
-// The names of the files.
+// The names of the files. One that isn't text is passed over.
 fn names_in<R: Files<File = File> + Alloc<A = Global> + Clone + Drop>(
     rt: &R,
     alloc: Global,
@@ -81,18 +130,24 @@ fn names_in<R: Files<File = File> + Alloc<A = Global> + Clone + Drop>(
     let mut names = Vec::new(alloc);
     let path = if path.is_empty() { "." } else { path };
     for entry in read_dir(rt, path)? {
-        let entry = entry?;
-        names.push(String::from_str(alloc, entry.file_name())?)?;
+        match entry {
+            Ok(entry) => names.push(String::from_str(alloc, entry.file_name())?)?,
+            Err(error) if error.kind() == io::ErrorKind::InvalidFilename => {}
+            Err(error) => return Err(error),
+        }
     }
     Ok(names)
 }
 
 impl<R: Files<File = File> + Alloc<A = Global> + Clone + Drop> Folder for FileFolder<R> {
     ghost use Rattle.std.specs.Prelude.{false, true, None};
+    ghost use Rattle.wave_outside.specs.Folders.{no_entries};
 
     type Disk = FileDisk;
 
     ghost tells = { false };
+
+    ghost log = { λ _. no_entries };
 
     ghost files = { λ _ _. None };
 
@@ -102,9 +157,10 @@ impl<R: Files<File = File> + Alloc<A = Global> + Clone + Drop> Folder for FileFo
 
     fn enter(&mut self, alloc: Global, path: &str) -> Result<(), FolderFault> {
         let text = String::from_str(alloc, path)?;
-        match create_dir_all(&self.rt, path) {
-            Ok(()) => {
+        match locked(&self.rt, path) {
+            Ok(lock) => {
                 self.path = text;
+                self.lock = Some(lock);
                 Ok(())
             }
             Err(error) => Err(self.fault(error)),
@@ -146,6 +202,7 @@ impl<R: Files<File = File> + Alloc<A = Global> + Clone + Drop> Folder for FileFo
         Ok(FileFolder {
             rt,
             path,
+            lock: None,
             faults: 0,
         })
     }

@@ -4,12 +4,16 @@
 --     made_last                one more file, which is empty
 --     named, found             each name has a file, and each file a name
 --     same_names               files of the same names
-use Rattle.std.proofs.Common.{◌≡◌, ◌≢◌, ◌==◌, ℕ, zero, suc, Bool, true, false, cond, List, [], ◌∷◌, ◌++◌, slice_get, Option, Some, None, IsSome, IfSome, is_some, string_bytes, refl, sym, ap, subst, ◌∙◌, true≢false}
+--     alike_at, fork_names     files that were forked
+--     fork_of, one_fork        a fork of a file; one more; all_forked, none is left
+use Rattle.std.proofs.Common.{◌≡◌, ◌≢◌, ◌==◌, ◌<◌, ◌≤◌, ◌+◌, inr, ℕ, zero, suc, Bool, true, false, cond, List, [], ◌∷◌, ◌++◌, slice_get, Option, Some, None, IsSome, IfSome, is_some, string_bytes, length, drop, get_or, refl, sym, ap, subst, ◌∙◌, true≢false}
 use Rattle.std.specs.Cmp.Lexicographic.{pointwise, bytes_decides}
+use Rattle.std.proofs.lemmas.List.{append_assoc, append-nil, drop_all, drop_more}
+use Rattle.disk_model.specs.Disk.{LeavesJust}
 use Rattle.disk_model.specs.Memory.{disk_view}
 use Rattle.disk_model.specs.declared.memory.MemoryDisk.{MemoryDisk}
-use Rattle.wave_outside.specs.Folders.{IsEmptyFile, IsHanded}
-use Rattle.wave_outside.specs.MemoryFolders.{file_in, file_names, has_file, IsMade}
+use Rattle.wave_outside.specs.Folders.{IsEmptyFile, IsHanded, IsAsBefore}
+use Rattle.wave_outside.specs.MemoryFolders.{file_in, file_names, has_file, IsMade, IsFork, AreForks}
 use Rattle.wave_outside.specs.declared.memory_folder.StoredFile.{StoredFile}
 
 abbrev test : List ℕ → List ℕ → Bool
@@ -95,3 +99,33 @@ by_name (f ∷ fs) n = go (test (string_bytes f.name) n) (by_name fs n)
 
 pub same_names : (fs gs : List StoredFile) (n : List ℕ) → file_names gs ≡ file_names fs → has_file gs n ≡ has_file fs n
 same_names fs gs n e = by_name gs n ∙ ap (λ z. is_named z n) e ∙ sym (by_name fs n)
+
+-- ---- files that were forked
+
+pub alike_at : (fs gs : List StoredFile) → AreForks fs gs → (m : List ℕ) → IsAsBefore disk_view (file_in fs m) (file_in gs m)
+alike_at [] [] forks m = tt
+alike_at [] (g ∷ gs) forks m = absurd forks
+alike_at (f ∷ fs) [] forks m = absurd forks
+alike_at (f ∷ fs) (g ∷ gs) forks m = subst (λ n. IsAsBefore disk_view (here f fs (test (string_bytes f.name) m) m) (here g gs (test n m) m)) (sym forks.0.named) (go (alike_at fs gs forks.1 m) (test (string_bytes f.name) m))
+  where
+    go : IsAsBefore disk_view (file_in fs m) (file_in gs m) → (t : Bool) → IsAsBefore disk_view (here f fs t m) (here g gs t m)
+    go rest true = forks.0.reads
+    go rest false = rest
+
+pub fork_names : (fs gs : List StoredFile) → AreForks fs gs → file_names gs ≡ file_names fs
+fork_names [] [] forks = refl
+fork_names [] (g ∷ gs) forks = absurd forks
+fork_names (f ∷ fs) [] forks = absurd forks
+fork_names (f ∷ fs) (g ∷ gs) forks = (λ i. forks.0.named i ∷ fork_names fs gs forks.1 i)
+
+pub fork_of : (f g : StoredFile) → string_bytes g.name ≡ string_bytes f.name → (disk_view g.disk).seen ≡ (disk_view f.disk).seen → LeavesJust (disk_view f.disk).seen (disk_view g.disk) → IsFork f g
+fork_of f g named seen synced = record { named = named; reads = record { seen = seen; images = λ c left. inr (synced c left) } }
+
+pub one_fork : (all files : List StoredFile) (i : ℕ) (f g : StoredFile) → i < length all → f ≡ get_or all i f → IsFork f g
+    → ((rest : List StoredFile) → AreForks (drop i all) rest → AreForks all (files ++ rest)) → (rest : List StoredFile) → AreForks (drop (i + 1) all) rest → AreForks all ((files ++ g ∷ []) ++ rest)
+one_fork all files i f g lt is fork before rest forks =
+    let split : drop i all ≡ f ∷ drop (i + 1) all = drop_more all i f lt ∙ ap (λ x. x ∷ drop (i + 1) all) (sym is) in
+    subst (AreForks all) (sym (append_assoc files (g ∷ []) rest)) (before (g ∷ rest) (subst (λ l. AreForks l (g ∷ rest)) (sym split) (fork, forks)))
+
+pub all_forked : (all files : List StoredFile) (i : ℕ) → length all ≤ i → ((rest : List StoredFile) → AreForks (drop i all) rest → AreForks all (files ++ rest)) → AreForks all files
+all_forked all files i end before = subst (AreForks all) (append-nil files) (before [] (subst (λ l. AreForks l []) (sym (drop_all i all end)) tt))

@@ -6,8 +6,15 @@
 --     IsElsewhere n f g     all names but one are as before
 --     IsSame f g            all names are
 --     AreNames f names      the names of all files
-use Rattle.std.specs.Prelude.{◌≡◌, ◌≢◌, ℕ, List, [], slice_get, Option, Some, None, IsSome, IfSome}
+--     ReadsAsBefore f g     a read gives the same, and a crash leaves no more than before, or what a read gives
+--     IsAsBefore view o p   a file that is there reads so, and no other is there
+--     FolderLog             the paths that were to be entered, with whether the files were used before each, and whether they were since
+--     entered r path l      the log after a call of `enter`; a path counts also where that failed
+--     used_log l            the log after any other call
+use Rattle.std.specs.Prelude.{◌≡◌, ◌≢◌, ◌⊎◌, ℕ, Bool, true, false, List, [], ◌∷◌, ◌++◌, slice_get, Option, Some, None, IsSome, IfSome, Result, Ok, Err}
 use Rattle.disk_model.specs.Disk.{DiskView, LeavesJust}
+use Rattle.wave_outside.specs.declared.folder.FolderFault.{FolderFault}
+use Rattle.wave_outside.specs.declared.folder.FolderFault.TheVariants.{Failed, Memory}
 
 pub record IsSameFile (f d : DiskView) : Type 0 where
   pub seen : d.seen ≡ f.seen
@@ -34,3 +41,43 @@ IsSame f g = (m : List ℕ) → g m ≡ f m
 pub record AreNames {D : Type 0} (files : List ℕ → Option D) (names : List (List ℕ)) : Type 0 where
   pub each : (i : ℕ) → IfSome (slice_get names i) (λ n. IsSome (files n))
   pub all : (n : List ℕ) → IsSome (files n) → (i : ℕ) × (slice_get names i ≡ Some n)
+
+-- ---- what stays
+
+pub record ReadsAsBefore (before now : DiskView) : Type 0 where
+  pub seen : now.seen ≡ before.seen
+  pub images : (c : List ℕ) → now.may_leave c → before.may_leave c ⊎ (c ≡ before.seen)
+
+abbrev pub IsAsBefore : {D : Type 0} → (D → DiskView) → Option D → Option D → Type 0
+IsAsBefore view None None = Unit {0}
+IsAsBefore view None (Some g) = ⊥
+IsAsBefore view (Some f) None = ⊥
+IsAsBefore view (Some f) (Some g) = ReadsAsBefore (view f) (view g)
+
+-- ---- paths
+
+-- a path that was to be entered, and whether files were listed, handed out or put back since the one before it
+pub record Entry : Type 0 where
+  pub path : List ℕ
+  pub after_use : Bool
+
+pub record FolderLog : Type 0 where
+  pub entries : List Entry
+  pub used : Bool
+
+abbrev pub no_entries : FolderLog
+no_entries = record { entries = []; used = false }
+
+abbrev pub entry_at : List ℕ → FolderLog → Entry
+entry_at path l = record { path = path; after_use = l.used }
+
+abbrev pub one_entered : List ℕ → FolderLog → FolderLog
+one_entered path l = record { entries = l.entries ++ entry_at path l ∷ []; used = false }
+
+abbrev pub entered : Result (Unit {0}) FolderFault → List ℕ → FolderLog → FolderLog
+entered (Ok done) path l = one_entered path l
+entered (Err Failed) path l = one_entered path l
+entered (Err Memory) path l = l
+
+abbrev pub used_log : FolderLog → FolderLog
+used_log l = record { entries = l.entries; used = true }

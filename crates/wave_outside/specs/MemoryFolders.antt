@@ -1,12 +1,14 @@
 -- What a folder in memory holds: `file_in`, the disk of a name, and `has_file`, whether it has one; `file_names`, all
--- names; `folder_files` and `folder_calls`, its parts; `IsMade`, that a file is there; `IsExchanged`, that another disk stands for a file.
+-- names; `folder_files`, `folder_calls` and `folder_log`, its parts; `IsMade`, that a file is there; `IsExchanged`, that another disk
+-- stands for a file; `AreForks`, files of the same names that read the same.
 use Rattle.std.specs.Prelude.{◌≡◌, ◌≢◌, ◌==◌, ℕ, Bool, cond, List, [], ◌∷◌, true, map, Option, Some, None, IsSome, IfSome, is_some, string_bytes}
 use Rattle.std.specs.Cmp.Lexicographic.{pointwise}
 use Rattle.disk_model.specs.declared.memory.MemoryDisk.{MemoryDisk}
 use Rattle.wave_outside.specs.declared.calls.Calls.{Calls}
+use Rattle.wave_outside.specs.declared.memory_folder.Entered.{Entered}
 use Rattle.wave_outside.specs.declared.memory_folder.StoredFile.{StoredFile}
 use Rattle.wave_outside.specs.declared.memory_folder.MemoryFolder.{MemoryFolder}
-use Rattle.wave_outside.specs.Folders.{IsHanded}
+use Rattle.wave_outside.specs.Folders.{IsHanded, ReadsAsBefore, Entry, FolderLog}
 use Rattle.disk_model.specs.Memory.{disk_view}
 
 abbrev pub file_in : List StoredFile → List ℕ → Option MemoryDisk
@@ -25,6 +27,15 @@ folder_files f = f.list.items
 abbrev pub folder_calls : MemoryFolder → Calls
 folder_calls f = f.calls
 
+abbrev pub entry_of : Entered → Entry
+entry_of e = record { path = string_bytes e.path; after_use = e.after_use }
+
+abbrev pub log_of : List Entered → Bool → FolderLog
+log_of es used = record { entries = map entry_of es; used = used }
+
+abbrev pub folder_log : MemoryFolder → FolderLog
+folder_log f = log_of f.entered.items f.used
+
 -- the file is there, as it was or empty
 pub record IsMade (n : List ℕ) (before after : List StoredFile) : Type 0 where
   pub there : IfSome (file_in after n) (λ d. IsHanded disk_view (file_in before n) (disk_view d))
@@ -36,3 +47,14 @@ pub record IsExchanged (n : List ℕ) (d : MemoryDisk) (before after : List Stor
   pub there : IsSome (file_in before n) → file_in after n ≡ Some d
   pub others : (m : List ℕ) → m ≢ n → file_in after m ≡ file_in before m
   pub names : (m : List ℕ) → has_file after m ≡ has_file before m
+
+-- a file of its own that has the same name and reads the same
+pub record IsFork (f g : StoredFile) : Type 0 where
+  pub named : string_bytes g.name ≡ string_bytes f.name
+  pub reads : ReadsAsBefore (disk_view f.disk) (disk_view g.disk)
+
+abbrev pub AreForks : List StoredFile → List StoredFile → Type 0
+AreForks [] [] = Unit {0}
+AreForks [] (g ∷ gs) = ⊥
+AreForks (f ∷ fs) [] = ⊥
+AreForks (f ∷ fs) (g ∷ gs) = IsFork f g × AreForks fs gs

@@ -26,7 +26,7 @@ pub use gate::{Gate, HoldingGate, OpenGate};
 pub use job::{InTurn, Job, Refused, RefusingSpawner, Spawner};
 pub use link::{Link, LinkEvent, LinkFault, Polled};
 pub use memory::{MemorySink, MemorySource};
-pub use memory_folder::{MemoryFolder, StoredFile};
+pub use memory_folder::{Entered, MemoryFolder, StoredFile};
 pub use memory_link::{Kept, MemoryLink};
 pub use memory_net::MemoryNet;
 pub use net::{Accepted, Net, NetFault};

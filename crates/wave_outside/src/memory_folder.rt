@@ -1,9 +1,9 @@
 // A folder in memory.
-ghost use Rattle.std.specs.Prelude.{◌≡◌, ◌≢◌, ◌++◌, ◌≤◌, ◌+◌, ◌-◌, ◌^◌, min, [], true, false, Some, None, IsSome, IfOk, IfErr, OnOk, OnErr, IfSome, option_copied, is_some, string_bytes, map};
+ghost use Rattle.std.specs.Prelude.{◌≡◌, ◌≢◌, ◌++◌, ◌∷◌, ◌≤◌, ◌+◌, ◌-◌, ◌^◌, min, [], true, false, Some, None, IsSome, IfOk, IfErr, OnOk, OnErr, IfSome, option_copied, is_some, string_bytes, map};
 ghost use Rattle.disk_model.specs.Memory.{disk_view};
 ghost use Rattle.wave_outside.specs.Counts.{Rose};
-ghost use Rattle.wave_outside.specs.Folders.{IsEmptyFile, IsSameFile, IsHanded, IsPutBack, IsElsewhere, IsSame, AreNames};
-ghost use Rattle.wave_outside.specs.MemoryFolders.{file_in, file_names, has_file, IsExchanged, IsMade};
+ghost use Rattle.wave_outside.specs.Folders.{IsEmptyFile, IsSameFile, IsHanded, IsPutBack, IsElsewhere, IsSame, AreNames, one_entered};
+ghost use Rattle.wave_outside.specs.MemoryFolders.{file_in, file_names, has_file, entry_of, IsExchanged, IsMade, AreForks};
 ghost use Rattle.wave_outside.specs.declared.folder.FolderFault.TheVariants.{Failed as HasFailed};
 
 use crate::calls::Calls;
@@ -27,10 +27,20 @@ impl Drop for StoredFile {
     }
 }
 
-/// A folder in memory.
+/// A path that a folder in memory was asked to enter.
+#[derive(Drop)]
+pub struct Entered {
+    pub path: String,
+    /// Whether files were listed, handed out or put back between the path before it and this one.
+    pub after_use: bool,
+}
+
+/// A folder in memory. Whatever path is entered, its files are the same.
 pub struct MemoryFolder {
     alloc: Global,
     list: Vec<StoredFile>,
+    entered: Vec<Entered>,
+    used: bool,
     calls: Calls,
 }
 
@@ -39,6 +49,8 @@ impl Drop for MemoryFolder {
         let MemoryFolder {
             alloc: _alloc,
             list: _list,
+            entered: _entered,
+            used: _used,
             calls: _calls,
         } = self;
     }
@@ -103,7 +115,7 @@ fn names_of(alloc: Global, list: &[StoredFile]) -> Result<Vec<String>, AllocErro
 
 // Files of their own that read the same.
 fn forked(alloc: Global, list: &[StoredFile]) -> Result<Vec<StoredFile>, AllocError>
-    ensures { IfOk result (λ v. file_names v.items ≡ file_names list.now) }
+    ensures { IfOk result (λ v. AreForks list.now v.items) }
 {
     let mut files = Vec::new(alloc);
     for file in list {
@@ -114,18 +126,37 @@ fn forked(alloc: Global, list: &[StoredFile]) -> Result<Vec<StoredFile>, AllocEr
     Ok(files)
 }
 
+// The same paths once more.
+fn copied(alloc: Global, all: &[Entered]) -> Result<Vec<Entered>, AllocError>
+    ensures { IfOk result (λ v. map entry_of v.items ≡ map entry_of all.now) }
+{
+    let mut copies = Vec::new(alloc);
+    for one in all {
+        let path = String::from_str(alloc, one.path.as_str())?;
+        copies.push(Entered {
+            path,
+            after_use: one.after_use,
+        })?;
+    }
+    Ok(copies)
+}
+
 impl MemoryFolder {
-    ghost use Rattle.wave_outside.specs.MemoryFolders.{folder_files, folder_calls};
+    ghost use Rattle.wave_outside.specs.Folders.{no_entries};
+    ghost use Rattle.wave_outside.specs.MemoryFolders.{folder_files, folder_calls, folder_log};
     ghost use Rattle.wave_outside.specs.Memory.{IsUncalled};
 
     /// The folder of these files; of two of one name the first counts. The calls whose numbers are in `failing` fail, counted from 0.
     pub fn new(alloc: Global, files: Vec<StoredFile>, failing: Vec<u64>) -> MemoryFolder
         ensures files { folder_files result ≡ files.items }
+        ensures log { folder_log result ≡ no_entries }
         ensures calls { IsUncalled (folder_calls result) failing.items }
     {
         MemoryFolder {
             alloc,
             list: files,
+            entered: Vec::new(alloc),
+            used: false,
             calls: Calls::new(failing),
         }
     }
@@ -137,8 +168,30 @@ impl MemoryFolder {
         self.list.as_slice()
     }
 
+    /// The paths that were to be entered, in order.
+    pub fn entered(&self) -> &[Entered]
+        ensures { map entry_of result.now ≡ (folder_log self.now).entries }
+    {
+        self.entered.as_slice()
+    }
+
+    // Keeps a path that is entered. Its files weren't used since.
+    fn keep(&mut self, alloc: Global, path: &str) -> Result<(), AllocError>
+        ensures kept { OnOk result (folder_log self.new ≡ one_entered path.now (folder_log self.old)) }
+        ensures unkept { OnErr result (folder_log self.new ≡ folder_log self.old) }
+        ensures files { folder_files self.new ≡ folder_files self.old }
+        ensures calls { folder_calls self.new ≡ folder_calls self.old }
+    {
+        let path = String::from_str(alloc, path)?;
+        let after_use = self.used;
+        self.entered.push(Entered { path, after_use })?;
+        self.used = false;
+        Ok(())
+    }
+
     // There is a file of the name, which is empty where there was none.
     fn make(&mut self, alloc: Global, name: &str) -> Result<(), FolderFault>
+        ensures log { folder_log self.new ≡ folder_log self.old }
         ensures made { OnOk result (IsMade name.now (folder_files self.old) (folder_files self.new)) }
         ensures kept { OnErr result (folder_files self.new ≡ folder_files self.old) }
         ensures calls { folder_calls self.new ≡ folder_calls self.old }
@@ -153,11 +206,13 @@ impl MemoryFolder {
 
 impl Folder for MemoryFolder {
     ghost use Rattle.std.specs.Prelude.{◌≡◌, true};
-    ghost use Rattle.wave_outside.specs.MemoryFolders.{file_in, has_file, folder_files, folder_calls};
+    ghost use Rattle.wave_outside.specs.MemoryFolders.{file_in, has_file, folder_files, folder_calls, folder_log};
 
     type Disk = MemoryDisk;
 
     ghost tells = { true };
+
+    ghost log = { λ f. folder_log f };
 
     ghost files = { λ f n. file_in (folder_files f) n };
 
@@ -165,17 +220,21 @@ impl Folder for MemoryFolder {
 
     ghost faults = { λ f. (folder_calls f).faults.count };
 
-    fn enter(&mut self, _alloc: Global, _path: &str) -> Result<(), FolderFault> {
-        self.calls.make()?;
+    fn enter(&mut self, alloc: Global, path: &str) -> Result<(), FolderFault> {
+        let made = self.calls.make();
+        self.keep(alloc, path)?;
+        made?;
         Ok(())
     }
 
     fn names(&mut self, alloc: Global) -> Result<Vec<String>, FolderFault> {
+        self.used = true;
         self.calls.make()?;
         Ok(names_of(alloc, self.list.as_slice())?)
     }
 
     fn file(&mut self, alloc: Global, name: &str) -> Result<MemoryDisk, FolderFault> {
+        self.used = true;
         self.calls.make()?;
         self.make(alloc, name)?;
         let empty = empty(self.alloc);
@@ -186,12 +245,14 @@ impl Folder for MemoryFolder {
     }
 
     fn fresh(&mut self, alloc: Global, name: &str) -> Result<MemoryDisk, FolderFault> {
+        self.used = true;
         self.calls.make()?;
         self.make(alloc, name)?;
         Ok(empty(self.alloc))
     }
 
     fn put(&mut self, name: &str, disk: MemoryDisk) {
+        self.used = true;
         let mut disk = disk;
         let faults = disk.take_faults();
         let _before = exchange(self.list.as_mut_slice(), name, disk);
@@ -200,9 +261,16 @@ impl Folder for MemoryFolder {
 
     fn another(&self, alloc: Global) -> Result<MemoryFolder, FolderFault> {
         let list = forked(alloc, self.list.as_slice())?;
+        let entered = copied(alloc, self.entered.as_slice())?;
         let mut failing = Vec::new(alloc);
         failing.extend_from_slice(self.calls.failing.as_slice())?;
-        Ok(MemoryFolder::new(alloc, list, failing))
+        Ok(MemoryFolder {
+            alloc,
+            list,
+            entered,
+            used: self.used,
+            calls: Calls::new(failing),
+        })
     }
 }
 

@@ -1,5 +1,5 @@
 -- A load that the words name has a number that is not above the limit.
-use Rattle.std.proofs.Common.{◌≡◌, ℕ, ◌+◌, ◌-◌, ◌*◌, ◌≤◌, ◌==◌, ◌&&◌, Bool, true, false, cond, nat_le, List, [], ◌∷◌, Option, Some, None, refl, subst, arith, option_and_then, option_map, codes}
+use Rattle.std.proofs.Common.{◌≡◌, ℕ, ◌+◌, ◌-◌, ◌*◌, ◌≤◌, ◌==◌, ◌&&◌, Bool, true, false, cond, nat_le, List, [], ◌∷◌, Option, Some, None, refl, sym, ◌∙◌, subst, arith, option_and_then, option_map, codes}
 use Rattle.std.proofs.lemmas.Bool.Decides.{nat_tests}
 use Rattle.std.specs.Cmp.Lexicographic.{pointwise}
 use Rattle.clap.specs.Words.{Text, first_of, subcommand_of}
@@ -62,3 +62,10 @@ command_capped words = either None (accepted words) (is_cut words) tt (either (o
 
 pub load_bound : (words : List Text) (n : ℕ) → command_of words ≡ Some (Load n) → n ≤ 100000
 load_bound words n e = subst (λ (x : Option CommandOf). IsCapped x) e (command_capped words)
+
+-- what the words name is one folder
+pub same_path : (o : Option CommandOf) (p q : List ℕ) → o ≡ Some (Pipe (Some p)) → o ≡ Some (Pipe (Some q)) → p ≡ q
+same_path o p q one other = go (sym one ∙ other)
+  where
+    go : Some (Pipe (Some p)) ≡ Some (Pipe (Some q)) → p ≡ q
+    go e = cc

@@ -1,30 +1,17 @@
--- What a pipe answers, and what it does to its shelf.
-use Rattle.std.proofs.Common.{◌≡◌, ℕ, ◌⊎◌, inl, inr, List, [], ◌∷◌, ◌++◌, Result, Ok, Err, Option, Some, None, IsSome, ◌↔◌, true, false, refl, sym, ap, ◌∙◌, arith, append_assoc}
+-- What a run over lines ends with, and what it does to its shelf.
+use Rattle.std.proofs.Common.{◌≡◌, ℕ, ◌⊎◌, inl, inr, List, ◌++◌, Result, Ok, Err, Option, Some, None, IsSome, ◌↔◌, true, false, refl, sym, ◌∙◌, arith, append_assoc}
 use Rattle.std.specs.Prelude.{⊤, IsErrOf}
 use Rattle.wave_outside.specs.Counts.{Rose}
 use Rattle.line_run.specs.Lines.{IsPrefix}
 use Rattle.line_run.specs.Run.{status_of}
-use Rattle.line_run.specs.Turns.{Turn}
 use Rattle.line_run.specs.declared.run.Stop.{Stop}
 use Rattle.line_run.specs.declared.run.Stop.TheVariants.{Source, Sink, Store, Memory, Limit}
-use Rattle.pipe_machine.specs.Lines.{Sent, lines_of, line_of}
 use Rattle.pipe_machine.specs.Pipes.{faults_where}
-use Rattle.pipe_machine.specs.Machine.{Pipe, turn, sent, after}
 use Rattle.wave_program.specs.Run.{IsServing}
 
-sent_more : (p : Pipe) (ts us : List Turn) → sent p (ts ++ us) ≡ sent p ts ++ sent (after p ts) us
-sent_more p [] us = refl
-sent_more p (t ∷ ts) us =
-    let a = turn p t.time t.line in
-    ap (λ ss. a.sent ++ ss) (sent_more a.pipe ts us) ∙ sym (append_assoc a.sent (sent a.pipe ts) (sent (after a.pipe ts) us))
-
-lines_more : (xs ys : List Sent) → lines_of (xs ++ ys) ≡ lines_of xs ++ lines_of ys
-lines_more [] ys = refl
-lines_more (x ∷ xs) ys = ap (λ bytes. line_of x ++ bytes) (lines_more xs ys) ∙ sym (append_assoc (line_of x) (lines_of xs) (lines_of ys))
-
--- the answers to more turns begin with those to the first
-pub answers_front : (p : Pipe) (ts us : List Turn) → IsPrefix (lines_of (sent p ts)) (lines_of (sent p (ts ++ us)))
-answers_front p ts us = (lines_of (sent (after p ts) us), sym (ap lines_of (sent_more p ts us) ∙ lines_more (sent p ts) (sent (after p ts) us)))
+-- what begins with some lines and others begins with some
+pub front_of : {A : Type 0} (xs ys : List A) {zs : List A} → IsPrefix (xs ++ ys) zs → IsPrefix xs zs
+front_of xs ys {zs} p = (ys ++ p.0, sym (append_assoc xs ys p.0) ∙ p.1)
 
 -- ---- statuses
 

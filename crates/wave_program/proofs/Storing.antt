@@ -1,11 +1,11 @@
 -- What a run over a folder leaves there.
-use Rattle.std.proofs.Common.{◌≡◌, ◌≢◌, ◌⊎◌, inl, inr, ℕ, ◌+◌, ◌-◌, ◌^◌, min, ◌≤◌, List, [], ◌∷◌, ◌++◌, Bool, true, false, Option, Some, None, is_some, IsSome, IfSome, IsTrue, refl, sym, ap, subst, ◌∙◌, arith, append_assoc, append-nil}
+use Rattle.std.proofs.Common.{◌≡◌, ◌≢◌, ◌⊎◌, inl, inr, ℕ, ◌+◌, ◌-◌, ◌^◌, min, List, [], ◌∷◌, ◌++◌, Bool, true, false, Option, Some, None, is_some, IsSome, IfSome, IsTrue, refl, sym, ap, subst, ◌∙◌, arith, append_assoc, append-nil, true≢false}
 use Rattle.std.specs.List.{All, AllByRecursion}
 use Rattle.std.specs.Map.{lookup}
 use Rattle.std.specs.Option.{option_map, option_map_or}
 use Rattle.doc_items.specs.Maps.{Key, same_text}
 use Rattle.wavelet_op.specs.Deltas.{DeltaOf}
-use Rattle.wavelet_codec.specs.Spelling.{delta_bytes, IsDelta}
+use Rattle.wavelet_codec.specs.Spelling.{IsDelta}
 use Rattle.delta_history.specs.Histories.{HistoryOf}
 use Rattle.delta_history.specs.Legal.{IsLegal}
 use Rattle.delta_history.proofs.Chains.{goes_on}
@@ -16,31 +16,34 @@ use Rattle.delta_journal.specs.Journal.{on_disk, left_over}
 use Rattle.delta_journal.specs.declared.journal.Journal.{Journal}
 use Rattle.delta_journal.proofs.Stages.{journal_stands}
 use Rattle.wave_outside.specs.Counts.{Rose}
-use Rattle.wave_outside.specs.Folders.{IsPutBack}
+use Rattle.wave_outside.specs.Folders.{Entry, IsPutBack, IsAsBefore}
 use Rattle.wave_outside.specs.declared.clock.Clock as clock_of
 use Rattle.wave_outside.specs.declared.folder.Folder as folder_of
-use Rattle.wavelet_container.specs.Containers.{history_of, journal_of, IsHeld}
+use Rattle.wavelet_container.specs.Containers.{history_of, IsHeld}
 use Rattle.wavelet_container.specs.Records.{records_of, StandsForHistory}
 use Rattle.wavelet_container.specs.Stores.{IsPending, IsStored}
 use Rattle.wavelet_container.specs.declared.container.Container.{Container}
 use Rattle.wavelet_container.proofs.Journals.{records_more, spelled_more}
 use Rattle.line_run.specs.Turns.{Turn}
-use Rattle.wavelet_shelf.specs.Entries.{found, hosting, histories, faults_in, AreInOrder, AreHeld}
+use Rattle.wavelet_shelf.specs.Entries.{found, hosting, histories, faults_in, AreInOrder}
 use Rattle.wavelet_shelf.specs.FileNames.{file_name_of}
-use Rattle.wavelet_shelf.specs.Hosting.{Hosted, deltas_in, names_of}
-use Rattle.wavelet_shelf.specs.Loads.{IsReadFrom, IsRefusedFile, IsStoredFile}
-use Rattle.wavelet_shelf.specs.Shelves.{in_folder, entries_of, container_in, hosted_of, folder_faults, fault_count, IsKept, IsSettled, AreApart}
+use Rattle.wavelet_shelf.specs.Hosting.{Hosted, deltas_in}
+use Rattle.wavelet_shelf.specs.Folders.{IsStill, IsStillIn, IsUsedIn}
+use Rattle.wavelet_shelf.specs.Loads.{IsReadFrom, IsRefusedFile, IsSound}
+use Rattle.wavelet_shelf.specs.Shelves.{in_folder, entries_of, container_in, hosted_of, folder_faults, fault_count, IsKept, IsSettled, AreApart, HasFile}
 use Rattle.wavelet_shelf.specs.declared.filed.Filed.{Filed}
 use Rattle.wavelet_shelf.specs.declared.shelf.Shelf.{Shelf}
 use Rattle.wavelet_shelf.proofs.Growing.{shown_ascend}
+use Rattle.wavelet_shelf.proofs.Loading.{as_it_is}
 use Rattle.wavelet_shelf.proofs.Placing.{hist_ascends, deltas_hosting, all_found}
 use Rattle.wavelet_shelf.proofs.Sharing.{found_named}
 use Rattle.wavelet_shelf.proofs.Shelving.{deltas_of}
+use Rattle.wavelet_shelf.proofs.Still.{still_in_on, still_on, used_still}
 use Rattle.pipe_machine.specs.Held as Held
-use Rattle.pipe_machine.specs.Keeping.{Begins, submitted_in, IsMoved}
+use Rattle.pipe_machine.specs.Keeping.{Begins, submitted_in, IsFileAmong, IsMoved}
 use Rattle.pipe_machine.specs.Machine.{start, sent}
-use Rattle.wave_program.specs.Pipe.{hosted_after, IsOver}
-use Rattle.wave_program.specs.Store.{GoesOn, StandsFrom, IsFileOf, IsStoredFrom, AreStored, AreStoredFrom, AreApartIn, IsLoaded, IsClosed, IsShelfRun, IsShelfUnloaded, IsStoredRun, IsUnloaded}
+use Rattle.wave_program.specs.Pipe.{hosted_after}
+use Rattle.wave_program.specs.Store.{GoesOn, IsFileOf, IsStoredFrom, AreStored, AreStoredFrom, AreApartIn, IsLoaded, IsClosed, IsShelfRun, IsShelfUnloaded, IsStoredRun, IsUnloaded}
 
 pub damage_told : (o : Option (List ℕ × ℕ)) (P Q : List ℕ → ℕ → Type 0) → IsSome o → IfSome o (λ d. P d.0 d.1) → IfSome o (λ d. Q d.0 d.1) → (file : List ℕ) × (offset : ℕ) × P file offset × Q file offset
 damage_told None P Q e p q = absurd (cc)
@@ -141,6 +144,22 @@ module _ {F D K : Type 0} (folder : folder_of.Ghosts F D) (disk : disk_of.Ghosts
   apart_at_end : (m b : Shelf F D folder disk) (ts : List Turn) → IsMoved (submitted_in ts) m b → AreApartIn (λ n. (is_some (container_in m n) ≡ true) ⊎ (submitted_in ts n ≡ true)) → AreApart b
   apart_at_end m b ts moved apart n k p q e = apart n k (from_either m b ts moved n p) (from_either m b ts moved k q) e
 
+  -- the files of other names, from the folder f from which the shelf m was loaded to the folder g into which b was closed
+  others_at_end : (m b : Shelf F D folder disk) (f g : F) (ts : List Turn) → IsTrue folder.tells → IsSome (in_folder m) → IsMoved (submitted_in ts) m b
+      → IfSome (in_folder m) (λ h. (l : List ℕ) → ((n : Key) → IsSome (container_in m n) → l ≢ file_name_of n) → IsAsBefore disk.view (folder.files f l) (folder.files h l))
+      → IfSome (in_folder b) (λ k. (l : List ℕ) → (HasFile b l → ⊥) → folder.files g l ≡ folder.files k l)
+      → (l : List ℕ) → ((n : Key) → (is_some (container_in m n) ≡ true) ⊎ (submitted_in ts n ≡ true) → l ≢ file_name_of n) → IsAsBefore disk.view (folder.files f l) (folder.files g l)
+  others_at_end m b f g ts tells some moved before after l none = go (in_folder m) (in_folder b) some before after moved.used
+    where
+      go : (o p : Option F) → IsSome o → IfSome o (λ h. (l : List ℕ) → ((n : Key) → IsSome (container_in m n) → l ≢ file_name_of n) → IsAsBefore disk.view (folder.files f l) (folder.files h l))
+          → IfSome p (λ k. (l : List ℕ) → (HasFile b l → ⊥) → folder.files g l ≡ folder.files k l) → IsUsedIn folder (IsFileAmong (submitted_in ts)) o p → IsAsBefore disk.view (folder.files f l) (folder.files g l)
+      go None p there one two used = absurd (true≢false (sym there))
+      go (Some h) None there one two used = absurd used
+      go (Some h) (Some k) there one two used = subst (IsAsBefore disk.view (folder.files f l)) (sym (
+        two l (λ file. none file.0 (from_either m b ts moved file.0 file.1) (sym file.2))
+        ∙ used.others tells l (λ file. none file.0 (inr file.1) file.2)
+      )) (one l (λ n some. none n (inl some)))
+
   -- the histories that there were when the machine ended, in the files
   stored_from : (b : Shelf F D folder disk) (g : F) (hs : List Hosted) → IsTrue disk.tells → IsKept b → AreApart b → IsClosed b g → ((n : Key) → Begins (deltas_in hs n) (deltas_in (hosted_of b) n))
       → AreStoredFrom disk.view (folder.files g) hs
@@ -176,10 +195,18 @@ module _ {F D K : Type 0} (folder : folder_of.Ghosts F D) (disk : disk_of.Ghosts
       let x = has_container (entries_of m) n m.containers.in_order some in
       ap is_some (found_is (entries_of m) n x.filed x.is)
 
+  -- from the first shelf to the folder into which the disks of the last were put back
+  still_closed : (a b : Shelf F D folder disk) (f g : F) → in_folder a ≡ Some f → IsStillIn folder (in_folder a) (in_folder b) → IfSome (in_folder b) (λ h. IsStill folder h g) → IsStill folder f g
+  still_closed a b f g is still closed = go (in_folder b) (subst (λ o. IsStillIn folder o (in_folder b)) is still) closed
+    where
+      go : (o : Option F) → IsStillIn folder (Some f) o → IfSome o (λ h. IsStill folder h g) → IsStill folder f g
+      go None one two = absurd one
+      go (Some h) one two = still_on folder f h g one two
+
   pub stored_run : (a b : Shelf F D folder disk) (f g : F) (was : K) (left0 left1 held0 held1 : Option (List ℕ)) (status : ℕ)
-      → IsTrue disk.tells → in_folder a ≡ Some f → ((m : Shelf F D folder disk) (ts : List Turn) → All (λ s. Held.IsHeld (hosted_after (hosted_of m) ts) s.message) (sent (start (hosted_of m)) ts))
-      → IsShelfRun clock a b was left0 left1 held0 held1 status → IsClosed b g → IsStoredRun folder disk clock f g was left0 left1 held0 held1 status
-  stored_run a b f g was left0 left1 held0 held1 status tells is held r closed =
+      → IsTrue folder.tells → IsTrue disk.tells → in_folder a ≡ Some f → ((m : Shelf F D folder disk) (ts : List Turn) → All (λ s. Held.IsHeld (hosted_after (hosted_of m) ts) s.message) (sent (start (hosted_of m)) ts))
+      → IsShelfRun clock a b was left0 left1 held0 held1 status → IsClosed b g → IsStoredRun folder disk clock (folder.log f).entries f g was left0 left1 held0 held1 status
+  stored_run a b f g was left0 left1 held0 held1 status folder_tells tells is held r closed =
       let m = r.shelf in
       let o = r.over in
       let kept = r.loaded.kept tells in
@@ -189,22 +216,18 @@ module _ {F D K : Type 0} (folder : folder_of.Ghosts F D) (disk : disk_of.Ghosts
         stand = stand_for a m f tells is r.loaded;
         are_loaded = are_loaded m;
         all = if_some_at _ _ f is (r.loaded.all tells);
+        sound = if_some_at _ _ f is (r.loaded.sound tells);
         apart = λ n k p q e. r.loaded.apart n k p q e;
+        entered = still_closed a b f g is (still_in_on folder (in_folder a) (in_folder m) (in_folder b) r.loaded.still (used_still folder (IsFileAmong (submitted_in (o.run.turns ++ o.tried))) (in_folder m) (in_folder b) o.moved.used)) closed.still folder_tells;
         known = o.known;
-        told = r.told;
-        read = o.read;
-        written = o.written;
-        consumed = o.consumed;
-        appended = o.appended;
-        turns = o.turns;
+        run = o.run;
         tried = o.tried;
-        timed = o.timed;
         lines = o.lines;
-        answers = o.answers;
-        held = held m o.turns;
-        stored = λ apart. stored_from b g (hosted_after (hosted_of m) o.turns) tells (o.moved.kept kept.0) (apart_at_end m b (o.turns ++ o.tried) o.moved apart) closed o.grown;
-        done = λ zero apart.
-            stored_whole b g (hosted_after (hosted_of m) o.turns) (o.moved.kept kept.0) ((o.done zero).1 kept.0 kept.1) (apart_at_end m b (o.turns ++ o.tried) o.moved apart) closed (o.done zero).0;
+        held = held m o.run.turns;
+        stored = λ apart. stored_from b g (hosted_after (hosted_of m) o.run.turns) tells (o.moved.kept kept.0) (apart_at_end m b (o.run.turns ++ o.tried) o.moved apart) closed o.grown;
+        whole = λ s apart.
+            stored_whole b g (hosted_after (hosted_of m) o.run.turns) (o.moved.kept kept.0) ((o.whole s).1 kept.0 kept.1) (apart_at_end m b (o.run.turns ++ o.tried) o.moved apart) closed (o.whole s).0;
+        others = λ l none. others_at_end m b f g (o.run.turns ++ o.tried) folder_tells kept.0.filed o.moved (if_some_at _ _ f is (r.loaded.as_before tells)) (closed.others tells) l none;
       }
 
   -- whatever was sent is so of the histories
@@ -212,13 +235,38 @@ module _ {F D K : Type 0} (folder : folder_of.Ghosts F D) (disk : disk_of.Ghosts
   all_held law m ts = law.all_held (start (hosted_of m)) ts (shown_ascend (histories (entries_of m)) (hist_ascends deltas_of (entries_of m) m.containers.in_order.0))
 
   -- a run that ended before its first line
-  pub unloaded_run : (a : Shelf F D folder disk) (f : F) (held0 held1 : Option (List ℕ)) (before now status : ℕ) → in_folder a ≡ Some f → IsShelfUnloaded a held0 held1 before now status
-      → IsUnloaded folder disk f held0 held1 before now status
-  unloaded_run a f held0 held1 before now status is u = record {
+  pub unloaded_run : (a b : Shelf F D folder disk) (f g : F) (held0 held1 : Option (List ℕ)) (before now status : ℕ) → IsTrue folder.tells → IsTrue disk.tells → in_folder a ≡ Some f → IsShelfUnloaded a b held0 held1 before now status → IsClosed b g
+      → IsUnloaded folder disk (folder.log f).entries f g held0 held1 before now status
+  unloaded_run a b f g held0 held1 before now status folder_tells tells is u closed = record {
     known = u.known;
     silent = u.silent;
-    damaged = λ six. let d = u.damaged six in (d.0, d.1, d.2, λ folder_tells tells. if_some_at _ _ f is (d.3 tells));
+    damaged = λ six. let d = u.damaged six in (d.0, d.1, d.2, if_some_at _ _ f is (d.3 tells));
+    as_before = go (in_folder b) (if_some_at _ _ f is (u.as_before tells)) (closed.others tells) (subst (λ o. IsStillIn folder o (in_folder b)) is u.still);
+    entered = inl (still_closed a b f g is u.still closed.still folder_tells);
   }
+    where
+      no_container : (n : Key) → IsSome (container_in b n) → ⊥
+      no_container n some = true≢false (sym some ∙ ap (λ (es : List (Key × Filed D disk)). is_some (found es n)) u.none)
+
+      go : (o : Option F) → IfSome o (λ h. (m : List ℕ) → ((n : Key) → IsSome (container_in b n) → m ≢ file_name_of n) → IsAsBefore disk.view (folder.files f m) (folder.files h m))
+          → IfSome o (λ h. (m : List ℕ) → (HasFile b m → ⊥) → folder.files g m ≡ folder.files h m) → IsStillIn folder (Some f) o → (m : List ℕ) → IsAsBefore disk.view (folder.files f m) (folder.files g m)
+      go None one two still m = absurd still
+      go (Some h) one two still m = subst (IsAsBefore disk.view (folder.files f m)) (sym (two m (λ file. no_container file.0 file.1))) (one m (λ n some. absurd (no_container n some)))
+
+  -- no file was used
+  pub never_read : (entries : List Entry) (f g : F) (held : Option (List ℕ)) (before now status : ℕ) → (status ≡ 5) ⊎ (status ≡ 8) → ((m : List ℕ) → folder.files g m ≡ folder.files f m)
+      → ((folder.log g).entries ≡ entries) ⊎ ((status ≡ 8) × ((folder.log g).entries ≡ (folder.log f).entries)) → IsUnloaded folder disk entries f g held held before now status
+  never_read entries f g held before now status known same entered = record {
+    known = elim known [ inl e ↦ inl e | inr e ↦ inr (inr e) ];
+    silent = λ s. refl;
+    damaged = λ six. absurd (not_six known six);
+    as_before = λ m. subst (IsAsBefore disk.view (folder.files f m)) (sym (same m)) (as_it_is disk.view (folder.files f m));
+    entered = entered;
+  }
+    where
+      not_six : (status ≡ 5) ⊎ (status ≡ 8) → status ≡ 6 → ⊥
+      not_six (inl e) six = omega (arith, e, six)
+      not_six (inr e) six = omega (arith, e, six)
 
   -- faults of the folder, where those of its shelf rose
   pub folder_rose : (a b : Shelf F D folder disk) (f g : F) → in_folder a ≡ Some f → entries_of a ≡ [] → IsClosed b g → Rose (fault_count a) (fault_count b) → Rose (folder.faults f) (folder.faults g)
@@ -228,9 +276,9 @@ module _ {F D K : Type 0} (folder : folder_of.Ghosts F D) (disk : disk_of.Ghosts
       omega (arith, count, closed.counted, rose)
 
   -- over files that read the same
-  pub same_run : (f e g : F) (was : K) (left0 left1 held0 held1 : Option (List ℕ)) (status : ℕ) → ((m : List ℕ) → folder.files e m ≡ folder.files f m) → IsStoredRun folder disk clock e g was left0 left1 held0 held1 status
-      → IsStoredRun folder disk clock f g was left0 left1 held0 held1 status
-  same_run f e g was left0 left1 held0 held1 status same r = record {
+  pub same_run : (entries : List Entry) (f e g : F) (was : K) (left0 left1 held0 held1 : Option (List ℕ)) (status : ℕ) → ((m : List ℕ) → folder.files e m ≡ folder.files f m) → (folder.log e).entries ≡ entries
+      → IsStoredRun folder disk clock (folder.log e).entries e g was left0 left1 held0 held1 status → IsStoredRun folder disk clock entries f g was left0 left1 held0 held1 status
+  same_run entries f e g was left0 left1 held0 held1 status same entered r = record {
     hosted = r.hosted;
     loaded = r.loaded;
     stand = λ n is. subst (λ (o : Option D). IsFileOf disk.view o n (deltas_in r.hosted n)) (same (file_name_of n)) (r.stand n is);
@@ -238,27 +286,29 @@ module _ {F D K : Type 0} (folder : folder_of.Ghosts F D) (disk : disk_of.Ghosts
     all = record {
       each = λ n ds name some. subst (λ (o : Option D). IfSome o (λ d. StandsForHistory n ds (disk.view d).seen → deltas_in r.hosted n ≡ ds)) (same (file_name_of n)) (r.all.each n ds name some);
     };
+    sound = λ m. subst (λ (o : Option D). IsSound disk.view o m) (same m) (r.sound m);
     apart = r.apart;
+    entered = r.entered ∙ entered;
     known = r.known;
-    told = r.told;
-    read = r.read;
-    written = r.written;
-    consumed = r.consumed;
-    appended = r.appended;
-    turns = r.turns;
+    run = r.run;
     tried = r.tried;
-    timed = r.timed;
     lines = r.lines;
-    answers = r.answers;
     held = r.held;
     stored = r.stored;
-    done = r.done;
+    whole = r.whole;
+    others = λ m none. subst (λ (o : Option D). IsAsBefore disk.view o (folder.files g m)) (same m) (r.others m none);
   }
 
-  pub same_unloaded : (f e : F) (held0 held1 : Option (List ℕ)) (before now status : ℕ) → ((m : List ℕ) → folder.files e m ≡ folder.files f m) → IsUnloaded folder disk e held0 held1 before now status
-      → IsUnloaded folder disk f held0 held1 before now status
-  same_unloaded f e held0 held1 before now status same u = record {
+  pub same_unloaded : (entries : List Entry) (f e g : F) (held0 held1 : Option (List ℕ)) (before now status : ℕ) → ((m : List ℕ) → folder.files e m ≡ folder.files f m) → (folder.log e).entries ≡ entries → IsUnloaded folder disk (folder.log e).entries e g held0 held1 before now status
+      → IsUnloaded folder disk entries f g held0 held1 before now status
+  same_unloaded entries f e g held0 held1 before now status same entered u = record {
     known = u.known;
     silent = u.silent;
-    damaged = λ six. let d = u.damaged six in (d.0, d.1, d.2, λ folder_tells tells. subst (λ (o : Option D). IsRefusedFile disk.view o d.0 d.1) (same d.0) (d.3 folder_tells tells));
+    damaged = λ six. let d = u.damaged six in (d.0, d.1, d.2, record {
+      named = d.3.named;
+      refused = subst (λ (o : Option D). IsRefusedFile disk.view o d.0 d.1) (same d.0) d.3.refused;
+      first = λ m less. subst (λ (o : Option D). IsSound disk.view o m) (same m) (d.3.first m less);
+    });
+    as_before = λ m. subst (λ (o : Option D). IsAsBefore disk.view o (folder.files g m)) (same m) (u.as_before m);
+    entered = elim u.entered [ inl e ↦ inl (e ∙ entered) | inr e ↦ inl (e.1 ∙ entered) ];
   }

@@ -5,38 +5,40 @@
 --     AreStored files hs        the file of each name that has a delta stands for its history, as it reads and in each image
 --     AreStoredFrom files hs    so it does for a history that begins with that
 --     AreApartIn P              no two names with P have one file
+--     IsBeforeIn a b            the files of no container read as before, and a crash leaves no more of them, or what they read
 --     IsLoaded a m              the shelf m is a with its files loaded
 --     IsClosed a g              the disks of the shelf a were put back into the folder g
 --     IsShelfUnloaded, IsShelfRun   what follows, over shelves
---     IsStoredRun               a run over the files of a folder
---     IsUnloaded                a run that ended before its first line
+--     entered_at folder path f  the paths that the folder f was to enter, and this one behind them
+--     IsStoredRun               a run over the files of a folder, by whose end these paths were entered
+--     IsUnloaded                one that ended before its first line
 use Rattle.std.specs.Prelude.{◌≡◌, ◌≢◌, ◌⊎◌, ◌≤◌, ◌-◌, ◌^◌, min, ℕ, List, [], ◌++◌, Option, Some, None, Bool, true, IsTrue, IsSome, IfSome}
 use Rattle.std.specs.List.{All}
-use Rattle.std.specs.Io.KnownBytes.{Appends, Consumes}
 use Rattle.doc_items.specs.Maps.{Key}
 use Rattle.wavelet_op.specs.Deltas.{DeltaOf}
 use Rattle.disk_model.specs.Disk.{DiskView}
 use Rattle.disk_model.specs.declared.disk.Disk as disk_of
 use Rattle.wave_outside.specs.declared.clock.Clock as clock_of
 use Rattle.wave_outside.specs.declared.folder.Folder as folder_of
-use Rattle.wave_outside.specs.Folders.{IsPutBack}
+use Rattle.wave_outside.specs.Folders.{Entry, IsPutBack, IsAsBefore, one_entered}
 use Rattle.delta_journal.specs.Journal.{on_disk}
 use Rattle.wavelet_container.specs.Containers.{history_of, journal_of}
 use Rattle.wavelet_container.specs.Records.{StandsForHistory}
 use Rattle.line_run.specs.Lines.{turned, IsPrefix}
 use Rattle.line_run.specs.Output.{IsWritten}
-use Rattle.line_run.specs.Told.{WhereTold, IsTold}
-use Rattle.line_run.specs.Turns.{Turn, lines_in, timed}
+use Rattle.line_run.specs.Told.{IsRun}
+use Rattle.line_run.specs.Turns.{Turn, lines_in}
 use Rattle.wavelet_shelf.specs.FileNames.{file_name_of}
+use Rattle.wavelet_shelf.specs.Folders.{IsStill, IsStillIn}
 use Rattle.wavelet_shelf.specs.Hosting.{Hosted, deltas_in}
-use Rattle.wavelet_shelf.specs.Loads.{IsReadFrom, IsRefusedFile, IsStoredFile, HasAll}
-use Rattle.wavelet_shelf.specs.Shelves.{in_folder, entries_of, container_in, hosted_of, fault_count, IsKept, IsSettled, AreApart}
+use Rattle.wavelet_shelf.specs.Loads.{IsReadFrom, IsStoredFile, IsSound, IsFirstRefused, HasAll}
+use Rattle.wavelet_shelf.specs.Shelves.{in_folder, entries_of, container_in, hosted_of, fault_count, IsKept, IsSettled, AreApart, HasFile}
 use Rattle.wavelet_shelf.specs.declared.shelf.Shelf.{Shelf}
 use Rattle.pipe_machine.specs.Held.{IsHeld}
 use Rattle.pipe_machine.specs.Keeping.{Begins, submitted_in}
 use Rattle.pipe_machine.specs.Machine.{start, sent}
 use Rattle.wave_program.specs.Damage.{damage_line}
-use Rattle.wave_program.specs.Run.{IsServing}
+use Rattle.wave_program.specs.Run.{IsServing, IsWhole}
 use Rattle.wave_program.specs.Pipe.{answers_over, hosted_after, IsOver}
 
 -- ---- files
@@ -69,66 +71,78 @@ AreApartIn P = (n m : Key) → P n → P m → file_name_of n ≡ file_name_of m
 -- ---- shelves
 
 module _ {F D : Type 0} {folder : folder_of.Ghosts F D} {disk : disk_of.Ghosts D} where
+  -- the files of the folder that are no container's
+  abbrev pub IsBeforeIn : Shelf F D folder disk → Shelf F D folder disk → Type 0
+  IsBeforeIn a b = IfSome (in_folder a) (λ f. IfSome (in_folder b) (λ g. (m : List ℕ) → ((n : Key) → IsSome (container_in b n) → m ≢ file_name_of n) → IsAsBefore disk.view (folder.files f m) (folder.files g m)))
+
   pub record IsLoaded (a m : Shelf F D folder disk) : Type 0 where
     pub read : IsTrue disk.tells → IfSome (in_folder a) (λ f. (n : Key) → IfSome (container_in m n) (λ c. IsReadFrom (folder.files f (file_name_of n)) c))
     pub all : IsTrue disk.tells → IfSome (in_folder a) (λ f. HasAll disk.view (folder.files f) (hosted_of m))
+    pub sound : IsTrue disk.tells → IfSome (in_folder a) (λ f. (m : List ℕ) → IsSound disk.view (folder.files f m) m)
     pub kept : IsTrue disk.tells → IsKept m × IsSettled m
     pub apart : AreApart m
-    pub has_folder : IsSome (in_folder m)
+    pub as_before : IsTrue disk.tells → IsBeforeIn a m
+    pub still : IsStillIn folder (in_folder a) (in_folder m)
     pub later : fault_count a ≤ fault_count m
 
   -- its disks were put back into the folder g
   pub record IsClosed (a : Shelf F D folder disk) (g : F) : Type 0 where
     pub back : IsTrue disk.tells → AreApart a → (n : Key) → IfSome (container_in a n) (λ c. IfSome (journal_of c) (λ j. IsPutBack disk.view (on_disk j) (folder.files g (file_name_of n))))
     pub stored : IsKept a → IsSettled a → AreApart a → (n : Key) → IfSome (container_in a n) (λ c. IsStoredFile disk.view (folder.files g (file_name_of n)) n (history_of c).deltas)
+    pub others : IsTrue disk.tells → IfSome (in_folder a) (λ f. (m : List ℕ) → (HasFile a m → ⊥) → folder.files g m ≡ folder.files f m)
+    pub still : IfSome (in_folder a) (λ f. IsStill folder f g)
     pub counted : min (folder.faults g) (2 ^ 64 - 1) ≡ fault_count a
 
   -- no line was looked at; the sink's count of faults comes last
-  pub record IsShelfUnloaded (a : Shelf F D folder disk) (held0 held1 : Option (List ℕ)) (before now : ℕ) (status : ℕ) : Type 0 where
+  pub record IsShelfUnloaded (a b : Shelf F D folder disk) (held0 held1 : Option (List ℕ)) (before now : ℕ) (status : ℕ) : Type 0 where
     pub known : (status ≡ 5) ⊎ ((status ≡ 6) ⊎ (status ≡ 8))
     pub silent : (status ≡ 5) ⊎ (status ≡ 8) → held1 ≡ held0
     pub damaged : status ≡ 6 → (file : List ℕ) × (offset : ℕ) × IsWritten held0 held1 before now (damage_line file offset)
-        × (IsTrue disk.tells → IfSome (in_folder a) (λ f. IsRefusedFile disk.view (folder.files f file) file offset))
+        × (IsTrue disk.tells → IfSome (in_folder a) (λ f. IsFirstRefused disk.view (folder.files f) file offset))
+    pub none : entries_of b ≡ []
+    pub as_before : IsTrue disk.tells → IsBeforeIn a b
+    pub still : IsStillIn folder (in_folder a) (in_folder b)
 
   pub record IsShelfRun {K : Type 0} (clock : clock_of.Ghosts K) (a b : Shelf F D folder disk) (was : K) (left0 left1 held0 held1 : Option (List ℕ)) (status : ℕ) : Type 0 where
     pub shelf : Shelf F D folder disk
     pub loaded : IsLoaded a shelf
-    pub told : IsTrue clock.tells → WhereTold left0 left1 held0 held1 (IsTold (answers_over (hosted_of shelf)) (clock.readings was) status)
     pub over : IsOver clock shelf b was left0 left1 held0 held1 status
 
 -- ---- runs
 
+abbrev pub entered_at : {F D : Type 0} → folder_of.Ghosts F D → List ℕ → F → List Entry
+entered_at folder path f = (one_entered path (folder.log f)).entries
+
 module _ {F D : Type 0} (folder : folder_of.Ghosts F D) (disk : disk_of.Ghosts D) where
-  -- the sink's count of faults comes last
-  pub record IsUnloaded (f : F) (held0 held1 : Option (List ℕ)) (before now : ℕ) (status : ℕ) : Type 0 where
+  -- the folder before and behind it; the sink's count of faults comes last
+  pub record IsUnloaded (entries : List Entry) (f g : F) (held0 held1 : Option (List ℕ)) (before now : ℕ) (status : ℕ) : Type 0 where
     pub known : (status ≡ 5) ⊎ ((status ≡ 6) ⊎ (status ≡ 8))
     pub silent : (status ≡ 5) ⊎ (status ≡ 8) → held1 ≡ held0
-    pub damaged : status ≡ 6 → (file : List ℕ) × (offset : ℕ) × IsWritten held0 held1 before now (damage_line file offset)
-        × (IsTrue folder.tells → IsTrue disk.tells → IsRefusedFile disk.view (folder.files f file) file offset)
+    pub damaged : status ≡ 6 → (file : List ℕ) × (offset : ℕ) × IsWritten held0 held1 before now (damage_line file offset) × IsFirstRefused disk.view (folder.files f) file offset
+    pub as_before : (m : List ℕ) → IsAsBefore disk.view (folder.files f m) (folder.files g m)
+    -- nothing more was entered; for want of memory, maybe nothing at all
+    pub entered : ((folder.log g).entries ≡ entries) ⊎ ((status ≡ 8) × ((folder.log g).entries ≡ (folder.log f).entries))
 
   -- the folder before and behind it
-  pub record IsStoredRun {K : Type 0} (clock : clock_of.Ghosts K) (f g : F) (was : K) (left0 left1 held0 held1 : Option (List ℕ)) (status : ℕ) : Type 0 where
+  pub record IsStoredRun {K : Type 0} (clock : clock_of.Ghosts K) (entries : List Entry) (f g : F) (was : K) (left0 left1 held0 held1 : Option (List ℕ)) (status : ℕ) : Type 0 where
     -- the histories for which the files stand, and the names whose files were loaded
     pub hosted : List Hosted
     pub loaded : Key → Bool
     pub stand : (n : Key) → loaded n ≡ true → IsFileOf disk.view (folder.files f (file_name_of n)) n (deltas_in hosted n)
     pub are_loaded : (n : Key) → deltas_in hosted n ≢ [] → loaded n ≡ true
     pub all : HasAll disk.view (folder.files f) hosted
+    pub sound : (m : List ℕ) → IsSound disk.view (folder.files f m) m
     pub apart : AreApartIn (λ n. loaded n ≡ true)
+    pub entered : (folder.log g).entries ≡ entries
     -- what was read and written
     pub known : IsServing status
-    pub told : IsTrue clock.tells → WhereTold left0 left1 held0 held1 (IsTold (answers_over hosted) (clock.readings was) status)
-    pub read : List ℕ
-    pub written : List ℕ
-    pub consumed : Consumes left0 left1 read
-    pub appended : Appends held0 held1 written
-    -- the turns that were answered, and then what was tried, if anything
-    pub turns : List Turn
+    pub run : IsRun clock (answers_over hosted) was left0 left1 held0 held1 status
+    -- what was tried behind the turns that were answered, if anything
     pub tried : List Turn
-    pub timed : IsTrue clock.tells → turns ≡ timed (clock.readings was) (lines_in turns)
-    pub lines : IsPrefix (lines_in turns ++ lines_in tried) (turned true read)
-    pub answers : IsPrefix written (answers_over hosted turns)
-    -- whatever was sent stands in the histories, and these in the files
-    pub held : All (λ s. IsHeld (hosted_after hosted turns) s.message) (sent (start hosted) turns)
-    pub stored : AreApartIn (λ n. (loaded n ≡ true) ⊎ (submitted_in (turns ++ tried) n ≡ true)) → AreStoredFrom disk.view (folder.files g) (hosted_after hosted turns)
-    pub done : status ≡ 0 → AreApartIn (λ n. (loaded n ≡ true) ⊎ (submitted_in (turns ++ tried) n ≡ true)) → AreStored disk.view (folder.files g) (hosted_after hosted turns)
+    pub lines : IsPrefix (lines_in run.turns ++ lines_in tried) (turned true run.read)
+    -- whatever was sent stands in the histories, and these in the files: just these, where no turn failed
+    pub held : All (λ s. IsHeld (hosted_after hosted run.turns) s.message) (sent (start hosted) run.turns)
+    pub stored : AreApartIn (λ n. (loaded n ≡ true) ⊎ (submitted_in (run.turns ++ tried) n ≡ true)) → AreStoredFrom disk.view (folder.files g) (hosted_after hosted run.turns)
+    pub whole : IsWhole status → AreApartIn (λ n. (loaded n ≡ true) ⊎ (submitted_in (run.turns ++ tried) n ≡ true)) → AreStored disk.view (folder.files g) (hosted_after hosted run.turns)
+    -- the files of other names are as they were, but for what a sync settles
+    pub others : (m : List ℕ) → ((n : Key) → (loaded n ≡ true) ⊎ (submitted_in (run.turns ++ tried) n ≡ true) → m ≢ file_name_of n) → IsAsBefore disk.view (folder.files f m) (folder.files g m)

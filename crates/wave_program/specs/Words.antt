@@ -2,7 +2,7 @@
 --     usage        the usage text
 --     IsOther c    words that name no command
 --     IsStoring c  those of lines with a store
-use Rattle.std.specs.Prelude.{◌≡◌, ℕ, List, Option, Some, None, codes}
+use Rattle.std.specs.Prelude.{ℕ, List, Option, Some, None, codes}
 use Rattle.command_words.specs.Commands.{CommandOf, Pipe, Load}
 
 abbrev pub usage : List ℕ

@@ -1,8 +1,8 @@
 // The lines of a source, answered over a shelf.
-ghost use Rattle.std.specs.Prelude.{◌≡◌, ◌⊎◌, [], None, IsTrue};
+ghost use Rattle.std.specs.Prelude.{◌≡◌, ◌⊎◌, [], None};
 ghost use Rattle.wave_outside.specs.Counts.{Rose};
 ghost use Rattle.line_run.specs.Run.{status_of};
-ghost use Rattle.line_run.specs.Told.{WhereTold, IsTold};
+ghost use Rattle.line_run.specs.Told.{IsRun};
 ghost use Rattle.wavelet_shelf.specs.Shelves.{in_folder, entries_of, hosted_of};
 ghost use Rattle.pipe_machine.specs.Pipes.{store_faults};
 ghost use Rattle.wave_program.specs.Pipe.{answers_over, IsOver};
@@ -36,8 +36,6 @@ pub fn serve_over<S: Source, W: Sink, F: Folder + Drop, C: Clock>(
     sink: &mut W,
     clock: &mut C,
 ) -> (Shelf<F>, u8)
-    ensures served { IsTrue C.tells → WhereTold (S.left source.old) (S.left source.new) (W.written sink.old) (W.written sink.new)
-        (IsTold (answers_over (hosted_of shelf)) (C.readings clock.old) result.1) }
     ensures over { IsOver C.Clock shelf result.0 clock.old (S.left source.old) (S.left source.new) (W.written sink.old) (W.written sink.new) result.1 }
     ensures source_failed { result.1 ≡ 3 → Rose (S.faults source.old) (S.faults source.new) }
     ensures sink_failed { result.1 ≡ 4 → Rose (W.faults sink.old) (W.faults sink.new) }
@@ -59,8 +57,7 @@ pub fn serve<S: Source, W: Sink, F: Folder + Drop, C: Clock>(
 ) -> u8
     requires plain { in_folder shelf ≡ None }
     requires empty { entries_of shelf ≡ [] }
-    ensures served { IsTrue C.tells → WhereTold (S.left source.old) (S.left source.new) (W.written sink.old) (W.written sink.new)
-        (IsTold (answers_over []) (C.readings clock.old) result) }
+    ensures served { IsRun C.Clock (answers_over []) clock.old (S.left source.old) (S.left source.new) (W.written sink.old) (W.written sink.new) result }
     ensures source_failed { result ≡ 3 → Rose (S.faults source.old) (S.faults source.new) }
     ensures sink_failed { result ≡ 4 → Rose (W.faults sink.old) (W.faults sink.new) }
     ensures known { (result ≡ 0) ⊎ ((result ≡ 3) ⊎ ((result ≡ 4) ⊎ ((result ≡ 8) ⊎ (result ≡ 10)))) }

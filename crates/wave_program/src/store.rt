@@ -6,7 +6,7 @@ ghost use Rattle.wavelet_shelf.specs.Faults.{damage_of};
 ghost use Rattle.wavelet_shelf.specs.Shelves.{in_folder, entries_of, fault_count};
 ghost use Rattle.wave_program.specs.Damage.{damage_line};
 ghost use Rattle.wave_program.specs.Run.{IsServing};
-ghost use Rattle.wave_program.specs.Store.{IsClosed, IsShelfRun, IsShelfUnloaded, IsStoredRun, IsUnloaded};
+ghost use Rattle.wave_program.specs.Store.{entered_at, IsClosed, IsShelfRun, IsShelfUnloaded, IsStoredRun, IsUnloaded};
 ghost use Rattle.wavelet_shelf.specs.declared.fault.ShelfFault.TheVariants.{Failed};
 
 use crate::damage::write_damage;
@@ -27,8 +27,8 @@ pub fn serve_stored<S: Source, W: Sink, F: Folder + Drop, C: Clock>(
     clock: &mut C,
 ) -> u8
     ensures stored { IsTrue F.tells → IsTrue F.Disk.tells
-        → IsStoredRun F.Folder F.Disk.Disk C.Clock folder.old folder.new clock.old (S.left source.old) (S.left source.new) (W.written sink.old) (W.written sink.new) result
-        ⊎ ((source.new ≡ source.old) × IsUnloaded F.Folder F.Disk.Disk folder.old (W.written sink.old) (W.written sink.new) (W.faults sink.old) (W.faults sink.new) result) }
+        → IsStoredRun F.Folder F.Disk.Disk C.Clock (entered_at F.Folder path.now folder.old) folder.old folder.new clock.old (S.left source.old) (S.left source.new) (W.written sink.old) (W.written sink.new) result
+        ⊎ ((source.new ≡ source.old) × IsUnloaded F.Folder F.Disk.Disk (entered_at F.Folder path.now folder.old) folder.old folder.new (W.written sink.old) (W.written sink.new) (W.faults sink.old) (W.faults sink.new) result) }
     ensures source_failed { result ≡ 3 → Rose (S.faults source.old) (S.faults source.new) }
     ensures sink_failed { result ≡ 4 → Rose (W.faults sink.old) (W.faults sink.new) }
     ensures store_failed { result ≡ 5 → Rose (F.faults folder.old) (F.faults folder.new) }
@@ -50,8 +50,8 @@ fn serve_folder<S: Source, W: Sink, F: Folder + Drop, C: Clock>(
     clock: &mut C,
 ) -> u8
     ensures stored { IsTrue F.tells → IsTrue F.Disk.tells
-        → IsStoredRun F.Folder F.Disk.Disk C.Clock folder.old folder.new clock.old (S.left source.old) (S.left source.new) (W.written sink.old) (W.written sink.new) result
-        ⊎ ((source.new ≡ source.old) × IsUnloaded F.Folder F.Disk.Disk folder.old (W.written sink.old) (W.written sink.new) (W.faults sink.old) (W.faults sink.new) result) }
+        → IsStoredRun F.Folder F.Disk.Disk C.Clock (F.log folder.old).entries folder.old folder.new clock.old (S.left source.old) (S.left source.new) (W.written sink.old) (W.written sink.new) result
+        ⊎ ((source.new ≡ source.old) × IsUnloaded F.Folder F.Disk.Disk (F.log folder.old).entries folder.old folder.new (W.written sink.old) (W.written sink.new) (W.faults sink.old) (W.faults sink.new) result) }
     ensures source_failed { result ≡ 3 → Rose (S.faults source.old) (S.faults source.new) }
     ensures sink_failed { result ≡ 4 → Rose (W.faults sink.old) (W.faults sink.new) }
     ensures store_failed { result ≡ 5 → Rose (F.faults folder.old) (F.faults folder.new) }
@@ -88,7 +88,7 @@ fn serve_shelf<S: Source, W: Sink, F: Folder + Drop, C: Clock>(
     requires folder { IsSome (in_folder shelf) }
     requires empty { entries_of shelf ≡ [] }
     ensures run { IsShelfRun C.Clock shelf result.0 clock.old (S.left source.old) (S.left source.new) (W.written sink.old) (W.written sink.new) result.1
-        ⊎ ((source.new ≡ source.old) × IsShelfUnloaded shelf (W.written sink.old) (W.written sink.new) (W.faults sink.old) (W.faults sink.new) result.1) }
+        ⊎ ((source.new ≡ source.old) × IsShelfUnloaded shelf result.0 (W.written sink.old) (W.written sink.new) (W.faults sink.old) (W.faults sink.new) result.1) }
     ensures folder { IsSome (in_folder result.0) }
     ensures source_failed { result.1 ≡ 3 → Rose (S.faults source.old) (S.faults source.new) }
     ensures sink_failed { result.1 ≡ 4 → Rose (W.faults sink.old) (W.faults sink.new) }

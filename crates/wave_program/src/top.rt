@@ -4,12 +4,12 @@ ghost use Rattle.wave_outside.specs.Counts.{Rose};
 ghost use Rattle.command_words.specs.Commands.{command_of, Pipe, Load};
 ghost use Rattle.line_run.specs.Output.{IsWritten};
 ghost use Rattle.line_run.specs.Run.{byte_limit};
-ghost use Rattle.line_run.specs.Told.{WhereTold, IsTold};
-ghost use Rattle.wavelet_shelf.specs.Loads.{IsRefusedFile};
+ghost use Rattle.line_run.specs.Told.{WhereTold, IsRun};
+ghost use Rattle.wavelet_shelf.specs.Loads.{IsSound};
 ghost use Rattle.wave_program.specs.Load.{IsLoaded};
 ghost use Rattle.wave_program.specs.Pipe.{answers_over};
 ghost use Rattle.wave_program.specs.Run.{IsStatus};
-ghost use Rattle.wave_program.specs.Store.{IsStoredRun, IsUnloaded};
+ghost use Rattle.wave_program.specs.Store.{entered_at, IsStoredRun, IsUnloaded};
 ghost use Rattle.wave_program.specs.Words.{IsOther, IsStoring, usage};
 
 use crate::load::{LoadStop, load};
@@ -38,9 +38,9 @@ fn tell_load<W: Sink>(alloc: Global, count: u64, sink: &mut W) -> u8
 ///
 /// On `pipe` it answers the lines of the source on the sink: 0 at the end of the input, 3 where the source failed, 4 where the sink
 /// did, 8 out of memory, and 10 where it read 2^62 bytes. On `pipe --store DIR` it does so over the wavelets that stand in the folder
-/// DIR: 5 where the folder or a file failed, and 6, with a line that tells of it, where a file isn't the journal of a legal history. On
-/// `load N`, with N up to 100,000, it runs the stated workload and writes its summary as a line: 0, 4 where the sink failed, 8 out of
-/// memory. With other words it writes the usage text and gives 2, or 8 out of memory.
+/// DIR: 5 where the folder or a file failed, and 6, with a line that tells of the first one, where a file with a journal's name isn't the
+/// journal of a legal history of its wavelet. On `load N`, with N up to 100,000, it runs the stated workload and writes its summary as a
+/// line: 0, 4 where the sink failed, 8 out of memory. With other words it writes the usage text and gives 2, or 8 out of memory.
 pub fn run<S: Source, W: Sink, F: Folder + Drop, C: Clock>(
     alloc: Global,
     words: &Vec<String>,
@@ -50,27 +50,30 @@ pub fn run<S: Source, W: Sink, F: Folder + Drop, C: Clock>(
     clock: &mut C,
 ) -> u8
     // Lines: they are answered, over no history.
-    ensures served { command_of (map string_bytes words.now.items) ≡ Some (Pipe None) → IsTrue C.tells
-        → WhereTold (S.left source.old) (S.left source.new) (W.written sink.old) (W.written sink.new)
-        (IsTold (answers_over []) (C.readings clock.old) result) }
-    ensures alone { command_of (map string_bytes words.now.items) ≡ Some (Pipe None) → folder.new ≡ folder.old }
-    ensures complete { command_of (map string_bytes words.now.items) ≡ Some (Pipe None) → IsTrue C.tells
+    ensures served { command_of (map string_bytes words.now.items) ≡ Some (Pipe None)
+        → IsRun C.Clock (answers_over []) clock.old (S.left source.old) (S.left source.new) (W.written sink.old) (W.written sink.new) result }
+    ensures complete { command_of (map string_bytes words.now.items) ≡ Some (Pipe None)
         → (Rose (S.faults source.old) (S.faults source.new) → ⊥)
         → (Rose (W.faults sink.old) (W.faults sink.new) → ⊥)
         → WhereTold (S.left source.old) (S.left source.new) (W.written sink.old) (W.written sink.new)
         (λ read left written. length (read ++ left) < byte_limit → (result ≡ 0) ⊎ (result ≡ 8)) }
 
-    // Lines and a store: they are answered over the histories for which the folder's files stand, and what is sent stands there.
+    // Lines and a store: the folder of the words is entered, and no other, before any file is used. None of its files with a journal's
+    // name is refused, and the lines are answered over the histories for which they stand, and what is sent stands there. Or no line
+    // was read, and each file is as it was, but for what a sync settles.
     ensures stored { (path : List ℕ) → command_of (map string_bytes words.now.items) ≡ Some (Pipe (Some path)) → IsTrue F.tells → IsTrue F.Disk.tells
-        → IsStoredRun F.Folder F.Disk.Disk C.Clock folder.old folder.new clock.old (S.left source.old) (S.left source.new) (W.written sink.old) (W.written sink.new) result
-        ⊎ ((source.new ≡ source.old) × IsUnloaded F.Folder F.Disk.Disk folder.old (W.written sink.old) (W.written sink.new) (W.faults sink.old) (W.faults sink.new) result) }
-    ensures stored_complete { (path : List ℕ) → command_of (map string_bytes words.now.items) ≡ Some (Pipe (Some path)) → IsTrue C.tells → IsTrue F.tells → IsTrue F.Disk.tells
-        → ((file : List ℕ) (offset : ℕ) → IsRefusedFile F.Disk.view (F.files folder.old file) file offset → ⊥)
+        → IsStoredRun F.Folder F.Disk.Disk C.Clock (entered_at F.Folder path folder.old) folder.old folder.new clock.old (S.left source.old) (S.left source.new) (W.written sink.old) (W.written sink.new) result
+        ⊎ ((source.new ≡ source.old) × IsUnloaded F.Folder F.Disk.Disk (entered_at F.Folder path folder.old) folder.old folder.new (W.written sink.old) (W.written sink.new) (W.faults sink.old) (W.faults sink.new) result) }
+    ensures stored_complete { (path : List ℕ) → command_of (map string_bytes words.now.items) ≡ Some (Pipe (Some path)) → IsTrue F.tells → IsTrue F.Disk.tells
+        → ((file : List ℕ) → IsSound F.Disk.view (F.files folder.old file) file)
         → (Rose (S.faults source.old) (S.faults source.new) → ⊥)
         → (Rose (W.faults sink.old) (W.faults sink.new) → ⊥)
         → (Rose (F.faults folder.old) (F.faults folder.new) → ⊥)
         → WhereTold (S.left source.old) (S.left source.new) (W.written sink.old) (W.written sink.new)
         (λ read left written. length (read ++ left) < byte_limit → (result ≡ 0) ⊎ (result ≡ 8)) }
+
+    // Without a store the folder stays as it is.
+    ensures alone { (IsStoring (command_of (map string_bytes words.now.items)) → ⊥) → folder.new ≡ folder.old }
 
     // A load: nothing is read, and the summary of the load is written.
     ensures loaded { (n : ℕ) → command_of (map string_bytes words.now.items) ≡ Some (Load n)

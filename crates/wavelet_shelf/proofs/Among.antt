@@ -2,6 +2,7 @@
 --     more, last       a name is among them still, and the one behind them is
 --     split, neither   one that is among them with one behind: it is that, or was; one that isn't, is neither
 --     ascend_apart     the next of names that ascend isn't among those before it
+--     before_next      what is among names that ascend, and below one of them, is among those before that
 use Rattle.std.proofs.Common.{Less, ◌≡◌, ◌≢◌, ◌⊎◌, inl, inr, ⊎_elim, ℕ, zero, suc, ◌<◌, Bool, true, false, ◌||◌, List, [], ◌∷◌, ◌++◌, length, take, get_or, slice_get, Some, None, IfSome, refl, sym, ap, subst, ◌∙◌, true≢false, arith}
 use Rattle.std.specs.Cmp.Lexicographic.{slice_cmp, bytes_decides}
 use Rattle.std.specs.Ordering.{nat_cmp}
@@ -75,6 +76,27 @@ ascend_apart (n ∷ names) (suc i) d a lt =
     at_place [] i d lt = absurd (omega (arith, lt))
     at_place (n ∷ names) zero d lt = ap (λ t. t || is_among names n) (own n)
     at_place (n ∷ names) (suc i) d lt = ap (λ t. same_text (get_or names i d) n || t) (at_place names i d (omega (arith, lt))) ∙ or_true (same_text (get_or names i d) n)
+
+above_all : (k l : Key) (names : List Key) → AscendFrom k names → is_among names l ≡ true → slice_cmp nat_cmp k l ≡ Less
+above_all k l [] a among = absurd (true≢false (sym among))
+above_all k l (n ∷ names) a among = go (same_text l n) refl (λ f. nat_list_cmp_total.trans k n l a.0 (above_all n l names a.1 f)) among
+  where
+    go : (t : Bool) → same_text l n ≡ t → (is_among names l ≡ true → slice_cmp nat_cmp k l ≡ Less) → t || is_among names l ≡ true → slice_cmp nat_cmp k l ≡ Less
+    go true s rest f = subst (λ z. slice_cmp nat_cmp k z ≡ Less) (sym ((bytes_decides l n).0 s)) a.0
+    go false s rest f = rest f
+
+pub before_next : (names : List Key) (i : ℕ) (d l : Key) → AreAscending names → i < length names → is_among names l ≡ true → slice_cmp nat_cmp l (get_or names i d) ≡ Less → is_among (take i names) l ≡ true
+before_next [] i d l a lt among less = absurd (true≢false (sym among))
+before_next (n ∷ names) zero d l a lt among less = below_none l (go (same_text l n) refl among)
+  where
+    go : (t : Bool) → same_text l n ≡ t → t || is_among names l ≡ true → slice_cmp nat_cmp l l ≡ Less
+    go true s f = subst (λ z. slice_cmp nat_cmp l z ≡ Less) (sym ((bytes_decides l n).0 s)) less
+    go false s f = nat_list_cmp_total.trans l n l less (above_all n l names a f)
+before_next (n ∷ names) (suc i) d l a lt among less = go (same_text l n) (λ f. before_next names i d l (any n names a) (omega (arith, lt)) f less) among
+  where
+    go : (t : Bool) → (is_among names l ≡ true → is_among (take i names) l ≡ true) → t || is_among names l ≡ true → t || is_among (take i names) l ≡ true
+    go true rest f = refl
+    go false rest f = rest f
 
 -- ---- by place, and one by one
 

@@ -16,3 +16,4 @@ pub mod Sorting
 pub mod Opening
 pub mod Reading
 pub mod Parting
+pub mod Still

@@ -12,16 +12,16 @@ use Rattle.wavelet_op.specs.Deltas.{DeltaOf}
 use Rattle.disk_model.specs.Disk.{DiskView}
 use Rattle.disk_model.specs.declared.disk.Disk as disk_of
 use Rattle.delta_journal.specs.File.{HasName, HasNoHeader, NamedOnce}
-use Rattle.wave_outside.specs.Folders.{IsElsewhere}
+use Rattle.wave_outside.specs.Folders.{IsElsewhere, IsAsBefore}
 use Rattle.wave_outside.specs.declared.folder.Folder as folder_of
 use Rattle.wavelet_container.specs.Containers.{IsHeld}
-use Rattle.wavelet_container.specs.Records.{records_of, StandsForHistory}
-use Rattle.wavelet_container.proofs.Loaded.{history_is_one}
+use Rattle.wavelet_container.specs.Records.{records_of, StandsForHistory, IsDamagedHistory}
+use Rattle.wavelet_container.proofs.Loaded.{history_is_one, history_is_whole}
 use Rattle.wavelet_shelf.specs.Entries.{found, hosting, AreInOrder, AreHeld, AreSafe, IsSafe}
 use Rattle.wavelet_shelf.specs.FileNames.{file_name_of, is_file_name}
 use Rattle.wavelet_shelf.specs.Folders.{is_among, IsPassed, IsAdded, IsFileBack, IsLooked, IsLoading}
 use Rattle.wavelet_shelf.specs.Hosting.{deltas_in}
-use Rattle.wavelet_shelf.specs.Loads.{IsAsBefore, IsReadFrom}
+use Rattle.wavelet_shelf.specs.Loads.{IsReadFrom, IsOwnName, IsRefused, IsRefusedFile}
 use Rattle.wavelet_shelf.specs.declared.filed.Filed.{Filed}
 use Rattle.wavelet_shelf.proofs.Among.{more, last, split, neither}
 use Rattle.wavelet_shelf.proofs.FileName.{own_form}
@@ -58,6 +58,20 @@ module _ (laws : NamedOnce) (n : Key) (ds : List DeltaOf) (file : List ℕ) (goo
   same_name : (m : Key) → HasName (Some m) file → n ≡ m
   same_name m named = same_Some (laws.one file (Some n) (Some m) header_of named)
 
+-- one that stands for none, and one that stands for a history of its wavelet, isn't refused
+headless_whole : NamedOnce → (m file : List ℕ) → HasNoHeader file → (offset : ℕ) → IsRefused m offset file → ⊥
+headless_whole laws m file none offset (inl broken) = laws.not_broken file None none broken.0
+headless_whole laws m file none offset (inr other) = no_value (laws.one file None (Some other.0) none other.1)
+
+read_whole : NamedOnce → (m name file : List ℕ) (ds : List DeltaOf) → length file < 2 ^ 64 → IsOwnName name m → HasName (Some name) file → StandsForHistory name ds file → (offset : ℕ) → IsRefused m offset file → ⊥
+read_whole laws m name file ds small own named stands offset (inl broken) = laws.not_broken file (Some name) named broken.0
+read_whole laws m name file ds small own named stands offset (inr other) =
+    let is : name ≡ other.0 = same_Some (laws.one file (Some name) (Some other.0) named other.1) in
+    ⊎_elim
+    (λ damaged. history_is_whole name file ds offset small stands (subst (λ n. IsDamagedHistory n offset file) (sym is) damaged.1))
+    (λ foreign. foreign.0 (subst (λ n. IsOwnName n m) is own))
+    other.2
+
 module _ {F D : Type 0} (folder : folder_of.Ghosts F D) {disk : disk_of.Ghosts D} where
   pub begun_loading : (f : F) → IsLoading folder {disk = disk} f f [] []
   begun_loading f = record {
@@ -71,6 +85,7 @@ module _ {F D : Type 0} (folder : folder_of.Ghosts F D) {disk : disk_of.Ghosts D
       safe = λ told. tt;
     };
     each = λ told n ds good some among. absurd (true≢false (sym among));
+    sound = λ told m among. absurd (true≢false (sym among));
   }
 
   -- one more name, that is no wavelet's file
@@ -89,6 +104,10 @@ module _ {F D : Type 0} (folder : folder_of.Ghosts F D) {disk : disk_of.Ghosts D
         (λ before. x.each told n ds good some before)
         (λ is. absurd (true≢false (sym (own_form n) ∙ ap is_file_name is ∙ other)))
         (split done m (file_name_of n) among);
+    sound = λ told l among named offset refused. ⊎_elim
+        (λ before. x.sound told l before named offset refused)
+        (λ is. true≢false (sym named ∙ ap is_file_name is ∙ other))
+        (split done m l among);
   }
 
   module _ (f g h : F) (es es' : List (Key × Filed D disk)) (done : List (List ℕ)) (m : List ℕ) (new : is_among done m ≡ false) (y : IsLoading folder f g es done) where
@@ -132,11 +151,22 @@ module _ {F D : Type 0} (folder : folder_of.Ghosts F D) {disk : disk_of.Ghosts D
           each = λ told n ds good some among. ⊎_elim
               (λ before. y.each told n ds good some before)
               (λ is. subst (λ l. IfSome (folder.files f l) (λ d. StandsForHistory n ds (disk.view d).seen → deltas_in (hosting es) n ≡ ds)) (sym is)
-              (headless laws n ds good some (folder.files f m) (subst (λ o. IfSome o (λ d. HasNoHeader (disk.view d).seen)) (same_here told) (p.file told))))
+              (headless laws n ds good some (folder.files f m) (none_here told)))
               (split done m (file_name_of n) among);
+          sound = λ told l among named offset refused. ⊎_elim
+              (λ before. y.sound told l before named offset refused)
+              (λ is. unrefused laws (folder.files f m) (none_here told) offset (subst (λ k. IsRefusedFile disk.view (folder.files f k) k offset) is refused))
+              (split done m l among);
         } in
         subst (λ l. IsLoading folder f h l (done ++ m ∷ [])) (sym p.same) back
       where
+        none_here : IsTrue disk.tells → IfSome (folder.files f m) (λ d. HasNoHeader (disk.view d).seen)
+        none_here told = subst (λ o. IfSome o (λ d. HasNoHeader (disk.view d).seen)) (same_here told) (p.file told)
+
+        unrefused : NamedOnce → (o : Option D) → IfSome o (λ d. HasNoHeader (disk.view d).seen) → (offset : ℕ) → IsRefusedFile disk.view o m offset → ⊥
+        unrefused laws None none offset refused = refused
+        unrefused laws (Some d) none offset refused = headless_whole laws m (disk.view d).seen none offset refused
+
         headless : (laws : NamedOnce) (n : Key) (ds : List DeltaOf) → is_wavelet_name n ≡ true → ds ≢ [] → (o : Option D) → IfSome o (λ d. HasNoHeader (disk.view d).seen) → IfSome o (λ d. StandsForHistory n ds (disk.view d).seen → deltas_in (hosting es) n ≡ ds)
         headless laws n ds good some None none = tt
         headless laws n ds good some (Some d) none = λ stands. absurd (not_headless laws n ds (disk.view d).seen good some stands none)
@@ -215,6 +245,11 @@ module _ {F D : Type 0} (folder : folder_of.Ghosts F D) {disk : disk_of.Ghosts D
           let there : StandsForHistory n (deltas_of p.filed) (disk.view d).seen = subst (λ k. StandsForHistory k (deltas_of p.filed) (disk.view d).seen) (p.named.0 ∙ sym is) read.stands in
           ap (deltas_in (hosting es')) is ∙ deltas_new ∙ history_is_one n (disk.view d).seen (deltas_of p.filed) ds (bounded d) there stands
 
+      sound_new : NamedOnce → ((d : D) → length (disk.view d).seen < 2 ^ 64) → (o : Option D) → IfSome o (λ d. HasName (Some p.name) (disk.view d).seen) → IsReadFrom o p.filed.container → (offset : ℕ) → IsRefusedFile disk.view o m offset → ⊥
+      sound_new laws bounded None named read offset refused = refused
+      sound_new laws bounded (Some d) named read offset refused =
+          read_whole laws m p.name (disk.view d).seen (deltas_of p.filed) (bounded d) p.own named (subst (λ k. StandsForHistory k (deltas_of p.filed) (disk.view d).seen) p.named.0 read.stands) offset refused
+
       pub went_on : NamedOnce → (IsTrue disk.tells → (d : D) → length (disk.view d).seen < 2 ^ 64) → (IsTrue disk.tells → IsElsewhere m (folder.files g) (folder.files h)) → IsLoading folder f h es' (done ++ m ∷ [])
       went_on laws bounded others = record {
         looked = record {
@@ -231,8 +266,16 @@ module _ {F D : Type 0} (folder : folder_of.Ghosts F D) {disk : disk_of.Ghosts D
             (sym (deltas_same n (λ is. true≢false (sym before ∙ ap (is_among done) (ap file_name_of is ∙ own_file) ∙ new))))
             (y.each told n ds good some before))
             (λ is. subst (λ l. IfSome (folder.files f l) (λ d. StandsForHistory n ds (disk.view d).seen → deltas_in (hosting es') n ≡ ds)) (sym is)
-            (each_new laws (bounded told) n ds good some (folder.files f m)
-            (subst (λ o. IfSome o (λ d. HasName (Some p.name) (disk.view d).seen)) (same_here told) (p.header told))
-            (subst (λ o. IsReadFrom o p.filed.container) (same_here told) (p.read told))))
+            (each_new laws (bounded told) n ds good some (folder.files f m) (header_here told) (read_here told)))
             (split done m (file_name_of n) among);
+        sound = λ told l among named offset refused. ⊎_elim
+            (λ before. y.sound told l before named offset refused)
+            (λ is. sound_new laws (bounded told) (folder.files f m) (header_here told) (read_here told) offset (subst (λ k. IsRefusedFile disk.view (folder.files f k) k offset) is refused))
+            (split done m l among);
       }
+        where
+          header_here : IsTrue disk.tells → IfSome (folder.files f m) (λ d. HasName (Some p.name) (disk.view d).seen)
+          header_here told = subst (λ o. IfSome o (λ d. HasName (Some p.name) (disk.view d).seen)) (same_here told) (p.header told)
+
+          read_here : IsTrue disk.tells → IsReadFrom (folder.files f m) p.filed.container
+          read_here told = subst (λ o. IsReadFrom o p.filed.container) (same_here told) (p.read told)

@@ -9,7 +9,7 @@ use Rattle.delta_journal.specs.File.{HasName, HasNoHeader}
 use Rattle.delta_journal.specs.Journal.{on_disk, needs_repair}
 use Rattle.delta_journal.specs.declared.journal.Journal.{Journal}
 use Rattle.wave_outside.specs.Counts.{Rose}
-use Rattle.wave_outside.specs.Folders.{IsSameFile, IsHanded, IsPutBack, IsElsewhere, IsSame}
+use Rattle.wave_outside.specs.Folders.{IsSameFile, IsHanded, IsPutBack, IsElsewhere, IsSame, ReadsAsBefore, IsAsBefore}
 use Rattle.wave_outside.specs.declared.folder.Folder as folder_of
 use Rattle.wavelet_container.specs.Containers.{history_of, journal_of, IsHeld}
 use Rattle.wavelet_container.specs.Records.{StandsForHistory, IsDamagedHistory}
@@ -19,7 +19,7 @@ use Rattle.wavelet_container.specs.declared.load.LoadRefused.{LoadRefused}
 use Rattle.wavelet_shelf.specs.Entries.{faults_of, faults_in, IsPut}
 use Rattle.wavelet_shelf.specs.Faults.{damage_of}
 use Rattle.wavelet_shelf.specs.Folders.{most_faults, IsFileStep}
-use Rattle.wavelet_shelf.specs.Loads.{ReadsAsBefore, IsAsBefore, IsReadAs, IsReadFrom, IsOwnName, IsRefused, IsRefusedFile, IsOpenedAs, IsPassedAs, IsOpened, IsUnopened}
+use Rattle.wavelet_shelf.specs.Loads.{IsReadAs, IsReadFrom, IsOwnName, IsRefused, IsRefusedFile, IsOpenedAs, IsPassedAs, IsOpened, IsUnopened}
 use Rattle.wavelet_shelf.specs.declared.fault.ShelfFault.{ShelfFault}
 use Rattle.wavelet_shelf.specs.declared.fault.ShelfFault.TheVariants.{Failed}
 use Rattle.wavelet_shelf.specs.declared.filed.Filed.{Filed}

@@ -5,7 +5,9 @@
 --     absent_before              its name isn't among those behind it
 --     IsSpreading                the containers that were taken are in the parts of their shards
 --     is_part                    a part with those of its shard
-use Rattle.std.proofs.Common.{◌≡◌, ◌≢◌, ◌↔◌, ℕ, zero, suc, ◌<◌, Bool, true, false, cond, List, [], ◌∷◌, ◌++◌, length, insert, take, drop, map, filter, set, slice_get, slice_index_or, slice_set, is_some, Option, Some, None, IsSome, IfSome, refl, sym, ap, subst, ◌∙◌, true≢false, arith, append-nil}
+--     alike_as, alike_another    a folder is like itself, and another of it is like it
+--     none_more, with_last       counts of shelves, where one more comes; sums_set, where one is another
+use Rattle.std.proofs.Common.{◌≡◌, ◌≢◌, ℕ, zero, suc, ◌+◌, ◌≤◌, ◌<◌, Bool, true, false, cond, List, [], ◌∷◌, ◌++◌, length, insert, take, drop, map, filter, set, slice_get, slice_index_or, slice_set, is_some, Option, Some, None, IsSome, IfSome, IsTrue, refl, sym, ap, subst, ◌∙◌, true≢false, arith, append-nil}
 use Rattle.std.specs.Cmp.Lexicographic.{bytes_decides}
 use Rattle.std.specs.List.{AllByRecursion}
 use Rattle.std.specs.Map.{lookup, keys_of}
@@ -20,18 +22,22 @@ use Rattle.wave_hash.specs.Chain.{zero_hash_of}
 use Rattle.wavelet_op.specs.Deltas.{DeltaOf}
 use Rattle.delta_history.specs.Copying.{AscendFrom, AreAscending}
 use Rattle.disk_model.specs.declared.disk.Disk as disk_of
+use Rattle.wave_outside.specs.Folders.{IsSame, IsAsBefore, FolderLog}
 use Rattle.wave_outside.specs.declared.folder.Folder as folder_of
 use Rattle.wavelet_container.specs.Containers.{history_of, IsHeld}
-use Rattle.wavelet_shelf.specs.Entries.{found, hosting, history_at, shown_by, IsPlace, IsPut, IsNamed, AreInOrder, FitsFolder, FitFolder, IsSafe}
+use Rattle.wavelet_shelf.specs.Entries.{found, hosting, history_at, shown_by, faults_of, faults_in, IsPlace, IsPut, IsNamed, AreInOrder, FitsFolder, FitFolder, IsSafe}
 use Rattle.wavelet_shelf.specs.FileNames.{file_name_of, first_byte, shard_of}
 use Rattle.wavelet_shelf.specs.Hosting.{Hosted}
-use Rattle.wavelet_shelf.specs.Parts.{is_in, entries_in, IsPart, HasSameRoom, IsLike, IsAddedTo, ArePartsOf}
-use Rattle.wavelet_shelf.specs.Shelves.{entries_of, in_folder, container_in}
+use Rattle.wavelet_shelf.specs.Parts.{is_in, entries_in, fault_sums, IsPart, IsAlike, AreAlike, IsLike, IsAddedTo, ArePartsOf}
+use Rattle.wavelet_shelf.specs.Shelves.{entries_of, in_folder, container_in, folder_faults, fault_sum}
 use Rattle.wavelet_shelf.specs.declared.filed.Filed.{Filed}
 use Rattle.wavelet_shelf.specs.declared.shelf.Shelf.{Shelf}
+use Rattle.wavelet_shelf.proofs.Loading.{as_it_is}
 use Rattle.wavelet_shelf.proofs.Names.{below_none, lower, any}
-use Rattle.wavelet_shelf.proofs.Placing.{found_above, all_last, all_front}
-use Rattle.wavelet_shelf.proofs.Shelving.{deltas_of}
+use Rattle.wavelet_shelf.proofs.Placing.{found_above, all_last, all_front, length_keys}
+use Rattle.wavelet_shelf.proofs.Shelving.{deltas_of, count_of, faults_total}
+use Rattle.wavelet_shelf.proofs.Still.{still_as}
+use Rattle.wavelet_shelf.proofs.Sums.{sum_put}
 
 -- ---- lists
 
@@ -199,22 +205,36 @@ map_cond : {X Y : Type 0} (f : X → Y) (t : Bool) (o : Option X) → option_map
 map_cond f true o = refl
 map_cond f false o = refl
 
-fits_like : {F D : Type 0} {disk : disk_of.Ghosts D} (room : F → List ℕ → Bool) (o p : Option F) (es : List (Key × Filed D disk)) → HasSameRoom room o p → FitFolder room o es → FitFolder room p es
-fits_like room None None es same fit = fit
-fits_like room None (Some g) es same fit = absurd same
-fits_like room (Some f) None es same fit = absurd same
-fits_like room (Some f) (Some g) [] same fit = tt
-fits_like room (Some f) (Some g) (e ∷ es) same fit = (same (file_name_of e.0) ∙ fit.0, fits_like room (Some f) (Some g) es same fit.1)
+module _ {F D : Type 0} (folder : folder_of.Ghosts F D) (disk : disk_of.Ghosts D) where
+  pub alike_as : (o : Option F) → AreAlike folder disk o o
+  alike_as None = tt
+  alike_as (Some f) = record { room = λ m. refl; still = still_as folder f; files = λ told m. as_it_is disk.view (folder.files f m) }
 
-there_like : {F : Type 0} (room : F → List ℕ → Bool) (o p : Option F) → HasSameRoom room o p → IsSome p ↔ IsSome o
-there_like room None None same = (λ s. s, λ s. s)
-there_like room None (Some g) same = absurd same
-there_like room (Some f) None same = absurd same
-there_like room (Some f) (Some g) same = (λ s. refl, λ s. refl)
+  pub alike_another : (f g : F) → IsSame (folder.room f) (folder.room g) → (IsTrue folder.tells → folder.log g ≡ folder.log f) → (IsTrue folder.tells → (m : List ℕ) → IsAsBefore disk.view (folder.files f m) (folder.files g m)) → IsAlike folder disk f g
+  alike_another f g room log files = record { room = room; still = λ told. ap (λ (l : FolderLog). l.entries) (log told); files = files }
+
+  fits_like : (o p : Option F) (es : List (Key × Filed D disk)) → AreAlike folder disk o p → FitFolder folder.room o es → FitFolder folder.room p es
+  fits_like None None es same fit = fit
+  fits_like None (Some g) es same fit = absurd same
+  fits_like (Some f) None es same fit = absurd same
+  fits_like (Some f) (Some g) [] same fit = tt
+  fits_like (Some f) (Some g) (e ∷ es) same fit = (same.room (file_name_of e.0) ∙ fit.0, fits_like (Some f) (Some g) es same fit.1)
+
+  there_like : (o p : Option F) → AreAlike folder disk o p → IsSome o → IsSome p
+  there_like None None same some = some
+  there_like None (Some g) same some = absurd same
+  there_like (Some f) None same some = absurd same
+  there_like (Some f) (Some g) same some = refl
 
 both : {S : Type 0} (P Q : S → Type 0) (o : Option S) → IfSome o P → IfSome o Q → IfSome o (λ s. P s × Q s)
 both P Q None p q = tt
 both P Q (Some s) p q = (p, q)
+
+module _ {D : Type 0} {disk : disk_of.Ghosts D} where
+  put_counted : (n : Key) (filed : Filed D disk) (es es' : List (Key × Filed D disk)) → IsPut n filed es es' → faults_in es' ≡ faults_in es + faults_of filed.container
+  put_counted n filed es es' put =
+      ap faults_in put.is ∙ faults_total (insert es put.at (n, filed)) ∙ sum_put count_of es put.at (n, filed) (subst (λ k. put.at ≤ k) (length_keys es) put.place.inside)
+      ∙ ap (λ m. m + faults_of filed.container) (sym (faults_total es))
 
 module _ {F D : Type 0} {folder : folder_of.Ghosts F D} {disk : disk_of.Ghosts D} where
   abbrev pub HasEntries : List (Key × Filed D disk) → List (Key × Filed D disk) → ℕ → Shelf F D folder disk → Type 0
@@ -226,6 +246,30 @@ module _ {F D : Type 0} {folder : folder_of.Ghosts F D} {disk : disk_of.Ghosts D
     pub split : all ≡ es ++ done
     pub each : (i : ℕ) → IfSome (slice_get now i) (HasEntries done es i)
     pub folders : map in_folder now ≡ map in_folder shelves
+    pub counted : fault_sums now ≡ fault_sums shelves + faults_in done
+
+  -- ---- counts
+
+  pub none_more : (shelves : List (Shelf F D folder disk)) (s : Shelf F D folder disk) → fault_sums shelves ≡ 0 → fault_sum s ≡ 0 → fault_sums (shelves ++ s ∷ []) ≡ 0
+  none_more [] s none here = omega (arith, here)
+  none_more (x ∷ shelves) s none here = let rest = none_more shelves s (omega (arith, none)) here in omega (arith, none, rest)
+
+  pub with_last : (shelves : List (Shelf F D folder disk)) (s : Shelf F D folder disk) (n : ℕ) → fault_sums shelves ≡ 0 → fault_sum s ≡ n → fault_sums (shelves ++ s ∷ []) ≡ n
+  with_last [] s n none here = omega (arith, here)
+  with_last (x ∷ shelves) s n none here = let rest = with_last shelves s n (omega (arith, none)) here in omega (arith, none, rest)
+
+  sums_set : (shelves : List (Shelf F D folder disk)) (p : ℕ) (old new : Shelf F D folder disk) → slice_get shelves p ≡ Some old → fault_sums (set shelves p new) + fault_sum old ≡ fault_sums shelves + fault_sum new
+  sums_set [] p old new was = no_value was
+  sums_set (x ∷ shelves) zero old new was = let same : fault_sum x ≡ fault_sum old = ap fault_sum (same_Some was) in omega (arith, same)
+  sums_set (x ∷ shelves) (suc p) old new was = let rest = sums_set shelves p old new was in omega (arith, rest)
+
+  added_counted : (n : Key) (filed : Filed D disk) (shelves after : List (Shelf F D folder disk)) → IsAddedTo n filed shelves after → fault_sums after ≡ fault_sums shelves + faults_of filed.container
+  added_counted n filed shelves after x =
+      let one = sums_set shelves (shard_of n) x.old x.new x.was in
+      let two = put_counted n filed (entries_of x.old) (entries_of x.new) x.put in
+      let same = ap (folder_faults folder.faults) x.folder_stays in
+      let is : fault_sums after ≡ fault_sums (set shelves (shard_of n) x.new) = ap fault_sums x.is in
+      omega (arith, one, two, same, is)
 
   pub start_spreading : (all : List (Key × Filed D disk)) (shelves : List (Shelf F D folder disk)) → length shelves ≡ 16 → AllByRecursion (λ s. entries_of s ≡ []) shelves → AllByRecursion (λ s. FitFolder folder.room (in_folder s) all) shelves → IsSpreading all all shelves shelves
   start_spreading all shelves sixteen none fit = record {
@@ -234,6 +278,7 @@ module _ {F D : Type 0} {folder : folder_of.Ghosts F D} {disk : disk_of.Ghosts D
     split = sym (append-nil all);
     each = λ i. both (λ s. entries_of s ≡ []) (λ s. FitFolder folder.room (in_folder s) all) (slice_get shelves i) (each_of (λ s. entries_of s ≡ []) shelves none i) (each_of (λ s. FitFolder folder.room (in_folder s) all) shelves fit i);
     folders = refl;
+    counted = omega arith;
   }
 
   module _ (all es es' : List (Key × Filed D disk)) (shelves now : List (Shelf F D folder disk)) (n : Key) (filed : Filed D disk) (is : es ≡ es' ++ (n, filed) ∷ []) (a : AreAscending (keys_of all)) (p : IsSpreading all es shelves now) where
@@ -258,6 +303,8 @@ module _ {F D : Type 0} {folder : folder_of.Ghosts F D} {disk : disk_of.Ghosts D
 
     pub spreading : (after : List (Shelf F D folder disk)) → IsAddedTo n filed now after → IsSpreading all es' shelves after
     spreading after x =
+        let more = added_counted n filed now after x in
+        let before = p.counted in
         let old = at_place (HasEntries p.done es (shard_of n)) (slice_get now (shard_of n)) x.old x.was (p.each (shard_of n)) in
         record {
           sixteen = ap length x.is ∙ length-set now (shard_of n) x.new ∙ p.sixteen;
@@ -268,6 +315,7 @@ module _ {F D : Type 0} {folder : folder_of.Ghosts F D} {disk : disk_of.Ghosts D
               (put_in_part (shard_of n) n filed p.done (entries_of x.old) (entries_of x.new) old.0 behind (own_shard n) x.put, subst (λ o. FitFolder folder.room o es') (sym x.folder_stays) (front_fits (in_folder x.old) old.1))
               i);
           folders = ap (map in_folder) x.is ∙ set_map in_folder now (shard_of n) x.old x.new x.was x.folder_stays ∙ p.folders;
+          counted = omega (arith, more, before);
         }
 
   pub added_to : (n : Key) (filed : Filed D disk) (shelves : List (Shelf F D folder disk)) (place : ℕ) (old new : Shelf F D folder disk) → length shelves ≡ 16 → place ≡ shard_of n → old ≡ slice_index_or shelves place old
@@ -288,37 +336,38 @@ module _ {F D : Type 0} {folder : folder_of.Ghosts F D} {disk : disk_of.Ghosts D
   all_spread all es shelves now none p = record {
     each = λ i. if_some (HasEntries p.done es i) (λ s. entries_of s ≡ entries_in i all) (slice_get now i) (λ s has. has.0 ∙ ap (entries_in i) (sym (p.split ∙ ap (λ l. l ++ p.done) none))) (p.each i);
     folders = p.folders;
+    counted = p.counted ∙ ap (λ l. fault_sums shelves + faults_in l) (sym (p.split ∙ ap (λ l. l ++ p.done) none));
   }
 
   -- ---- parts
 
   pub all_fit : (o : Option F) (es : List (Key × Filed D disk)) (shelves : List (Shelf F D folder disk)) → FitFolder folder.room o es → AllByRecursion (IsLike o) shelves → AllByRecursion (λ s. FitFolder folder.room (in_folder s) es) shelves
   all_fit o es [] fit like = tt
-  all_fit o es (s ∷ shelves) fit like = (fits_like folder.room o (in_folder s) es like.0.room fit, all_fit o es shelves fit like.1)
+  all_fit o es (s ∷ shelves) fit like = (fits_like folder disk o (in_folder s) es like.0.like fit, all_fit o es shelves fit like.1)
 
   pub all_none : (o : Option F) (shelves : List (Shelf F D folder disk)) → AllByRecursion (IsLike o) shelves → AllByRecursion (λ s. entries_of s ≡ []) shelves
   all_none o [] like = tt
   all_none o (s ∷ shelves) like = (like.0.none, all_none o shelves like.1)
 
-  all_room : (o : Option F) (shelves : List (Shelf F D folder disk)) → AllByRecursion (IsLike o) shelves → AllByRecursion (λ s. HasSameRoom folder.room o (in_folder s)) shelves
-  all_room o [] like = tt
-  all_room o (s ∷ shelves) like = (like.0.room, all_room o shelves like.1)
+  all_alike : (o : Option F) (shelves : List (Shelf F D folder disk)) → AllByRecursion (IsLike o) shelves → AllByRecursion (λ s. AreAlike folder disk o (in_folder s)) shelves
+  all_alike o [] like = tt
+  all_alike o (s ∷ shelves) like = (like.0.like, all_alike o shelves like.1)
 
-  is_part : (s p : Shelf F D folder disk) (i : ℕ) → entries_of p ≡ entries_in i (entries_of s) → IsSome (in_folder p) ↔ IsSome (in_folder s) → IsPart s i p
-  is_part s p i is there =
+  is_part : (s p : Shelf F D folder disk) (i : ℕ) → entries_of p ≡ entries_in i (entries_of s) → AreAlike folder disk (in_folder s) (in_folder p) → IsPart s i p
+  is_part s p i is like =
       let here : (n : Key) → container_in p n ≡ cond (is_in i n) (container_in s n) None = λ n. ap (λ l. found l n) is ∙ ap (λ o. option_map (λ (x : Filed D disk). x.container) o) (found_in i (entries_of s) n) ∙ map_cond (λ (x : Filed D disk). x.container) (is_in i n) (lookup (same_text n) (entries_of s)) in
       let was : (n : Key) → IsSome (container_in p n) → IsSome (container_in s n) = λ n some. some_of (is_in i n) (container_in s n) (subst (λ o. IsSome o) (here n) some) in
       record {
         containers = here;
         hosted = ap hosting is ∙ hosted_in i (entries_of s);
-        folder_there = there;
-        kept = λ k. record { told = k.told; filed = there.1 k.filed; held = subst (AllByRecursion (λ e. IsHeld e.1.container)) (sym is) (all_in (λ e. IsHeld e.1.container) i (entries_of s) k.held) };
+        folder_like = like;
+        kept = λ k. record { told = k.told; filed = there_like folder disk (in_folder s) (in_folder p) like k.filed; held = subst (AllByRecursion (λ e. IsHeld e.1.container)) (sym is) (all_in (λ e. IsHeld e.1.container) i (entries_of s) k.held) };
         settled = λ safe. subst (AllByRecursion (λ e. IsSafe e.1.container)) (sym is) (all_in (λ e. IsSafe e.1.container) i (entries_of s) safe);
         apart = λ apart n m one two same. apart n m (was n one) (was m two) same;
       }
 
   pub are_parts : (s : Shelf F D folder disk) (shelves parts : List (Shelf F D folder disk)) → AllByRecursion (IsLike (in_folder s)) shelves → ArePartsOf (entries_of s) shelves parts → (i : ℕ) → IfSome (slice_get parts i) (IsPart s i)
   are_parts s shelves parts like x i =
-      if_some (λ p. (entries_of p ≡ entries_in i (entries_of s)) × HasSameRoom folder.room (in_folder s) (in_folder p)) (IsPart s i) (slice_get parts i)
-      (λ p has. is_part s p i has.0 (there_like folder.room (in_folder s) (in_folder p) has.1))
-      (both (λ p. entries_of p ≡ entries_in i (entries_of s)) (λ p. HasSameRoom folder.room (in_folder s) (in_folder p)) (slice_get parts i) (x.each i) (all_same in_folder (HasSameRoom folder.room (in_folder s)) shelves parts x.folders (all_room (in_folder s) shelves like) i))
+      if_some (λ p. (entries_of p ≡ entries_in i (entries_of s)) × AreAlike folder disk (in_folder s) (in_folder p)) (IsPart s i) (slice_get parts i)
+      (λ p has. is_part s p i has.0 has.1)
+      (both (λ p. entries_of p ≡ entries_in i (entries_of s)) (λ p. AreAlike folder disk (in_folder s) (in_folder p)) (slice_get parts i) (x.each i) (all_same in_folder (AreAlike folder disk (in_folder s)) shelves parts x.folders (all_alike (in_folder s) shelves like) i))

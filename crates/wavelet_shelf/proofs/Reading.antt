@@ -1,6 +1,8 @@
 -- A folder whose files were looked at.
 --     loaded_ok, loaded_err, unlisted      each was read; one wasn't; they weren't listed
-use Rattle.std.proofs.Common.{◌≡◌, ◌≢◌, ◌⊎◌, ⊎_elim, ℕ, zero, suc, ◌+◌, ◌^◌, ◌<◌, ◌≤◌, min, true, false, List, [], ◌∷◌, ◌++◌, length, take, get_or, map, Option, Some, None, Ok, Err, Result, IsSome, IfSome, IsTrue, is_some, refl, sym, ap, subst, ◌∙◌, true≢false, arith}
+use Rattle.std.proofs.Common.{Less, ◌≡◌, ◌≢◌, ◌⊎◌, ⊎_elim, ℕ, zero, suc, ◌+◌, ◌^◌, ◌<◌, ◌≤◌, min, true, false, List, [], ◌∷◌, ◌++◌, length, take, get_or, map, Option, Some, None, Ok, Err, Result, IsSome, IfSome, IsTrue, is_some, refl, sym, ap, subst, ◌∙◌, true≢false, arith}
+use Rattle.std.specs.Cmp.Lexicographic.{slice_cmp}
+use Rattle.std.specs.Ordering.{nat_cmp}
 use Rattle.std.specs.List.{AllByRecursion}
 use Rattle.std.specs.List.{take-map}
 use Rattle.std.proofs.lemmas.List.{map-append, take_more}
@@ -11,19 +13,19 @@ use Rattle.delta_history.specs.Copying.{AreAscending}
 use Rattle.disk_model.specs.declared.disk.Disk as disk_of
 use Rattle.delta_journal.specs.File.{NamedOnce}
 use Rattle.wave_outside.specs.Counts.{Rose}
-use Rattle.wave_outside.specs.Folders.{IsSame}
+use Rattle.wave_outside.specs.Folders.{IsSame, IsAsBefore}
 use Rattle.wave_outside.specs.declared.folder.Folder as folder_of
 use Rattle.wavelet_container.specs.Records.{StandsForHistory}
 use Rattle.wavelet_shelf.specs.Entries.{found, faults_in, hosting, AreInOrder}
 use Rattle.wavelet_shelf.specs.Faults.{damage_of}
-use Rattle.wavelet_shelf.specs.FileNames.{file_name_of}
-use Rattle.wavelet_shelf.specs.Folders.{most_faults, is_among, faults_with, ArePutBack, IsSkipped, IsFileRead, IsFileStep, IsLoading, IsAllStep, IsLoadedAs}
+use Rattle.wavelet_shelf.specs.FileNames.{file_name_of, is_file_name}
+use Rattle.wavelet_shelf.specs.Folders.{most_faults, is_among, faults_with, ArePutBack, IsSkipped, IsFileRead, IsFileStep, IsFirstAmong, IsLoading, IsAllStep, IsLoadedAs}
 use Rattle.wavelet_shelf.specs.Hosting.{deltas_in}
-use Rattle.wavelet_shelf.specs.Loads.{IsAsBefore, IsReadFrom, IsRefusedFile}
+use Rattle.wavelet_shelf.specs.Loads.{IsReadFrom, IsRefusedFile, IsSound, IsFirstRefused}
 use Rattle.wavelet_shelf.specs.declared.fault.ShelfFault.{ShelfFault}
 use Rattle.wavelet_shelf.specs.declared.fault.ShelfFault.TheVariants.{Failed}
 use Rattle.wavelet_shelf.specs.declared.filed.Filed.{Filed}
-use Rattle.wavelet_shelf.proofs.Among.{ascend_apart}
+use Rattle.wavelet_shelf.proofs.Among.{ascend_apart, before_next}
 use Rattle.wavelet_shelf.proofs.Loading.{as_it_is, passed_over, came_back, went_past, went_on}
 use Rattle.wavelet_shelf.proofs.Refusing.{after_refusal}
 use Rattle.wavelet_shelf.proofs.Shelving.{same_Err}
@@ -50,9 +52,19 @@ unlisted_later : (f g m : ℕ) → f ≤ g → min (f + 0) m ≤ min (g + 0) m
 unlisted_later f g m le = omega (arith, le)
 
 module _ {F D : Type 0} (folder : folder_of.Ghosts F D) (disk : disk_of.Ghosts D) (f g : F) (same : IsTrue disk.tells → IsSame (folder.files f) (folder.files g)) (counts : folder.faults f ≤ folder.faults g) where
-  damage_before : (o : Option (List ℕ × ℕ)) → IfSome o (λ d. IsTrue disk.tells → IsRefusedFile disk.view (folder.files g d.0) d.0 d.1) → IfSome o (λ d. IsTrue disk.tells → IsRefusedFile disk.view (folder.files f d.0) d.0 d.1)
-  damage_before None damage = tt
-  damage_before (Some d) damage = λ told. subst (λ o. IsRefusedFile disk.view o d.0 d.1) (same told d.0) (damage told)
+  -- a file that isn't there isn't refused
+  sound_there : IsTrue disk.tells → (m : List ℕ) (o : Option D) → folder.files f m ≡ o → (IsSome (folder.files f m) → IsSound disk.view (folder.files g m) m) → IsSound disk.view o m
+  sound_there told m None is k = λ named offset refused. refused
+  sound_there told m (Some x) is k = subst (λ o. IsSound disk.view o m) (same told m ∙ is) (k (ap is_some is))
+
+  damage_before : (names : List (List ℕ)) → (IsTrue disk.tells → (m : List ℕ) → IsSome (folder.files f m) → is_among names m ≡ true) → (o : Option (List ℕ × ℕ))
+      → IfSome o (λ d. IsTrue disk.tells → IsFirstAmong folder disk g names d.0 d.1) → IfSome o (λ d. IsTrue disk.tells → IsFirstRefused disk.view (folder.files f) d.0 d.1)
+  damage_before names listed None damage = tt
+  damage_before names listed (Some d) damage = λ told. record {
+    named = (damage told).named;
+    refused = subst (λ o. IsRefusedFile disk.view o d.0 d.1) (same told d.0) (damage told).refused;
+    first = λ l less. sound_there told l (folder.files f l) refl (λ there. (damage told).first l (listed told l there) less);
+  }
 
   pub loaded_ok : (h : F) (es : List (Key × Filed D disk)) (names : List (List ℕ)) → (IsTrue disk.tells → (m : List ℕ) → IsSome (folder.files f m) → is_among names m ≡ true) → IsAllStep folder g h es names (Ok tt) → IsLoadedAs folder f h es (Ok tt)
   loaded_ok h es names listed step = record {
@@ -61,6 +73,7 @@ module _ {F D : Type 0} (folder : folder_of.Ghosts F D) (disk : disk_of.Ghosts D
       each = λ n ds good some. each_of told n ds (folder.files f (file_name_of n)) refl
           (λ there. subst (λ o. IfSome o (λ d. StandsForHistory n ds (disk.view d).seen → deltas_in (hosting es) n ≡ ds)) (same told (file_name_of n)) (step.loading.each told n ds good some (listed told (file_name_of n) there)));
     };
+    sound = λ told m. sound_there told m (folder.files f m) refl (λ there. step.loading.sound told m (listed told m there));
     held = λ told. (step.loading.looked.held told, step.loading.looked.safe told);
     apart = step.loading.looked.apart;
     damaged = tt;
@@ -74,13 +87,14 @@ module _ {F D : Type 0} (folder : folder_of.Ghosts F D) (disk : disk_of.Ghosts D
       each_of told n ds None is k = tt
       each_of told n ds (Some x) is k = subst (λ o. IfSome o (λ d. StandsForHistory n ds (disk.view d).seen → deltas_in (hosting es) n ≡ ds)) is (k (ap is_some is))
 
-  pub loaded_err : (k h : F) (es es' : List (Key × Filed D disk)) (names : List (List ℕ)) (e : ShelfFault) → AreAscending (keys_of es) → IsAllStep folder g k es names (Err e) → ArePutBack folder k h es → es' ≡ [] → IsLoadedAs folder f h es' (Err e)
-  loaded_err k h es es' names e a step back none = subst (λ l. IsLoadedAs folder f h l (Err e)) (sym none) (record {
+  pub loaded_err : (k h : F) (es es' : List (Key × Filed D disk)) (names : List (List ℕ)) (e : ShelfFault) → (IsTrue disk.tells → (m : List ℕ) → IsSome (folder.files f m) → is_among names m ≡ true) → AreAscending (keys_of es) → IsAllStep folder g k es names (Err e) → ArePutBack folder k h es → es' ≡ [] → IsLoadedAs folder f h es' (Err e)
+  loaded_err k h es es' names e listed a step back none = subst (λ l. IsLoadedAs folder f h l (Err e)) (sym none) (record {
     read = tt;
     all = tt;
+    sound = tt;
     held = tt;
     apart = tt;
-    damaged = damage_before (damage_of e) step.damaged;
+    damaged = damage_before names listed (damage_of e) step.damaged;
     none = refl;
     as_before = λ told m not. subst (λ o. IsAsBefore disk.view o (folder.files h m)) (same told m) (after_refusal folder g k h es step.done a step.looked back told m);
     later = later_back (folder.faults f) (folder.faults g) (folder.faults h) (faults_in es) (folder.faults k) most_faults counts step.later back.counted;
@@ -91,9 +105,10 @@ module _ {F D : Type 0} (folder : folder_of.Ghosts F D) (disk : disk_of.Ghosts D
   unlisted es e none failed whole = subst (λ l. IsLoadedAs folder f g l (Err e)) (sym none) (record {
     read = tt;
     all = tt;
+    sound = tt;
     held = tt;
     apart = tt;
-    damaged = subst (λ o. IfSome o (λ d. IsTrue disk.tells → IsRefusedFile disk.view (folder.files f d.0) d.0 d.1)) (sym whole) tt;
+    damaged = subst (λ o. IfSome o (λ d. IsTrue disk.tells → IsFirstRefused disk.view (folder.files f) d.0 d.1)) (sym whole) tt;
     none = refl;
     as_before = λ told m not. subst (IsAsBefore disk.view (folder.files f m)) (sym (same told m)) (as_it_is disk.view (folder.files f m));
     later = unlisted_later (folder.faults f) (folder.faults g) most_faults counts;
@@ -120,6 +135,12 @@ module _ {X : Type 0} (name : X → Key) where
       let long = map_length xs in
       subst (λ l. is_among l (name x) ≡ false) (take-map name k xs) (subst (λ m. is_among (take k (map name xs)) m ≡ false) (at_place xs k x lt ∙ ap name (sym is)) (ascend_apart (map name xs) k (name x) a (omega (arith, lt, long))))
 
+  pub before_at : (xs : List X) (k : ℕ) (x : X) (l : Key) → AreAscending (map name xs) → k < length xs → x ≡ get_or xs k x → is_among (map name xs) l ≡ true → slice_cmp nat_cmp l (name x) ≡ Less → is_among (map name (take k xs)) l ≡ true
+  before_at xs k x l a lt is among less =
+      let long = map_length xs in
+      let here : get_or (map name xs) k (name x) ≡ name x = at_place xs k x lt ∙ ap name (sym is) in
+      subst (λ ns. is_among ns l ≡ true) (take-map name k xs) (before_next (map name xs) k (name x) l a (omega (arith, lt, long)) among (subst (λ m. slice_cmp nat_cmp l m ≡ Less) (sym here) less))
+
   pub all_at : (P : Key → Type 0) (xs : List X) (k : ℕ) (x : X) → AllByRecursion P (map name xs) → k < length xs → x ≡ get_or xs k x → P (name x)
   all_at P xs k x all lt is = subst (λ z. P (name z)) (sym is) (go xs k all lt)
     where
@@ -141,8 +162,8 @@ module _ {F D : Type 0} (folder : folder_of.Ghosts F D) {disk : disk_of.Ghosts D
       (λ p. went_on folder f g h es es' done m new y p order order' laws bounded r.others)
       r.what
 
-  pub failed_all : (names : List (List ℕ)) (e : ShelfFault) → (IsTrue disk.tells → IsSome (folder.files f m)) → faults_with folder {disk = disk} f [] ≤ faults_with folder g es → IsFileStep folder g h m es es' (Err e) → IsAllStep folder f h es' names (Err e)
-  failed_all names e there later step = record {
+  pub failed_all : (names : List (List ℕ)) (e : ShelfFault) → is_file_name m ≡ true → ((l : List ℕ) → is_among names l ≡ true → slice_cmp nat_cmp l m ≡ Less → is_among done l ≡ true) → (IsTrue disk.tells → IsSome (folder.files f m)) → faults_with folder {disk = disk} f [] ≤ faults_with folder g es → IsFileStep folder g h m es es' (Err e) → IsAllStep folder f h es' names (Err e)
+  failed_all names e named below there later step = record {
     done = done ++ m ∷ [];
     looked = came_back folder f g h es es' done m new y step.back.0 (there_still there) step.back.1;
     loading = tt;
@@ -151,9 +172,13 @@ module _ {F D : Type 0} (folder : folder_of.Ghosts F D) {disk : disk_of.Ghosts D
     failed = λ is. rise_on (faults_with folder {disk = disk} f []) (faults_with folder g es) (faults_with folder h es') most_faults later (step.failed is);
   }
     where
-      told_damage : (o : Option (List ℕ × ℕ)) → IfSome o (λ d. (d.0 ≡ m) × (IsTrue disk.tells → IsRefusedFile disk.view (folder.files g m) m d.1)) → IfSome o (λ d. IsTrue disk.tells → IsRefusedFile disk.view (folder.files f d.0) d.0 d.1)
+      told_damage : (o : Option (List ℕ × ℕ)) → IfSome o (λ d. (d.0 ≡ m) × (IsTrue disk.tells → IsRefusedFile disk.view (folder.files g m) m d.1)) → IfSome o (λ d. IsTrue disk.tells → IsFirstAmong folder disk f names d.0 d.1)
       told_damage None t = tt
-      told_damage (Some d) t = λ told. subst (λ k. IsRefusedFile disk.view (folder.files f k) k d.1) (sym t.0) (subst (λ o. IsRefusedFile disk.view o m d.1) (y.looked.untouched told m new) (t.1 told))
+      told_damage (Some d) t = λ told. subst (λ k. IsFirstAmong folder disk f names k d.1) (sym t.0) (record {
+        named = named;
+        refused = subst (λ o. IsRefusedFile disk.view o m d.1) (y.looked.untouched told m new) (t.1 told);
+        first = λ l among less. y.sound told l (below l among less);
+      })
 
       le_on : (a b c : ℕ) → a ≤ b → b ≤ c → a ≤ c
       le_on a b c one two = omega (arith, one, two)

@@ -11,14 +11,14 @@ use Rattle.doc_items.specs.Maps.{Key, same_text}
 use Rattle.delta_history.specs.Copying.{AreAscending}
 use Rattle.disk_model.specs.declared.disk.Disk as disk_of
 use Rattle.delta_journal.specs.Journal.{on_disk}
-use Rattle.wave_outside.specs.Folders.{IsPutBack}
+use Rattle.wave_outside.specs.Folders.{IsPutBack, IsAsBefore}
 use Rattle.wave_outside.specs.declared.folder.Folder as folder_of
 use Rattle.wavelet_container.specs.Containers.{journal_of}
 use Rattle.wavelet_container.specs.declared.container.Container.{Container}
 use Rattle.wavelet_shelf.specs.Entries.{found}
 use Rattle.wavelet_shelf.specs.FileNames.{file_name_of}
 use Rattle.wavelet_shelf.specs.Folders.{IsBack, ArePutBack, IsLooked}
-use Rattle.wavelet_shelf.specs.Loads.{IsAsBefore, IsReadFrom}
+use Rattle.wavelet_shelf.specs.Loads.{IsReadFrom}
 use Rattle.wavelet_shelf.specs.declared.filed.Filed.{Filed}
 use Rattle.wavelet_shelf.proofs.Names.{own, any, below_none, decided, same_or_not}
 use Rattle.wavelet_shelf.proofs.Placing.{found_above}

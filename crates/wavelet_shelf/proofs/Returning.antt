@@ -37,7 +37,7 @@ back_counted f g h a s m one old = omega (arith, one, old)
 
 module _ {F D : Type 0} (folder : folder_of.Ghosts F D) {disk : disk_of.Ghosts D} where
   pub nothing_back : (f : F) → ArePutBack folder {disk = disk} f f []
-  nothing_back f = record { back = λ told apart. tt; others = λ told m not. refl; room = λ m. refl; counted = omega arith }
+  nothing_back f = record { back = λ told apart. tt; others = λ told m not. refl; room = λ m. refl; still = λ told. refl; counted = omega arith }
 
   still_back : (g h : F) (m : List ℕ) (ys : List (Key × Filed D disk)) → IsElsewhere m (folder.files g) (folder.files h) → AllByRecursion (λ y. file_name_of y.0 ≢ m) ys → AllByRecursion (IsBack folder g) ys → AllByRecursion (IsBack folder h) ys
   still_back g h m [] others apart back = tt
@@ -51,6 +51,7 @@ module _ {F D : Type 0} (folder : folder_of.Ghosts F D) {disk : disk_of.Ghosts D
     back = λ told apart. (one.there told, still_back g h (file_name_of e.0) done (one.others told) apart.0 (old.back told apart.1));
     others = λ told m not. one.others told m not.0 ∙ old.others told m not.1;
     room = λ m. one.room m ∙ old.room m;
+    still = λ told. one.still told ∙ old.still told;
     counted = back_counted (folder.faults f) (folder.faults g) (folder.faults h) _ (faults_in done) most_faults one.counted old.counted;
   }
 

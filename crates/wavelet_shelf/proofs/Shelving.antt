@@ -4,7 +4,7 @@
 --     after_nothing       nothing was accepted where the name isn't there
 --     after_fault         nothing was answered, and the folder may have failed
 --     apart_after         where no name has the file of the new one, no two names have one file
-use Rattle.std.proofs.Common.{◌≡◌, ◌≢◌, ◌==◌, ⊎_elim, ◌↔◌, ℕ, ◌+◌, ◌-◌, ◌^◌, ◌≤◌, min, Bool, true, false, List, [], ◌∷◌, ◌++◌, length, insert, Option, Some, None, Ok, Err, IsSome, IfSome, is_some, IfOk, Result, string_bytes, refl, sym, ap, subst, ◌∙◌, arith, le_refl, append-nil, true≢false}
+use Rattle.std.proofs.Common.{◌≡◌, ◌≢◌, ◌==◌, ⊎_elim, ℕ, ◌+◌, ◌-◌, ◌^◌, ◌≤◌, min, Bool, true, false, List, [], ◌∷◌, ◌++◌, length, insert, Option, Some, None, Ok, Err, IsSome, IfSome, is_some, IfOk, Result, string_bytes, refl, sym, ap, subst, ◌∙◌, arith, le_refl, append-nil, true≢false}
 use Rattle.std.specs.Result.{IsErrOf, IsOk}
 use Rattle.std.specs.List.{position_or_len}
 use Rattle.std.specs.Map.{lookup, keys_of, set_value}
@@ -33,6 +33,7 @@ use Rattle.wavelet_container.specs.declared.fault.SubmitFault.{SubmitFault}
 use Rattle.wavelet_container.specs.declared.fault.SubmitFault.TheVariants.{DiskFault}
 use Rattle.wavelet_shelf.specs.Entries.{found, shown, hosting, IsNamed, AreInOrder, IsPut, faults_of, faults_in, AreHeld, AreSafe, IsSafe, HaveRoom, FitsFolder, FitFolder}
 use Rattle.wavelet_shelf.specs.FileNames.{file_name_of}
+use Rattle.wavelet_shelf.specs.Folders.{IsUsedIn}
 use Rattle.wavelet_shelf.specs.Hosting.{deltas_in, with_added, judged_in}
 use Rattle.wavelet_shelf.specs.Shelves.{entries_of, in_folder, container_in, hosted_of, folder_faults, fault_count, IsKept, AreApart}
 use Rattle.wavelet_shelf.specs.Steps.{IsTaken, IsAnswered, IsHosted}
@@ -41,6 +42,7 @@ use Rattle.wavelet_shelf.specs.declared.shelf.Shelf.{Shelf}
 use Rattle.wavelet_shelf.proofs.Answering.{name_after}
 use Rattle.wavelet_shelf.proofs.Names.{same_or_not}
 use Rattle.wavelet_shelf.proofs.Placing.{deltas_hosting, after_set, same_set, after_put, none_put, all_set, all_put, all_found, found_set, others_set, found_put, others_put, length_keys, keys_ascend, front_ascends, all_front, place, put_at}
+use Rattle.wavelet_shelf.proofs.Still.{used_as, used_there}
 use Rattle.wavelet_shelf.proofs.Sums.{total, sum_set, sum_has, sum_put, sum_later, sum_rose}
 
 no_cons : {X T : Type 0} {x : X} {xs : List X} → [] ≡ x ∷ xs → T
@@ -170,7 +172,7 @@ module _ {F D : Type 0} {folder : folder_of.Ghosts F D} {disk : disk_of.Ghosts D
         failed = λ e. subst (λ o. Rose (fault_count a) (min (folder_faults folder.faults o + faults_in (entries_of b)) (2 ^ 64 - 1))) (sym same)
             (sum_rose (folder_faults folder.faults (in_folder a)) (faults_of c) (faults_of x.new.container) (faults_in es) (faults_in (entries_of b)) (2 ^ 64 - 1) sums (subst (λ m. faults_of c ≤ m) (sym (faults_total es)) (sum_has count_of es n x.old x.was)) (x.taken.failed e));
         disk_there = λ e. folder_there folder.room (in_folder a) es n x.old x.was fit (x.taken.filed e);
-        same_folder = (λ some. subst (λ o. IsSome o) (sym same) some, λ some. subst (λ o. IsSome o) same some);
+        used = subst (λ o. IsUsedIn folder (λ m. m ≡ file_name_of n) (in_folder a) o) (sym same) (used_as folder (λ m. m ≡ file_name_of n) (in_folder a));
       }
 
   -- what is known of the first container of a name
@@ -184,7 +186,7 @@ module _ {F D : Type 0} {folder : folder_of.Ghosts F D} {disk : disk_of.Ghosts D
   put_grown filed c order put empty None same = ap hosting put.is ∙ none_put deltas_of (entries_of a) n filed put.at order.0 put.absent put.place (same.deltas ∙ empty)
   put_grown filed c order put empty (Some d) grown = ap hosting put.is ∙ after_put deltas_of (entries_of a) n filed put.at d order.0 put.absent put.place (grown.deltas ∙ ap (λ ds. ds ++ d ∷ []) empty)
 
-  pub after_first : (r : Result Verdict SubmitFault) (c : Container D disk) (filed : Filed D disk) → AreInOrder (entries_of a) → (IsErrOf r DiskFault → IsSome (in_folder a)) → (IsSome (in_folder a) ↔ IsSome (in_folder b)) → folder_faults folder.faults (in_folder a) ≤ folder_faults folder.faults (in_folder b)
+  pub after_first : (r : Result Verdict SubmitFault) (c : Container D disk) (filed : Filed D disk) → AreInOrder (entries_of a) → (IsErrOf r DiskFault → IsSome (in_folder a)) → IsUsedIn folder (λ m. m ≡ file_name_of n) (in_folder a) (in_folder b) → folder_faults folder.faults (in_folder a) ≤ folder_faults folder.faults (in_folder b)
       → IsFirst c → IsTaken s t c filed.container r → IsPut n filed (entries_of a) (entries_of b) → IsHosted n s t a b r
   after_first r c filed order there same counts first taken put =
       let es = entries_of a in
@@ -201,7 +203,7 @@ module _ {F D : Type 0} {folder : folder_of.Ghosts F D} {disk : disk_of.Ghosts D
         others = λ m other. ap (λ l. found l m) put.is ∙ ap (λ o. option_map (λ f. f.container) o) (others_put es n filed put.at m other inside);
         kept = λ k. record {
           told = k.told;
-          filed = same.0 k.filed;
+          filed = (used_there folder (λ m. m ≡ file_name_of n) (in_folder a) (in_folder b) same).0 k.filed;
           held = subst AreHeld (sym put.is) (all_put deltas_of (λ e. IsHeld e.1.container) es put.at (n, filed) inside k.held (taken.held (first.held k)));
         };
         safe = on_ok_weaker r
@@ -213,22 +215,22 @@ module _ {F D : Type 0} {folder : folder_of.Ghosts F D} {disk : disk_of.Ghosts D
         later = first_later (folder_faults folder.faults (in_folder a)) (folder_faults folder.faults (in_folder b)) (faults_of filed.container) (faults_in es) (faults_in (entries_of b)) (2 ^ 64 - 1) sums counts;
         failed = λ e. first_rose (folder_faults folder.faults (in_folder a)) (folder_faults folder.faults (in_folder b)) (faults_of c) (faults_of filed.container) (faults_in es) (faults_in (entries_of b)) (2 ^ 64 - 1) sums counts first.unfailed (taken.failed e);
         disk_there = there;
-        same_folder = same;
+        used = same;
       }
 
-  pub after_fault : (e : SubmitFault) → entries_of b ≡ entries_of a → (e ≡ DiskFault → IsSome (in_folder a)) → (IsSome (in_folder a) ↔ IsSome (in_folder b)) → folder_faults folder.faults (in_folder a) ≤ folder_faults folder.faults (in_folder b) → (e ≡ DiskFault → Rose (folder_faults folder.faults (in_folder a)) (folder_faults folder.faults (in_folder b))) → IsHosted n s t a b (Err e)
+  pub after_fault : (e : SubmitFault) → entries_of b ≡ entries_of a → (e ≡ DiskFault → IsSome (in_folder a)) → IsUsedIn folder (λ m. m ≡ file_name_of n) (in_folder a) (in_folder b) → folder_faults folder.faults (in_folder a) ≤ folder_faults folder.faults (in_folder b) → (e ≡ DiskFault → Rose (folder_faults folder.faults (in_folder a)) (folder_faults folder.faults (in_folder b))) → IsHosted n s t a b (Err e)
   after_fault e is there same counts rose = record {
     verdict = tt;
     grown = tt;
     same = ap hosting is;
     others = λ m other. ap (λ l. found l m) is;
-    kept = λ k. record { told = k.told; filed = same.0 k.filed; held = subst AreHeld (sym is) k.held };
+    kept = λ k. record { told = k.told; filed = (used_there folder (λ m. m ≡ file_name_of n) (in_folder a) (in_folder b) same).0 k.filed; held = subst AreHeld (sym is) k.held };
     safe = tt;
     settled = tt;
     later = same_later (folder_faults folder.faults (in_folder a)) (folder_faults folder.faults (in_folder b)) (faults_in (entries_of a)) (faults_in (entries_of b)) (2 ^ 64 - 1) (ap faults_in is) counts;
     failed = λ r. same_rose (folder_faults folder.faults (in_folder a)) (folder_faults folder.faults (in_folder b)) (faults_in (entries_of a)) (faults_in (entries_of b)) (2 ^ 64 - 1) (ap faults_in is) (rose (same_Err r));
     disk_there = λ r. there (same_Err r);
-    same_folder = same;
+    used = same;
   }
 
   abbrev NoneShares : Type 0
@@ -271,7 +273,7 @@ module _ {F D : Type 0} {folder : folder_of.Ghosts F D} {disk : disk_of.Ghosts D
         later = le_refl _;
         failed = λ r. absurd (ok_err r);
         disk_there = λ r. absurd (ok_err r);
-        same_folder = (λ some. some, λ some. some);
+        used = used_as folder (λ m. m ≡ file_name_of n) (in_folder a);
       }
 
 -- ---- their order

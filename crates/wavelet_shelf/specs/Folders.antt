@@ -11,10 +11,18 @@
 --     IsAllStep f g es ms r      what came of all
 --     IsLoadedAs f g es r        what comes of a folder's files
 --     is_among names m           the name is one of them
+--     IsStill f g                no path was entered from the folder f to the folder g, where it tells that
+--     IsStillIn o p              a folder before and after, and no path was entered; or none in both
+--     IsUsed may f g             no path was entered from f to g, and at most the files for which this holds changed
+--     IsUsedIn may o p           so it is of a folder before and after; or there is none in both
+--     IsFirstAmong f names m k   of the files of these names this one is a journal's and refused, and none before it
 --     IsLooked f g es done       of the folder f these files were looked at, and those of the entries were read
---     IsLoading f g es done      and the entries have each history for which one of these stands
-use Rattle.std.specs.Prelude.{◌≡◌, ◌≢◌, ◌⊎◌, ◌+◌, ◌-◌, ◌^◌, ◌≤◌, min, ℕ, Bool, true, false, List, [], ◌∷◌, Some, Result, IsSome, IfSome, IsTrue, IfErr, OnOk, OnErr, IsErrOf}
+--     IsLoading f g es done      and the entries have each history for which one of these stands, and none of these is refused
+use Rattle.std.specs.Prelude.{◌≡◌, ◌≢◌, ◌⊎◌, ◌+◌, ◌-◌, ◌^◌, ◌≤◌, min, ℕ, Bool, true, false, List, [], ◌∷◌, Option, Some, None, Result, IsSome, IfSome, IsTrue, IfErr, OnOk, OnErr, IsErrOf}
+use Rattle.std.specs.Cmp.Lexicographic.{slice_cmp}
 use Rattle.std.specs.List.{AllByRecursion, list_any}
+use Rattle.std.specs.Ordering.{nat_cmp}
+use Rattle.std.specs.declared.cmp.Ordering.TheVariants.{Less}
 use Rattle.doc_items.specs.Maps.{Key, same_text}
 use Rattle.wave_base.specs.Grammar.{is_wavelet_name}
 use Rattle.wavelet_op.specs.Deltas.{DeltaOf}
@@ -22,7 +30,7 @@ use Rattle.disk_model.specs.declared.disk.Disk as disk_of
 use Rattle.delta_journal.specs.File.{HasName, HasNoHeader}
 use Rattle.delta_journal.specs.Journal.{on_disk}
 use Rattle.wave_outside.specs.Counts.{Rose}
-use Rattle.wave_outside.specs.Folders.{IsPutBack, IsElsewhere, IsSame}
+use Rattle.wave_outside.specs.Folders.{IsPutBack, IsElsewhere, IsSame, IsAsBefore}
 use Rattle.wave_outside.specs.declared.folder.Folder as folder_of
 use Rattle.wavelet_container.specs.Containers.{journal_of, IsHeld}
 use Rattle.wavelet_container.specs.Records.{StandsForHistory}
@@ -31,7 +39,7 @@ use Rattle.wavelet_shelf.specs.Entries.{found, hosting, faults_of, faults_in, Ar
 use Rattle.wavelet_shelf.specs.Faults.{damage_of}
 use Rattle.wavelet_shelf.specs.FileNames.{file_name_of, is_file_name}
 use Rattle.wavelet_shelf.specs.Hosting.{deltas_in}
-use Rattle.wavelet_shelf.specs.Loads.{IsAsBefore, IsReadFrom, IsOwnName, IsRefusedFile, HasAll}
+use Rattle.wavelet_shelf.specs.Loads.{IsReadFrom, IsOwnName, IsRefusedFile, IsSound, IsFirstRefused, HasAll}
 use Rattle.wavelet_shelf.specs.declared.fault.ShelfFault.{ShelfFault}
 use Rattle.wavelet_shelf.specs.declared.fault.ShelfFault.TheVariants.{Failed}
 use Rattle.wavelet_shelf.specs.declared.filed.Filed.{Filed}
@@ -41,6 +49,31 @@ most_faults = 2 ^ 64 - 1
 
 abbrev pub is_among : List (List ℕ) → List ℕ → Bool
 is_among names m = list_any (same_text m) names
+
+module _ {F D : Type 0} (folder : folder_of.Ghosts F D) where
+  abbrev pub IsStill : F → F → Type 0
+  IsStill before after = IsTrue folder.tells → (folder.log after).entries ≡ (folder.log before).entries
+
+  abbrev pub IsStillIn : Option F → Option F → Type 0
+  IsStillIn None None = Unit {0}
+  IsStillIn None (Some g) = ⊥
+  IsStillIn (Some f) None = ⊥
+  IsStillIn (Some f) (Some g) = IsStill f g
+
+  pub record IsUsed (may : List ℕ → Type 0) (before after : F) : Type 0 where
+    pub still : IsStill before after
+    pub others : IsTrue folder.tells → (m : List ℕ) → (may m → ⊥) → folder.files after m ≡ folder.files before m
+
+  abbrev pub IsUsedIn : (List ℕ → Type 0) → Option F → Option F → Type 0
+  IsUsedIn may None None = Unit {0}
+  IsUsedIn may None (Some g) = ⊥
+  IsUsedIn may (Some f) None = ⊥
+  IsUsedIn may (Some f) (Some g) = IsUsed may f g
+
+pub record IsFirstAmong {F D : Type 0} (folder : folder_of.Ghosts F D) (disk : disk_of.Ghosts D) (f : F) (names : List (List ℕ)) (m : List ℕ) (offset : ℕ) : Type 0 where
+  pub named : is_file_name m ≡ true
+  pub refused : IsRefusedFile disk.view (folder.files f m) m offset
+  pub first : (l : List ℕ) → is_among names l ≡ true → slice_cmp nat_cmp l m ≡ Less → IsSound disk.view (folder.files f l) l
 
 pub record IsFileBack {F D : Type 0} (folder : folder_of.Ghosts F D) (disk : disk_of.Ghosts D) (before after : F) (m : List ℕ) : Type 0 where
   pub back : IsTrue disk.tells → IsSome (folder.files before m) → IsAsBefore disk.view (folder.files before m) (folder.files after m)
@@ -58,12 +91,14 @@ module _ {F D : Type 0} (folder : folder_of.Ghosts F D) {disk : disk_of.Ghosts D
     pub there : IsTrue disk.tells → IfSome (journal_of c) (λ j. IsPutBack disk.view (on_disk j) (folder.files after m))
     pub others : IsTrue disk.tells → IsElsewhere m (folder.files before) (folder.files after)
     pub room : IsSame (folder.room before) (folder.room after)
+    pub still : IsStill folder before after
     pub counted : min (folder.faults after) most_faults ≡ min (folder.faults before + faults_of c) most_faults
 
   pub record ArePutBack (before after : F) (es : List (Key × Filed D disk)) : Type 0 where
     pub back : IsTrue disk.tells → AreFiledApart es → AllByRecursion (IsBack after) es
     pub others : IsTrue disk.tells → (m : List ℕ) → AllByRecursion (λ e. m ≢ file_name_of e.0) es → folder.files after m ≡ folder.files before m
     pub room : IsSame (folder.room before) (folder.room after)
+    pub still : IsStill folder before after
     pub counted : min (folder.faults after) most_faults ≡ min (folder.faults before + faults_in es) most_faults
 
   -- ---- one file
@@ -118,21 +153,23 @@ module _ {F D : Type 0} (folder : folder_of.Ghosts F D) {disk : disk_of.Ghosts D
   pub record IsLoading (before after : F) (es : List (Key × Filed D disk)) (done : List (List ℕ)) : Type 0 where
     pub looked : IsLooked before after es done
     pub each : IsTrue disk.tells → (n : Key) (ds : List DeltaOf) → is_wavelet_name n ≡ true → ds ≢ [] → is_among done (file_name_of n) ≡ true → IfSome (folder.files before (file_name_of n)) (λ d. StandsForHistory n ds (disk.view d).seen → deltas_in (hosting es) n ≡ ds)
+    pub sound : IsTrue disk.tells → (m : List ℕ) → is_among done m ≡ true → IsSound disk.view (folder.files before m) m
 
   pub record IsAllStep (before after : F) (es : List (Key × Filed D disk)) (names : List (List ℕ)) (r : Result (Unit {0}) ShelfFault) : Type 0 where
     pub done : List (List ℕ)
     pub looked : IsLooked before after es done
     pub loading : OnOk r (IsLoading before after es names)
-    pub damaged : IfErr r (λ e. IfSome (damage_of e) (λ d. IsTrue disk.tells → IsRefusedFile disk.view (folder.files before d.0) d.0 d.1))
+    pub damaged : IfErr r (λ e. IfSome (damage_of e) (λ d. IsTrue disk.tells → IsFirstAmong folder disk before names d.0 d.1))
     pub later : faults_with before [] ≤ faults_with after es
     pub failed : IsErrOf r Failed → Rose (faults_with before []) (faults_with after es)
 
   pub record IsLoadedAs (before after : F) (es : List (Key × Filed D disk)) (r : Result (Unit {0}) ShelfFault) : Type 0 where
     pub read : OnOk r (IsTrue disk.tells → (n : Key) → IfSome (found es n) (IsReadFrom (folder.files before (file_name_of n))))
     pub all : OnOk r (IsTrue disk.tells → HasAll disk.view (folder.files before) (hosting es))
+    pub sound : OnOk r (IsTrue disk.tells → (m : List ℕ) → IsSound disk.view (folder.files before m) m)
     pub held : OnOk r (IsTrue disk.tells → AreHeld es × AreSafe es)
     pub apart : OnOk r ((n m : Key) → IsSome (found es n) → IsSome (found es m) → file_name_of n ≡ file_name_of m → n ≡ m)
-    pub damaged : IfErr r (λ e. IfSome (damage_of e) (λ d. IsTrue disk.tells → IsRefusedFile disk.view (folder.files before d.0) d.0 d.1))
+    pub damaged : IfErr r (λ e. IfSome (damage_of e) (λ d. IsTrue disk.tells → IsFirstRefused disk.view (folder.files before) d.0 d.1))
     pub none : OnErr r (es ≡ [])
     pub as_before : IsTrue disk.tells → (m : List ℕ) → ((n : Key) → IsSome (found es n) → m ≢ file_name_of n) → IsAsBefore disk.view (folder.files before m) (folder.files after m)
     pub later : faults_with before [] ≤ faults_with after es

@@ -1,14 +1,18 @@
 -- What a folder's files stand for.
---     IsAsBefore view o p         a file that is there reads as before, and a crash leaves no more than before, or what it read
 --     IsStoredFile view o n ds    the file stands for the history of this name, as it reads and in each image
 --     IsReadFrom o c              the file stands for the history of the container, and each image is the file as it was read
 --     HasAll view files hs        each file of a wavelet that stands for a history stands for that of its name
 --     IsRefusedFile view o f k    the file of this name is no journal of a legal history, by what stands at the offset k: its header is
 --                                 no name's; or the name in it is no wavelet's, or that of another file, and k is 0; or it is
 --                                 damaged as a journal of this name
+--     IsSound view o f            the file of this name isn't refused, if the name is a journal's
+--     IsFirstRefused view fs f k  the file of this name is a journal's and refused, and none that comes before it in byte order is
 --     IsOpened m d o              what is told of the file of this name, whose disk d was
 --     IsUnopened disk m d r       why it wasn't opened
 use Rattle.std.specs.Prelude.{◌≡◌, ◌≢◌, ◌⊎◌, ◌≤◌, ℕ, List, [], true, IsTrue, Option, Some, None, IfSome}
+use Rattle.std.specs.Cmp.Lexicographic.{slice_cmp}
+use Rattle.std.specs.Ordering.{nat_cmp}
+use Rattle.std.specs.declared.cmp.Ordering.TheVariants.{Less}
 use Rattle.doc_items.specs.Maps.{Key}
 use Rattle.wave_base.specs.Grammar.{is_wavelet_name}
 use Rattle.wavelet_op.specs.Deltas.{DeltaOf}
@@ -17,20 +21,17 @@ use Rattle.disk_model.specs.declared.disk.Disk.{Ghosts}
 use Rattle.delta_journal.specs.File.{HasName, HasNoHeader, HasBrokenHeader}
 use Rattle.delta_journal.specs.Journal.{on_disk}
 use Rattle.delta_journal.specs.declared.journal.Journal.{Journal}
+use Rattle.wave_outside.specs.Folders.{ReadsAsBefore}
 use Rattle.wavelet_container.specs.Containers.{history_of, journal_of, IsHeld}
 use Rattle.wavelet_container.specs.Records.{StandsForHistory, IsDamagedHistory}
 use Rattle.wavelet_container.specs.declared.container.Container.{Container}
 use Rattle.wavelet_container.specs.declared.fault.LoadFault.TheVariants.{Damaged, DiskFault}
 use Rattle.wavelet_container.specs.declared.load.LoadRefused.{LoadRefused}
 use Rattle.wavelet_shelf.specs.Entries.{IsSafe}
-use Rattle.wavelet_shelf.specs.FileNames.{file_name_of}
+use Rattle.wavelet_shelf.specs.FileNames.{file_name_of, is_file_name}
 use Rattle.wavelet_shelf.specs.Hosting.{Hosted, deltas_in}
 use Rattle.wavelet_shelf.specs.declared.opened.Opened.{Opened}
 use Rattle.wavelet_shelf.specs.declared.opened.Opened.TheVariants.{Read, Passed}
-
-pub record ReadsAsBefore (before now : DiskView) : Type 0 where
-  pub seen : now.seen ≡ before.seen
-  pub images : (c : List ℕ) → now.may_leave c → before.may_leave c ⊎ (c ≡ before.seen)
 
 -- the name in the header is that of this file's wavelet
 pub record IsOwnName (name file : List ℕ) : Type 0 where
@@ -44,12 +45,6 @@ abbrev pub IsRefused : List ℕ → ℕ → List ℕ → Type 0
 IsRefused file offset bytes = (HasBrokenHeader bytes × (offset ≡ 0)) ⊎ ((name : List ℕ) × HasName (Some name) bytes × IsRefusedAs file offset bytes name)
 
 module _ {K : Type 0} (view : K → DiskView) where
-  abbrev pub IsAsBefore : Option K → Option K → Type 0
-  IsAsBefore None None = Unit {0}
-  IsAsBefore None (Some g) = ⊥
-  IsAsBefore (Some f) None = ⊥
-  IsAsBefore (Some f) (Some g) = ReadsAsBefore (view f) (view g)
-
   pub record StandsAs (name : Key) (ds : List DeltaOf) (f : DiskView) : Type 0 where
     pub seen : StandsForHistory name ds f.seen
     pub images : (c : List ℕ) → f.may_leave c → StandsForHistory name ds c
@@ -64,6 +59,14 @@ module _ {K : Type 0} (view : K → DiskView) where
   abbrev pub IsRefusedFile : Option K → List ℕ → ℕ → Type 0
   IsRefusedFile None file offset = ⊥
   IsRefusedFile (Some f) file offset = IsRefused file offset (view f).seen
+
+  abbrev pub IsSound : Option K → List ℕ → Type 0
+  IsSound o file = is_file_name file ≡ true → (offset : ℕ) → IsRefusedFile o file offset → ⊥
+
+  pub record IsFirstRefused (files : List ℕ → Option K) (file : List ℕ) (offset : ℕ) : Type 0 where
+    pub named : is_file_name file ≡ true
+    pub refused : IsRefusedFile (files file) file offset
+    pub first : (other : List ℕ) → slice_cmp nat_cmp other file ≡ Less → IsSound (files other) other
 
 pub record IsReadAs {K : Type 0} {disk : Ghosts K} (file : DiskView) (c : Container K disk) : Type 0 where
   pub stands : StandsForHistory (history_of c).name (history_of c).deltas file.seen

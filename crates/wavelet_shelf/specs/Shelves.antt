@@ -3,7 +3,8 @@
 --     container_in s n       the container of the name
 --     hosted_of s            the histories that have a delta
 --     folder_faults faults o     how often the folder has failed, where there is one
---     fault_count s          how often its folder and its disks have failed, added; it stays at the greatest u64
+--     fault_sum s            how often its folder and its disks have failed, added
+--     fault_count s          the same, but no more than the greatest u64
 --     IsKept s               over a folder whose disks tell their bytes: each history stands in a journal
 --     IsSettled s            so it does, in its file as that reads and in each image of it, and no repair is pending
 --     AreApart s             no two names have one file
@@ -58,8 +59,11 @@ module _ {F D : Type 0} {folder : folder_of.Ghosts F D} {disk : disk_of.Ghosts D
   abbrev pub hosted_of : Shelf F D folder disk → List Hosted
   hosted_of s = hosting (entries_of s)
 
+  abbrev pub fault_sum : Shelf F D folder disk → ℕ
+  fault_sum s = folder_faults folder.faults (in_folder s) + faults_in (entries_of s)
+
   abbrev pub fault_count : Shelf F D folder disk → ℕ
-  fault_count s = min (folder_faults folder.faults (in_folder s) + faults_in (entries_of s)) (2 ^ 64 - 1)
+  fault_count s = min (fault_sum s) (2 ^ 64 - 1)
 
   pub record IsKept (s : Shelf F D folder disk) : Type 0 where
     pub told : IsTrue disk.tells

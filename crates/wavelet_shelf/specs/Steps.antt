@@ -4,7 +4,7 @@
 --     IsTakenFirst n s t c v    one without a journal answered
 --     IsAnswered n s t es es' r     the container of the name did
 --     IsHosted n s t a b r      the shelf did
-use Rattle.std.specs.Prelude.{◌≡◌, ◌≢◌, ◌==◌, ◌≤◌, ◌↔◌, ℕ, List, [], false, Result, Ok, Some, None, is_some, IsTrue, IsSome, IfOk, IfSome, OnOk, OnErr, IsErrOf}
+use Rattle.std.specs.Prelude.{◌≡◌, ◌≢◌, ◌==◌, ◌≤◌, ℕ, List, [], false, Result, Ok, Some, None, is_some, IsTrue, IsSome, IfOk, IfSome, OnOk, OnErr, IsErrOf}
 use Rattle.std.specs.Cmp.Lexicographic.{pointwise}
 use Rattle.std.specs.Map.{lookup, set_value}
 use Rattle.doc_items.specs.Maps.{Key}
@@ -21,6 +21,8 @@ use Rattle.wavelet_container.specs.declared.container.Container.{Container}
 use Rattle.wavelet_container.specs.declared.fault.SubmitFault.{SubmitFault}
 use Rattle.wavelet_container.specs.declared.fault.SubmitFault.TheVariants.{DiskFault}
 use Rattle.wavelet_shelf.specs.Entries.{faults_of, IsSafe}
+use Rattle.wavelet_shelf.specs.FileNames.{file_name_of}
+use Rattle.wavelet_shelf.specs.Folders.{IsUsedIn}
 use Rattle.wavelet_shelf.specs.Hosting.{judged_in, after_submission}
 use Rattle.wavelet_shelf.specs.Shelves.{in_folder, hosted_of, container_in, fault_count, IsKept, IsSettled}
 use Rattle.wavelet_shelf.specs.declared.filed.Filed.{Filed}
@@ -73,4 +75,4 @@ module _ {F D : Type 0} {folder : folder_of.Ghosts F D} {disk : disk_of.Ghosts D
     pub later : fault_count a ≤ fault_count b
     pub failed : IsErrOf r DiskFault → Rose (fault_count a) (fault_count b)
     pub disk_there : IsErrOf r DiskFault → IsSome (in_folder a)
-    pub same_folder : IsSome (in_folder a) ↔ IsSome (in_folder b)
+    pub used : IsUsedIn folder (λ m. m ≡ file_name_of n) (in_folder a) (in_folder b)

@@ -5,7 +5,7 @@ ghost use Rattle.delta_journal.specs.Journal.{on_disk};
 ghost use Rattle.wave_outside.specs.Folders.{IsPutBack};
 ghost use Rattle.wavelet_container.specs.Containers.{journal_of, history_of};
 ghost use Rattle.wavelet_shelf.specs.Entries.{HaveRoom};
-ghost use Rattle.wavelet_shelf.specs.Folders.{IsOneBack, ArePutBack};
+ghost use Rattle.wavelet_shelf.specs.Folders.{IsStill, IsOneBack, ArePutBack};
 ghost use Rattle.wavelet_shelf.specs.FileNames.{file_name_of};
 ghost use Rattle.wavelet_shelf.specs.Loads.{IsStoredFile};
 ghost use Rattle.wavelet_shelf.specs.Shelves.{in_folder, container_in, fault_count, IsKept, IsSettled, AreApart, HasFile};
@@ -22,6 +22,7 @@ impl<F: Folder + Drop> Shelf<F> {
         ensures back { IfSome result (λ f. IsTrue F.Disk.tells → AreApart self → (n : Key) → IfSome (container_in self n) (λ c. IfSome (journal_of c) (λ j. IsPutBack F.Disk.view (on_disk j) (F.files f (file_name_of n))))) }
         ensures stored { IfSome result (λ f. IsKept self → IsSettled self → AreApart self → (n : Key) → IfSome (container_in self n) (λ c. IsStoredFile F.Disk.view (F.files f (file_name_of n)) n (history_of c).deltas)) }
         ensures others { IfSome result (λ f. IsTrue F.Disk.tells → IfSome (in_folder self) (λ g. (m : List ℕ) → (HasFile self m → ⊥) → F.files f m ≡ F.files g m)) }
+        ensures still { IfSome result (λ f. IfSome (in_folder self) (λ g. IsStill F.Folder g f)) }
         ensures counted { IfSome result (λ f. min (F.faults f) (2 ^ 64 - 1) ≡ fault_count self) }
     {
         let Shelf {

@@ -1,12 +1,12 @@
 // Shelves that are divided.
-ghost use Rattle.std.specs.Prelude.{◌≡◌, ◌==◌, ℕ, [], false, map, is_some, length, slice_get, IfSome, IfOk, OnOk};
+ghost use Rattle.std.specs.Prelude.{◌≡◌, ◌==◌, ◌+◌, ℕ, [], false, map, is_some, length, slice_get, IfSome, IfOk, OnOk};
 ghost use Rattle.std.specs.Cmp.Lexicographic.{pointwise};
 ghost use Rattle.std.specs.List.{AllByRecursion};
 ghost use Rattle.std.specs.Map.{lookup};
 ghost use Rattle.wavelet_shelf.specs.Entries.{IsNamed, IsPut, FitsFolder, FitFolder};
 ghost use Rattle.wavelet_shelf.specs.FileNames.{shard_of};
-ghost use Rattle.wavelet_shelf.specs.Parts.{IsPart, IsLike, IsAddedTo, ArePartsOf};
-ghost use Rattle.wavelet_shelf.specs.Shelves.{entries_of, in_folder};
+ghost use Rattle.wavelet_shelf.specs.Parts.{fault_sums, IsPart, IsLike, IsAddedTo, ArePartsOf};
+ghost use Rattle.wavelet_shelf.specs.Shelves.{entries_of, in_folder, folder_faults, fault_sum};
 
 use crate::Shelf;
 use crate::containers::Containers;
@@ -19,16 +19,17 @@ use wave_outside::Folder;
 
 impl<F: Folder + Drop> Shelf<F> {
     /// Sixteen shelves, in order of their shards. Each has the containers of its shard, and a folder of its own where this one has one.
-    /// The error is want of memory.
+    /// Their counts of faults, added, are this one's. The error is want of memory.
     pub fn divide(self, alloc: Global) -> Result<Vec<Shelf<F>>, Memory>
         ensures sixteen { IfOk result (λ v. length v.items ≡ 16) }
         ensures parts { IfOk result (λ v. (i : ℕ) → IfSome (slice_get v.items i) (IsPart self i)) }
+        ensures counted { IfOk result (λ v. fault_sums v.items ≡ fault_sum self) }
     {
         let Shelf {
             folder,
             mut containers,
         } = self;
-        let mut parts = sixteen(alloc, &folder)?;
+        let mut parts = sixteen(alloc, folder)?;
         spread(&mut containers, parts.as_mut_slice())?;
         Ok(parts)
     }
@@ -47,21 +48,45 @@ impl<F: Folder + Drop> Shelf<F> {
     }
 }
 
-// Sixteen shelves without containers, each over a folder with the same room, where there is one.
-fn sixteen<F: Folder + Drop>(alloc: Global, folder: &Option<F>) -> Result<Vec<Shelf<F>>, Memory>
+// Sixteen shelves without containers. Where there is a folder, the last one is over it, and the others over others of it.
+fn sixteen<F: Folder + Drop>(alloc: Global, folder: Option<F>) -> Result<Vec<Shelf<F>>, Memory>
     ensures sixteen { IfOk result (λ v. length v.items ≡ 16) }
+    ensures like { IfOk result (λ v. AllByRecursion (IsLike folder) v.items) }
+    ensures counted { IfOk result (λ v. fault_sums v.items ≡ folder_faults F.faults folder) }
+{
+    let mut shelves = others(alloc, &folder)?;
+    shelves.push(over(alloc, folder))?;
+    Ok(shelves)
+}
+
+// Fifteen shelves without containers over others of the folder, where there is one, with no fault counted.
+fn others<F: Folder + Drop>(alloc: Global, folder: &Option<F>) -> Result<Vec<Shelf<F>>, Memory>
+    ensures fifteen { IfOk result (λ v. length v.items ≡ 15) }
     ensures like { IfOk result (λ v. AllByRecursion (IsLike folder.now) v.items) }
+    ensures uncounted { IfOk result (λ v. fault_sums v.items ≡ 0) }
 {
     let mut shelves = Vec::new(alloc);
-    for _ in 0..16u64 {
+    for _ in 0..15u64 {
         shelves.push(like(alloc, folder)?)?;
     }
     Ok(shelves)
 }
 
-// A shelf without containers, over a folder with the same room, where there is one.
+// A shelf without containers over the folder, where there is one.
+fn over<F: Folder + Drop>(alloc: Global, folder: Option<F>) -> Shelf<F>
+    ensures like { IsLike folder result }
+    ensures counted { fault_sum result ≡ folder_faults F.faults folder }
+{
+    match folder {
+        None => Shelf::new(alloc),
+        Some(folder) => Shelf::over(alloc, folder),
+    }
+}
+
+// A shelf without containers over another of the folder, where there is one, with no fault counted.
 fn like<F: Folder + Drop>(alloc: Global, folder: &Option<F>) -> Result<Shelf<F>, Memory>
-    ensures { IfOk result (IsLike folder.now) }
+    ensures like { IfOk result (IsLike folder.now) }
+    ensures uncounted { IfOk result (λ s. fault_sum s ≡ 0) }
 {
     match folder {
         None => Ok(Shelf::new(alloc)),

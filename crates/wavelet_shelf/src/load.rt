@@ -4,12 +4,12 @@ ghost use Rattle.std.specs.List.{AllByRecursion};
 ghost use Rattle.doc_items.specs.Maps.{Key};
 ghost use Rattle.delta_history.specs.Copying.{AreAscending};
 ghost use Rattle.wave_outside.specs.Counts.{Rose};
-ghost use Rattle.wave_outside.specs.Folders.{IsSame};
+ghost use Rattle.wave_outside.specs.Folders.{IsSame, IsAsBefore};
 ghost use Rattle.wavelet_shelf.specs.Entries.{found, HaveRoom};
 ghost use Rattle.wavelet_shelf.specs.Faults.{damage_of};
-ghost use Rattle.wavelet_shelf.specs.FileNames.{file_name_of};
-ghost use Rattle.wavelet_shelf.specs.Folders.{is_among, faults_with, IsSkipped, IsFileRead, IsFileStep, IsAllStep, IsLoadedAs};
-ghost use Rattle.wavelet_shelf.specs.Loads.{IsAsBefore, IsReadFrom, IsRefusedFile, HasAll};
+ghost use Rattle.wavelet_shelf.specs.FileNames.{file_name_of, is_file_name};
+ghost use Rattle.wavelet_shelf.specs.Folders.{is_among, faults_with, IsStill, IsStillIn, IsSkipped, IsFileRead, IsFileStep, IsAllStep, IsLoadedAs};
+ghost use Rattle.wavelet_shelf.specs.Loads.{IsReadFrom, IsSound, IsFirstRefused, HasAll};
 ghost use Rattle.wavelet_shelf.specs.Shelves.{in_folder, entries_of, container_in, hosted_of, fault_count, IsKept, IsSettled, AreApart};
 
 use crate::close::put_all;
@@ -26,21 +26,24 @@ use wave_outside::Folder;
 impl<F: Folder + Drop> Shelf<F> {
     /// Reads the wavelets' files of the folder, in byte order of their names, and has then the histories for which they stand; a file
     /// without a header, and one that is no wavelet's, is passed over. A refusal puts every disk back, and there is no container:
-    /// `Damaged` with the file that isn't the journal of a legal history of its wavelet, `Failed` where the folder or a disk failed.
+    /// `Damaged` with the first file that has a journal's name and isn't the journal of a legal history of its wavelet, `Failed` where
+    /// the folder or a disk failed.
     pub fn load(&mut self, alloc: Global) -> Result<(), ShelfFault>
         requires folder { IsSome (in_folder self.old) }
         requires empty { entries_of self.old ≡ [] }
 
         ensures read { OnOk result (IsTrue F.Disk.tells → IfSome (in_folder self.old) (λ f. (n : Key) → IfSome (container_in self.new n) (λ c. IsReadFrom (F.files f (file_name_of n)) c))) }
         ensures all { OnOk result (IsTrue F.Disk.tells → IfSome (in_folder self.old) (λ f. HasAll F.Disk.view (F.files f) (hosted_of self.new))) }
+        ensures sound { OnOk result (IsTrue F.Disk.tells → IfSome (in_folder self.old) (λ f. (m : List ℕ) → IsSound F.Disk.view (F.files f m) m)) }
         ensures kept { OnOk result (IsTrue F.Disk.tells → IsKept self.new × IsSettled self.new) }
         ensures apart { OnOk result (AreApart self.new) }
 
-        ensures damaged { IfErr result (λ e. IfSome (damage_of e) (λ d. IsTrue F.Disk.tells → IfSome (in_folder self.old) (λ f. IsRefusedFile F.Disk.view (F.files f d.0) d.0 d.1))) }
+        ensures damaged { IfErr result (λ e. IfSome (damage_of e) (λ d. IsTrue F.Disk.tells → IfSome (in_folder self.old) (λ f. IsFirstRefused F.Disk.view (F.files f) d.0 d.1))) }
         ensures none { OnErr result (entries_of self.new ≡ []) }
         ensures as_before { IsTrue F.Disk.tells → IfSome (in_folder self.old) (λ f. IfSome (in_folder self.new) (λ g. (m : List ℕ) → ((n : Key) → IsSome (container_in self.new n) → m ≢ file_name_of n) → IsAsBefore F.Disk.view (F.files f m) (F.files g m))) }
 
         ensures folder { IsSome (in_folder self.new) }
+        ensures still { IsStillIn F.Folder (in_folder self.old) (in_folder self.new) }
         ensures later { fault_count self.old ≤ fault_count self.new }
         ensures failed { IsErrOf result ShelfFault.Failed → Rose (fault_count self.old) (fault_count self.new) }
     {
@@ -60,6 +63,7 @@ fn load_from<F: Folder>(
     requires { containers.old.map.entries ≡ [] }
     ensures room { HaveRoom (F.room folder.new) containers.new.map.entries }
     ensures loaded { IsLoadedAs F.Folder folder.old folder.new containers.new.map.entries result }
+    ensures still { IsStill F.Folder folder.old folder.new }
 {
     match names_of(alloc, folder) {
         Ok(names) => match load_all(alloc, folder, containers, names.as_slice()) {
@@ -80,6 +84,7 @@ fn names_of<F: Folder>(alloc: Global, folder: &mut F) -> Result<Vec<String>, She
     ensures distinct { IfOk result (λ v. AreAscending (map string_bytes v.items)) }
     ensures files { IsTrue F.Disk.tells → IsSame (F.files folder.old) (F.files folder.new) }
     ensures room { IsSame (F.room folder.old) (F.room folder.new) }
+    ensures still { IsStill F.Folder folder.old folder.new }
     ensures later { F.faults folder.old ≤ F.faults folder.new }
     ensures failed { IsErrOf result ShelfFault.Failed → Rose (F.faults folder.old) (F.faults folder.new) }
     ensures whole { IfErr result (λ e. damage_of e ≡ None) }
@@ -114,6 +119,7 @@ fn load_all<F: Folder>(
     requires distinct { AreAscending (map string_bytes names.now) }
     ensures room { HaveRoom (F.room folder.new) containers.new.map.entries }
     ensures step { IsAllStep F.Folder folder.old folder.new containers.new.map.entries (map string_bytes names.now) result }
+    ensures still { IsStill F.Folder folder.old folder.new }
 {
     file_named_once();
     for name in names {
@@ -138,6 +144,8 @@ fn look_at<F: Folder>(
     ensures room { HaveRoom (F.room folder.new) containers.new.map.entries }
     ensures ok { OnOk result (IsSkipped F.Folder folder.old folder.new name.now containers.old.map.entries containers.new.map.entries ⊎ IsFileRead F.Folder folder.old folder.new name.now containers.old.map.entries containers.new.map.entries) }
     ensures err { IfErr result (λ e. IsFileStep F.Folder folder.old folder.new name.now containers.old.map.entries containers.new.map.entries (Err e)) }
+    ensures named { OnErr result (is_file_name name.now ≡ true) }
+    ensures still { IsStill F.Folder folder.old folder.new }
     ensures later { faults_with F.Folder folder.old containers.old.map.entries ≤ faults_with F.Folder folder.new containers.new.map.entries }
 {
     if is_file_name(name) {
@@ -159,6 +167,7 @@ fn load_file<F: Folder>(
     requires apart { (n : Key) → IsSome (found containers.old.map.entries n) → name.now ≢ file_name_of n }
     ensures room { HaveRoom (F.room folder.new) containers.new.map.entries }
     ensures step { IsFileStep F.Folder folder.old folder.new name.now containers.old.map.entries containers.new.map.entries result }
+    ensures still { IsStill F.Folder folder.old folder.new }
 {
     let file = String::from_str(alloc, name)?;
     containers.reserve()?;

@@ -1,5 +1,5 @@
 // Submissions to a shelf.
-ghost use Rattle.std.specs.Prelude.{◌≡◌, ◌≢◌, ◌==◌, ◌≤◌, ◌<◌, ◌↔◌, ℕ, List, [], true, false, None, is_some, IsTrue, IsSome, IfOk, IfSome, OnOk, OnErr, IsErrOf, string_bytes};
+ghost use Rattle.std.specs.Prelude.{◌≡◌, ◌≢◌, ◌==◌, ◌≤◌, ◌<◌, ℕ, List, [], true, false, None, is_some, IsTrue, IsSome, IfOk, IfSome, OnOk, OnErr, IsErrOf, string_bytes};
 ghost use Rattle.std.specs.Cmp.Lexicographic.{pointwise};
 ghost use Rattle.std.specs.Map.{lookup};
 ghost use Rattle.doc_items.specs.Maps.{Key};
@@ -8,6 +8,7 @@ ghost use Rattle.wave_outside.specs.Counts.{Rose};
 ghost use Rattle.wavelet_container.specs.Containers.{history_of, journal_of};
 ghost use Rattle.wavelet_shelf.specs.Entries.{IsSafe};
 ghost use Rattle.wavelet_shelf.specs.FileNames.{file_name_of};
+ghost use Rattle.wavelet_shelf.specs.Folders.{IsUsed, IsUsedIn};
 ghost use Rattle.wavelet_shelf.specs.Hosting.{judged_in, after_submission};
 ghost use Rattle.wavelet_shelf.specs.Shelves.{entries_of, in_folder, folder_faults, hosted_of, container_in, fault_count, IsKept, IsSettled, AreApart};
 ghost use Rattle.wavelet_shelf.specs.Steps.{IsHosted, IsStarted, IsTakenFirst};
@@ -46,7 +47,7 @@ impl<F: Folder + Drop> Shelf<F> {
         ensures settled { OnOk result (IsKept self.old → IsSettled self.old → IsSettled self.new) }
         ensures apart { AreApart self.old → ((m : Key) → IsSome (container_in self.old m) → file_name_of m ≡ file_name_of name.now → m ≡ name.now) → AreApart self.new }
 
-        ensures folder { IsSome (in_folder self.old) ↔ IsSome (in_folder self.new) }
+        ensures folder { IsUsedIn F.Folder (λ m. m ≡ file_name_of name.now) (in_folder self.old) (in_folder self.new) }
         ensures later { fault_count self.old ≤ fault_count self.new }
         ensures failed { IsErrOf result SubmitFault.DiskFault → Rose (fault_count self.old) (fault_count self.new) }
         ensures disk { IsErrOf result SubmitFault.DiskFault → IsSome (in_folder self.old) }
@@ -184,6 +185,7 @@ impl<F: Folder + Drop> Shelf<F> {
         ensures room { OnOk result (IfSome (in_folder self.new) (λ f. F.room f file.now ≡ true)) }
         ensures map { self.new.containers.map ≡ self.old.containers.map }
         ensures filed { IsSome (in_folder self.new) }
+        ensures used { IsUsedIn F.Folder (λ m. m ≡ file.now) (in_folder self.old) (in_folder self.new) }
         ensures later { folder_faults F.faults (in_folder self.old) ≤ folder_faults F.faults (in_folder self.new) }
         ensures failed { IsErrOf result SubmitFault.DiskFault → Rose (folder_faults F.faults (in_folder self.old)) (folder_faults F.faults (in_folder self.new)) }
     {
@@ -213,6 +215,7 @@ fn started<F: Folder>(
     ensures started { IfOk result (λ c. IsStarted name.now c) }
     ensures out { OnOk result (F.room folder.new file.now ≡ true) }
     ensures room { (m : List ℕ) → F.room folder.old m ≡ true → F.room folder.new m ≡ true }
+    ensures used { IsUsed F.Folder (λ m. m ≡ file.now) folder.old folder.new }
     ensures later { F.faults folder.old ≤ F.faults folder.new }
     ensures failed { IsErrOf result SubmitFault.DiskFault → Rose (F.faults folder.old) (F.faults folder.new) }
 {

@@ -1,6 +1,6 @@
 -- Acts on both parts of a state, and on one behind the other.
 --     role_law, document_law      an act on roles, and on a document, as an act on a state
---     get-trimmed, trimmed-edit, trimmed-trim, trimmed_is     the documents that aren't empty
+--     get-trimmed, document-trimmed, trimmed-edit, trimmed-trim, trimmed_is     the documents that aren't empty
 --     edit_act                    an edit is the act on the state that is seen
 --     runs, refused_now, refused_then     one act, and those behind it
 --     trim_through, taken_back    an edit, what happens behind it, and the end
@@ -84,7 +84,7 @@ pub get-trimmed : (m : Map (List Item)) (q : Key) → get (trimmed m) q ≡ kept
 unfolding trimmed
 get-trimmed m q = get-merge (λ o _. kept (unwrap_or o [])) m m q refl
 
-document-trimmed : (m : Map (List Item)) (q : Key) → document (trimmed m) q ≡ document m q
+pub document-trimmed : (m : Map (List Item)) (q : Key) → document (trimmed m) q ≡ document m q
 document-trimmed m q = ap (λ (o : Option (List Item)). unwrap_or o []) (get-trimmed m q) ∙ kept_items (document m q)
 
 pub trimmed_is : (m : Map (List Item)) → IsTrim m → trimmed m ≡ m

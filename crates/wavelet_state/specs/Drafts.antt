@@ -1,16 +1,17 @@
 -- What operations make of the two parts of a state, while documents may be there that are empty.
 --     seen roles documents       the state: the documents that aren't empty
 --     whole roles documents      the state of these documents, of which none is empty
+--     act_at r m a               the state that an act leads to from a draft of these parts, where it applies
 --     parts, parts_code          the two parts, and the code of a state
 --     IsRefused s as f           the fault f tells the first of the acts that doesn't apply
 --     IsRefusedFrom k s as f     so it does, counted from k
-use Rattle.std.specs.Prelude.{◌≡◌, ℕ, ◌+◌, List, None, refl}
+use Rattle.std.specs.Prelude.{◌≡◌, ℕ, ◌+◌, List, Option, None, refl}
 use Rattle.std.specs.Coded.{Coded, code_by, coded_list, coded_ℕ, coded×}
 use Rattle.std.specs.FinMap.{code}
 use Rattle.doc_items.specs.Maps.{Map}
 use Rattle.doc_items.specs.declared.item.Item.{Item}
 use Rattle.wavelet_op.specs.Acts.{Act}
-use Rattle.wavelet_op.specs.States.{State, run, first_invalid}
+use Rattle.wavelet_op.specs.States.{State, apply_act, run, first_invalid}
 use Rattle.wavelet_op.specs.declared.fault.WaveletFault.{WaveletFault}
 use Rattle.wavelet_op.specs.declared.fault.WaveletFault.TheVariants.{OpInvalid, CountTooLarge, Conflict, DontFit, Memory}
 use Rattle.wavelet_op.specs.declared.role.Role.{Role}
@@ -21,6 +22,9 @@ seen roles documents = record { roles = roles; documents = trimmed documents }
 
 abbrev pub whole : Map Role → Map (List Item) → State
 whole roles documents = record { roles = roles; documents = documents }
+
+abbrev pub act_at : Map Role → Map (List Item) → Act → Option State
+act_at roles documents a = apply_act (seen roles documents) a
 
 abbrev pub IsRefusedFrom : ℕ → State → List Act → WaveletFault → Type 0
 IsRefusedFrom k s acts (OpInvalid j) = (j ≡ k + first_invalid s acts) × (run s acts ≡ None)

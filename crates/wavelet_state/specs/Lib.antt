@@ -1,4 +1,5 @@
 pub mod Drafts
+pub mod Inverses
 pub mod Parts
 pub mod Snapshots
 pub mod Stretches

@@ -1,10 +1,12 @@
 // How operations and deltas apply to a state.
-ghost use Rattle.std.specs.Prelude.{◌≡◌, ◌∷◌, [], Some, IfSome, IfNone, IfErr, OnOk, OnErr, length};
-ghost use Rattle.wavelet_op.specs.Acts.{meaning, meanings};
+ghost use Rattle.std.specs.Prelude.{◌≡◌, ◌≤◌, ◌∷◌, [], Some, IfSome, IfOk, IfErr, OnOk, OnErr, length};
+ghost use Rattle.wavelet_op.specs.Acts.{meaning, meanings, AreNormal};
 ghost use Rattle.wavelet_op.specs.States.{apply_act, run};
 ghost use Rattle.wavelet_state.specs.Drafts.{IsRefused};
+ghost use Rattle.wavelet_state.specs.Inverses.{inverse_acts, acts_back, led, TakesBack};
 
 use crate::WaveletState;
+use crate::back::Back;
 use std::alloc::Global;
 use wavelet_op::{Ops, WaveletFault, WaveletOp};
 
@@ -15,7 +17,8 @@ pub fn apply_op(alloc: Global, state: &mut WaveletState, op: &WaveletOp) -> Resu
     ensures refused { IfErr result (IsRefused state.old (meaning op.now ∷ [])) }
     ensures kept { OnErr result (state.new ≡ state.old) }
 {
-    state.apply(alloc, op)
+    let mut back = None;
+    state.apply(alloc, op, &mut back)
 }
 
 /// Applies the delta's operations to the state, in turn. The refusal is `OpInvalid` with the index of the first one that isn't
@@ -25,10 +28,55 @@ pub fn apply_delta(alloc: Global, state: &mut WaveletState, ops: &Ops) -> Result
     ensures refused { IfErr result (IsRefused state.old (meanings ops.now)) }
     ensures kept { OnErr result (state.new ≡ state.old) }
 {
-    let list = ops.as_slice();
+    let mut back = None;
+    apply_list(alloc, state, ops.as_slice(), &mut back)
+}
+
+/// Applies the delta's operations to the state as `apply_delta` does, and gives what takes them back: their inverses in reverse
+/// order, each at the state before its operation. What an operation deletes is copied, and nothing else of the state.
+pub fn apply_inverting(
+    alloc: Global,
+    state: &mut WaveletState,
+    ops: &Ops,
+) -> Result<Back, WaveletFault>
+    ensures ok { OnOk result (run state.old (meanings ops.now) ≡ Some state.new) }
+    ensures value { IfOk result (λ back. meanings back ≡ inverse_acts state.old (meanings ops.now)) }
+    ensures back { IfOk result (λ back. run state.new (meanings back) ≡ Some state.old) }
+    ensures normal { IfOk result AreNormal }
+    ensures refused { IfErr result (IsRefused state.old (meanings ops.now)) }
+    ensures kept { OnErr result (state.new ≡ state.old) }
+{
+    state.whole();
+    let mut kept = Some(Back::new(alloc));
+    if let Err(refusal) = apply_list(alloc, state, ops.as_slice(), &mut kept) {
+        return Err(refusal);
+    }
+    match kept {
+        Some(back) => {
+            // Each operation is in normal form.
+            let _count = back.len();
+            Ok(back)
+        }
+        None => unreachable!(),
+    }
+}
+
+// Applies operations in turn, and puts what takes them back in front, where that is kept.
+fn apply_list(
+    alloc: Global,
+    state: &mut WaveletState,
+    list: &[WaveletOp],
+    back: &mut Option<Back>,
+) -> Result<(), WaveletFault>
+    requires { length list.now ≤ 1000 }
+    ensures ok { OnOk result (run state.old (meanings list.now) ≡ Some state.new) }
+    ensures back { OnOk result (acts_back back.new ≡ led (inverse_acts state.old (meanings list.now)) (acts_back back.old)) }
+    ensures refused { IfErr result (IsRefused state.old (meanings list.now)) }
+    ensures kept { OnErr result (state.new ≡ state.old) }
+{
     match only(list) {
-        Some(op) => apply_op(alloc, state, op),
-        None => state.apply_all(alloc, list),
+        Some(op) => state.apply(alloc, op, back),
+        None => state.apply_all(alloc, list, back),
     }
 }
 
@@ -41,3 +89,9 @@ fn only(list: &[WaveletOp]) -> Option<&WaveletOp>
         _ => None,
     }
 }
+
+/// The law of inverses: operations that are valid at a state, and then what takes them back, lead to the state before them.
+#[tactic(auto, using(crate::proofs::Inverses::acts_back_law))]
+pub fn inverses_take_back()
+    ensures { TakesBack }
+{}

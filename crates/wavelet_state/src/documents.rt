@@ -11,7 +11,7 @@ ghost use Rattle.op_validity.specs.declared.fault.CheckFault.TheVariants as of_c
 ghost use Rattle.doc_op.specs.Actions.{actions};
 ghost use Rattle.wavelet_op.specs.Acts.{Mutates};
 ghost use Rattle.wavelet_op.specs.States.{kept};
-ghost use Rattle.wavelet_state.specs.Parts.{document, item_count, is_empty_there, put_back, on_documents, IsEdit, IsBack, IsStepFault, IsTrimAt};
+ghost use Rattle.wavelet_state.specs.Parts.{AreBalanced, document, item_count, is_empty_there, put_back, on_documents, IsEdit, IsBack, IsStepFault, IsTrimAt};
 
 use crate::fault::fault_at;
 use crate::stretch::edit;
@@ -77,6 +77,13 @@ impl Documents {
         ensures balanced { IfSome result (λ r. Balanced r.now) }
     {
         self.map.get(name)
+    }
+
+    // Nothing is done: it says for proofs that each document is balanced.
+    pub fn balanced(&self)
+        ensures { AreBalanced self.now }
+    {
+        let _count = self.map.len();
     }
 
     // Whether the document is there.

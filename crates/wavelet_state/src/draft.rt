@@ -4,8 +4,10 @@ ghost use Rattle.doc_items.specs.Maps.{Key};
 ghost use Rattle.wavelet_op.specs.Acts.{meaning, meanings};
 ghost use Rattle.wavelet_op.specs.States.{apply_act, run};
 ghost use Rattle.wavelet_state.specs.Drafts.{seen, whole, IsRefusedFrom};
+ghost use Rattle.wavelet_state.specs.Inverses.{inverse_acts, acts_back, led};
 ghost use Rattle.wavelet_state.specs.Parts.{IsTrimAt, IsStepFault};
 
+use crate::back::Back;
 use crate::documents::Documents;
 use crate::fault::fault_at;
 use crate::roles::Roles;
@@ -56,11 +58,18 @@ impl Draft {
         }
     }
 
-    /// Applies the operations in turn. Refusals: `OpInvalid` with the first one that isn't valid, counted from this index. They,
-    /// and want of memory, leave the documents as they were.
-    pub fn run(&mut self, alloc: Global, ops: &[WaveletOp], index: u32) -> Result<(), WaveletFault>
+    /// Applies the operations in turn, and puts what takes them back in front, where that is kept. Refusals: `OpInvalid` with the
+    /// first one that isn't valid, counted from this index. They, and want of memory, leave the documents as they were.
+    pub fn run(
+        &mut self,
+        alloc: Global,
+        ops: &[WaveletOp],
+        index: u32,
+        back: &mut Option<Back>,
+    ) -> Result<(), WaveletFault>
         requires { index + length ops.now < 2 ^ 32 }
         ensures ok { OnOk result (run (seen self.old.roles self.old.documents) (meanings ops.now) ≡ Some (seen self.new.roles self.new.documents)) }
+        ensures back { OnOk result (acts_back back.new ≡ led (inverse_acts (seen self.old.roles self.old.documents) (meanings ops.now)) (acts_back back.old)) }
         ensures trim { OnOk result ((q : Key) → IsTrimAt self.old.documents q → IsTrimAt self.new.documents q) }
         ensures refused { IfErr result (IsRefusedFrom index (seen self.old.roles self.old.documents) (meanings ops.now)) }
         ensures kept { OnErr result (self.new.documents ≡ self.old.documents) }
@@ -68,6 +77,9 @@ impl Draft {
         let Some((op, rest)) = ops.split_first() else {
             return Ok(());
         };
+        if let Err(invalid) = self.keep_inverse(alloc, op, index, back) {
+            return Err(invalid);
+        }
         let WaveletOp::Mutate {
             document,
             op: change,
@@ -76,19 +88,19 @@ impl Draft {
             if let Err(refusal) = self.roles.step(alloc, op, index) {
                 return Err(refusal);
             }
-            return self.run(alloc, rest, index + 1);
+            return self.run(alloc, rest, index + 1, back);
         };
-        let back = match self.documents.try_edit(alloc, document, change) {
-            Ok(back) => back,
+        let before = match self.documents.try_edit(alloc, document, change) {
+            Ok(before) => before,
             Err(fault) => return Err(fault_at(fault, index)),
         };
-        match self.run(alloc, rest, index + 1) {
+        match self.run(alloc, rest, index + 1, back) {
             Ok(()) => {
                 self.documents.trim(document);
                 Ok(())
             }
             Err(fault) => {
-                self.documents.take_back(document, back);
+                self.documents.take_back(document, before);
                 Err(fault)
             }
         }

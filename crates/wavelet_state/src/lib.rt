@@ -2,14 +2,17 @@
 #![tactic(auto)]
 
 mod apply;
+mod back;
 mod documents;
 mod draft;
 mod fault;
+mod inverse;
 mod roles;
 mod snapshot;
 mod state;
 mod stretch;
 
-pub use apply::{apply_delta, apply_op};
+pub use apply::{apply_delta, apply_inverting, apply_op, inverses_take_back};
+pub use back::Back;
 pub use snapshot::{MAX_INSERTED, Snapshot};
 pub use state::WaveletState;

@@ -6,9 +6,12 @@ ghost use Rattle.std.specs.List.{All};
 ghost use Rattle.doc_items.specs.Balance.{Balanced};
 ghost use Rattle.wavelet_op.specs.Acts.{meaning, meanings};
 ghost use Rattle.wavelet_op.specs.States.{apply_act, document_of, empty_state, kept, role_of, run};
+ghost use Rattle.wavelet_op.specs.Laws.{IsWhole};
 ghost use Rattle.wavelet_state.specs.Drafts.{IsRefused};
+ghost use Rattle.wavelet_state.specs.Inverses.{inverse_act, inverse_acts, acts_back, led};
 ghost use Rattle.wavelet_state.specs.Parts.{item_count, IsStepFault};
 
+use crate::back::Back;
 use crate::documents::Documents;
 use crate::draft::Draft;
 use crate::roles::Roles;
@@ -143,24 +146,48 @@ impl WaveletState {
         Ok(WaveletState { draft })
     }
 
-    /// Applies one operation. Refusals, `Memory` included, leave the state as it was.
-    pub(crate) fn apply(&mut self, alloc: Global, op: &WaveletOp) -> Result<(), WaveletFault>
+    // Nothing is done: it says for proofs that each document is balanced, and none that is kept is empty.
+    pub(crate) fn whole(&self)
+        ensures { IsWhole self.now }
+    {
+        self.draft.documents.balanced();
+    }
+
+    /// Applies one operation, and puts what takes it back in front, where that is kept. Refusals, `Memory` included, leave the state
+    /// as it was.
+    pub(crate) fn apply(
+        &mut self,
+        alloc: Global,
+        op: &WaveletOp,
+        back: &mut Option<Back>,
+    ) -> Result<(), WaveletFault>
         ensures ok { OnOk result (apply_act self.old (meaning op.now) ≡ Some self.new) }
+        ensures back { OnOk result (acts_back back.new ≡ led (inverse_act self.old (meaning op.now)) (acts_back back.old)) }
         ensures refused { IfErr result (IsStepFault 0 (apply_act self.old (meaning op.now))) }
         ensures kept { OnErr result (self.new ≡ self.old) }
     {
+        if let Err(invalid) = self.draft.keep_inverse(alloc, op, 0, back) {
+            return Err(invalid);
+        }
         self.draft.step(alloc, op, 0)
     }
 
-    /// Applies operations in turn. Refusals, `Memory` included, leave the state as it was.
-    pub(crate) fn apply_all(&mut self, alloc: Global, ops: &[WaveletOp]) -> Result<(), WaveletFault>
+    /// Applies operations in turn, and puts what takes them back in front, where that is kept. Refusals, `Memory` included, leave
+    /// the state as it was.
+    pub(crate) fn apply_all(
+        &mut self,
+        alloc: Global,
+        ops: &[WaveletOp],
+        back: &mut Option<Back>,
+    ) -> Result<(), WaveletFault>
         requires { length ops.now ≤ 1000 }
         ensures ok { OnOk result (run self.old (meanings ops.now) ≡ Some self.new) }
+        ensures back { OnOk result (acts_back back.new ≡ led (inverse_acts self.old (meanings ops.now)) (acts_back back.old)) }
         ensures refused { IfErr result (IsRefused self.old (meanings ops.now)) }
         ensures kept { OnErr result (self.new ≡ self.old) }
     {
         let roles = self.draft.roles.copy(alloc)?;
-        match self.draft.run(alloc, ops, 0) {
+        match self.draft.run(alloc, ops, 0, back) {
             Ok(()) => Ok(()),
             Err(fault) => {
                 self.draft.roles = roles;

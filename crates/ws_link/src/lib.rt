@@ -12,6 +12,7 @@ mod greeting;
 mod limits;
 mod link;
 mod net;
+mod outbox;
 mod patience;
 mod socket;
 mod waiting;

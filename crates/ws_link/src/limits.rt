@@ -23,7 +23,7 @@ pub struct Limits {
     pub accepted: usize,
     /// The same of a link that was dialled.
     pub dialled: usize,
-    /// How many bytes may wait to be sent. A link at which there are more fails.
+    /// How many bytes may wait to be sent, beside the message that is leaving. A link at which there are more fails.
     pub unsent: usize,
 }
 

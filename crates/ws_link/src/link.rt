@@ -6,20 +6,19 @@ ghost use Rattle.wave_outside.specs.declared.link.Polled.TheVariants.{Nothing};
 
 use crate::dialling::{Asked, Asking, Dialled};
 use crate::patience::Patience;
-use crate::socket::{Heard, Written, read_message, write_message};
+use crate::socket::{Heard, Socket, Written};
 use crate::waiting::Waiting;
-use mio::net::TcpStream;
 use std::alloc::Global;
 use std::mem::replace;
 use std::random::RandomSource;
 use std::time::Clock;
-use tungstenite::{NoMask, WebSocket};
+use tungstenite::NoMask;
 use wave_outside::{Faults, Link, LinkFault, Polled};
 
 /// How far the socket is.
 pub(crate) enum State<R: RandomSource + Clock + Copy + Drop> {
     Asking(Asking<R>),
-    Served(WebSocket<TcpStream, NoMask>),
+    Served(Socket<NoMask>),
     Dialled(Dialled<R>),
     Gone,
 }
@@ -43,14 +42,13 @@ impl<R: RandomSource + Clock + Copy + Drop> State<R> {
                 Asked::Done(socket) => (State::Dialled(socket), Heard::Other),
                 Asked::Goes(asking) => (State::Asking(asking), Heard::Empty),
                 Asked::Failed => (State::Gone, Heard::Failed),
-                Asked::Memory => (State::Gone, Heard::Memory),
             },
             State::Served(mut socket) => {
-                let heard = read_message(alloc, &mut socket);
+                let heard = socket.look();
                 (State::Served(socket), heard)
             }
             State::Dialled(mut socket) => {
-                let heard = read_message(alloc, &mut socket);
+                let heard = socket.look();
                 (State::Dialled(socket), heard)
             }
             State::Gone => (State::Gone, Heard::Failed),
@@ -60,8 +58,8 @@ impl<R: RandomSource + Clock + Copy + Drop> State<R> {
     fn give(&mut self, alloc: Global, bytes: &[u8]) -> Written {
         match self {
             State::Asking(asking) => asking.keep(alloc, bytes),
-            State::Served(socket) => write_message(alloc, socket, bytes),
-            State::Dialled(socket) => write_message(alloc, socket, bytes),
+            State::Served(socket) => socket.send(bytes),
+            State::Dialled(socket) => socket.send(bytes),
             State::Gone => Written::Failed,
         }
     }
@@ -70,12 +68,8 @@ impl<R: RandomSource + Clock + Copy + Drop> State<R> {
     fn close(self) {
         match self {
             State::Asking(_asking) => {}
-            State::Served(mut socket) => {
-                let _closed = socket.close(None);
-            }
-            State::Dialled(mut socket) => {
-                let _closed = socket.close(None);
-            }
+            State::Served(socket) => socket.close(),
+            State::Dialled(socket) => socket.close(),
             State::Gone => {}
         }
     }
@@ -231,7 +225,11 @@ impl<R: RandomSource + Clock + Copy + Drop> Link for SocketLink<R> {
                 Ok(Polled::Message(bytes))
             }
             Heard::Other => Ok(self.nothing()),
-            Heard::Empty => Ok(self.idle()),
+            Heard::Empty => {
+                // An event of the socket will tell when there is more.
+                self.awake = self.waiting.is_none();
+                Ok(self.idle())
+            }
             Heard::Closed => {
                 self.closed = true;
                 self.state = State::Gone;
@@ -247,6 +245,7 @@ impl<R: RandomSource + Clock + Copy + Drop> Link for SocketLink<R> {
         self.patience.renew();
         match self.state.give(alloc, bytes) {
             Written::Taken => Ok(()),
+            Written::Waits => Ok(()),
             Written::Memory => Err(LinkFault::Memory),
             Written::Failed => Err(self.fail()),
         }

@@ -9,7 +9,9 @@ use crate::dialling::Asking;
 use crate::door::{Door, Knock};
 use crate::limits::Limits;
 use crate::link::{SocketLink, State};
+use crate::outbox::Outbox;
 use crate::patience::Patience;
+use crate::socket::Socket;
 use crate::waiting::{SOCKET, Waiting};
 use mio::net::TcpStream;
 use std::alloc::{AllocError, Global};
@@ -112,6 +114,8 @@ impl<R: Sockets + RandomSource + Clock + Copy + Drop> SocketNet<R> {
         let mut waiting = Waiting::new(&self.rt, alloc)?;
         waiting.watch(socket.get_mut(), SOCKET)?;
         waiting.hang(&self.bells, self.accepted)?;
+        let outbox = Outbox::new(alloc, self.limits.unsent);
+        let socket = Socket::new(alloc, socket, outbox);
         Ok(SocketLink::over(State::Served(socket), Some(waiting), Patience::of_session()))
     }
 

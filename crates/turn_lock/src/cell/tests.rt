@@ -149,6 +149,16 @@ fn the_last_turns_are_given(rt: HostRuntime) -> Result<(), Fail> {
 }
 
 #[test]
+fn a_cell_that_nobody_is_inside_of_gives_its_value(rt: HostRuntime) -> Result<(), Fail> {
+    let list = Vec::new(rt.alloc());
+    let (cell, mut pass) = TurnCell::new(rt.alloc(), Marks { list })?;
+    assert!(rt; add(&rt, &cell, &mut pass, 1));
+    let marks = cell.close(pass).expect(&rt, "the slot was empty");
+    assert!(rt; marks.count(1) == 1);
+    Ok(())
+}
+
+#[test]
 fn a_cell_closed_while_somebody_is_inside_gives_nothing(rt: HostRuntime) -> Result<(), Fail> {
     let list = Vec::new(rt.alloc());
     let (cell, mut pass) = TurnCell::new(rt.alloc(), Marks { list })?;

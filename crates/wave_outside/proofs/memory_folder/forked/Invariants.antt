@@ -1,6 +1,7 @@
-use Rattle.std.proofs.Common.{◌≡◌, ◌++◌, drop}
-use Rattle.wave_outside.specs.MemoryFolders.{file_names}
+use Rattle.std.proofs.Common.{List, ◌++◌, drop}
+use Rattle.wave_outside.specs.MemoryFolders.{AreForks}
+use Rattle.wave_outside.specs.declared.memory_folder.StoredFile.{StoredFile}
 use Rattle.wave_outside.proofs.memory_folder.forked.Given as goal
 
 abbrev pub invariant-loop-file : goal.invariant-loop-file
-invariant-loop-file l = file_names l.files.items ++ file_names (drop l.file-index l.list) ≡ file_names l.list
+invariant-loop-file l = (rest : List StoredFile) → AreForks (drop l.file-index l.list) rest → AreForks l.list (l.files.items ++ rest)

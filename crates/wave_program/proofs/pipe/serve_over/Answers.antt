@@ -1,44 +1,52 @@
-use Rattle.std.proofs.Common.{◌≡◌, ℕ, sym, ap, ◌∙◌, subst, inl, refl}
+use Rattle.std.proofs.Common.{◌≡◌, ◌<◌, length, sym, ap, ◌∙◌, subst, inl, inr, refl}
 use Rattle.line_run.specs.Lines.{IsPrefix}
-use Rattle.line_run.specs.Told.{WhereTold, IsTold}
-use Rattle.line_run.proofs.Whole.{told_run}
-use Rattle.wavelet_shelf.specs.Hosting.{deltas_in}
-use Rattle.wavelet_shelf.specs.Shelves.{hosted_of, IsKept, IsSettled}
-use Rattle.pipe_machine.specs.Keeping.{Begins, IsMoved, submitted_in}
+use Rattle.line_run.specs.Turns.{lines_in}
+use Rattle.wavelet_shelf.specs.Shelves.{hosted_of}
 use Rattle.pipe_machine.specs.Lines.{lines_of}
 use Rattle.pipe_machine.specs.Machine.{Pipe, start, sent, after}
 use Rattle.pipe_machine.specs.Pipes.{pipe_of}
-use Rattle.wave_program.proofs.Piping.{answers_front, of_source, of_sink, of_store, serving}
+use Rattle.wave_program.proofs.Piping.{front_of, of_source, of_sink, of_store, serving}
 use Rattle.wave_program.proofs.pipe.serve_over.Goals as goal
-
-pub returns-clause-served : goal.returns-clause-served
-returns-clause-served g c = λ tells.
-    subst (λ (p : Pipe). WhereTold (g.S.Source.left c.args.source.now) (g.S.Source.left c.run_lines-ending.new.source) (g.W.Sink.written c.args.sink.now) (g.W.Sink.written c.run_lines-ending.new.sink)
-    (IsTold (λ ts. lines_of (sent p ts)) (g.C.Clock.readings c.args.clock.now) c.status.result)) c.new-machine.ensures.pipe
-    (rw (c.status.ensures) (told_run _ g.C.Clock tells _ _ _ _ _ _ _ _ (answers_front (pipe_of c.new-machine.result)) c.run_lines-ending.ensures.served))
 
 pub returns-clause-over : goal.returns-clause-over
 returns-clause-over g c =
     let s = c.run_lines-ending.ensures.served in
+    let st = sym c.status.ensures in
     let is : pipe_of c.new-machine.result ≡ start (hosted_of c.args.shelf) = c.new-machine.ensures.pipe in
     let e : (after (start (hosted_of c.args.shelf)) s.turns).hosted ≡ hosted_of s.mid.shelf = ap (λ (p : Pipe). (after p s.turns).hosted) (sym is) ∙ ap (λ (p : Pipe). p.hosted) s.reached in
     record {
       known = serving c.run_lines-ending.result c.status.result c.status.ensures;
-      read = s.read;
-      written = s.written;
-      consumed = s.consumed;
-      appended = s.appended;
-      turns = s.turns;
+      run = record {
+        read = s.read;
+        written = s.written;
+        consumed = s.consumed;
+        appended = s.appended;
+        bound = s.bound;
+        turns = s.turns;
+        timed = s.timed;
+        lines = front_of (lines_in s.turns) (lines_in s.tried) s.lines;
+        answered = subst (λ (p : Pipe). IsPrefix s.written (lines_of (sent p s.turns))) is s.answers;
+        done = rw (c.status.ensures) s.done;
+        ended = rw (c.status.ensures) s.ended;
+        whole = rw (c.status.ensures) (λ w. subst (λ (p : Pipe). s.written ≡ lines_of (sent p s.turns)) is (s.whole w).0);
+        short = rw (c.status.ensures) (λ four. subst (λ (p : Pipe). length s.written < length (lines_of (sent p s.turns))) is (s.short four).0);
+        limit = rw (c.status.ensures) s.limit;
+        at_limit = rw (c.status.ensures) s.at_limit;
+      };
       tried = s.tried;
-      timed = s.timed;
       lines = s.lines;
-      answers = subst (λ (p : Pipe). IsPrefix s.written (lines_of (sent p s.turns))) is s.answers;
       moved = rw (← c.new-machine.ensures.shelf, c.into_shelf.ensures) s.moved;
       grown = λ n. rw (e, c.into_shelf.ensures) (s.since.grown n);
-      done = λ zero.
-          let w = s.whole (inl (sym c.status.ensures ∙ zero)) in (
-            rw (c.into_shelf.ensures, w.1, e) refl,
-            λ kept settled. rw (c.into_shelf.ensures, w.1) ((s.calm (rw (c.new-machine.ensures.shelf) kept, rw (c.new-machine.ensures.shelf) settled)).1),
+      whole = λ w.
+          let here : c.run_lines-ending.new.machine ≡ s.mid = elim w [
+            | inl x ↦ (s.whole (inl (st ∙ x))).1
+            | inr y ↦ elim y [
+              | inl x ↦ (s.whole (inr (inl (st ∙ x)))).1
+              | inr z ↦ elim z [ inl x ↦ (s.short (st ∙ x)).1 | inr x ↦ (s.whole (inr (inr (st ∙ x)))).1 ]
+            ]
+          ] in (
+            rw (c.into_shelf.ensures, here, e) refl,
+            λ kept settled. rw (c.into_shelf.ensures, here) ((s.calm (rw (c.new-machine.ensures.shelf) kept, rw (c.new-machine.ensures.shelf) settled)).1),
           );
     }
 

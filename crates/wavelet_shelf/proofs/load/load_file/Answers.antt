@@ -6,6 +6,7 @@ use Rattle.wavelet_shelf.specs.Loads.{IsOpened, IsOpenedAs}
 use Rattle.wavelet_shelf.specs.declared.filed.Filed.{Filed}
 use Rattle.wavelet_shelf.proofs.Opening.{step_read, step_refused, keeps_room, damage_as}
 use Rattle.wavelet_shelf.proofs.Shelving.{put_from, fit_put, room_kept}
+use Rattle.wavelet_shelf.proofs.Still.{still_used, still_on}
 use Rattle.wavelet_shelf.proofs.load.load_file.Goals as goal
 
 pub returns-in-Err-clause-room : goal.returns-in-Err-clause-room
@@ -71,3 +72,19 @@ returns-in-Err-open_file-clause-step g c =
     put.counted
     (damage_as _ _ _ (λ offset. r.fault ≡ Damaged offset) c.in_ok-file.ensures.ok c.fault_in.ensures.damaged)
     (λ is. c.fault_in.ensures.failed is))
+
+pub returns-in-Err-clause-still : goal.returns-in-Err-clause-still
+returns-in-Err-clause-still g c = still_used g.F.Folder c.args.folder.now c.file.new.self c.file.ensures.log
+
+pub returns-in-Ok-Read-clause-still : goal.returns-in-Ok-Read-clause-still
+returns-in-Ok-Read-clause-still g c = still_used g.F.Folder c.args.folder.now c.file.new.self c.file.ensures.log
+
+pub returns-in-Ok-Passed-clause-still : goal.returns-in-Ok-Passed-clause-still
+returns-in-Ok-Passed-clause-still g c =
+    let first = still_used g.F.Folder c.args.folder.now c.file.new.self c.file.ensures.log in
+    still_on g.F.Folder c.args.folder.now c.file.new.self c.put-in-Ok-Passed.new.self first (still_used g.F.Folder c.file.new.self c.put-in-Ok-Passed.new.self c.put-in-Ok-Passed.ensures.log)
+
+pub returns-in-Err-open_file-clause-still : goal.returns-in-Err-open_file-clause-still
+returns-in-Err-open_file-clause-still g c =
+    let first = still_used g.F.Folder c.args.folder.now c.file.new.self c.file.ensures.log in
+    still_on g.F.Folder c.args.folder.now c.file.new.self c.put-in-Err-open_file.new.self first (still_used g.F.Folder c.file.new.self c.put-in-Err-open_file.new.self c.put-in-Err-open_file.ensures.log)

@@ -1,3 +1,5 @@
+use Rattle.std.proofs.Common.{Option, IfSome, sym, subst}
+use Rattle.wavelet_shelf.specs.Folders.{IsStill}
 use Rattle.wavelet_shelf.proofs.Returning.{apart_in, back_of, stored_of, others_of}
 use Rattle.wavelet_shelf.proofs.shelf.Shelf.close.Goals as goal
 
@@ -13,3 +15,6 @@ returns-clause-stored g c kept settled apart n =
 
 pub returns-clause-others : goal.returns-clause-others
 returns-clause-others g c told = others_of g.F.Folder c.args.self c.in_ok-folder.folder c.put_all.new.folder c.in_ok-folder.was (λ m apart. c.put_all.ensures.back.others told m apart)
+
+pub returns-clause-still : goal.returns-clause-still
+returns-clause-still g c = subst (λ o. IfSome o (λ f. IsStill g.F.Folder f c.put_all.new.folder)) (sym c.in_ok-folder.was) c.put_all.ensures.back.still

@@ -1,6 +1,8 @@
-use Rattle.std.proofs.Common.{ℕ, IfSome, slice_get, sym, subst, ◌∙◌}
+use Rattle.std.proofs.Common.{◌≡◌, ◌+◌, ℕ, IfSome, slice_get, sym, ap, subst, ◌∙◌}
 use Rattle.std.specs.List.{AllByRecursion}
-use Rattle.wavelet_shelf.specs.Parts.{IsPart, IsLike}
+use Rattle.wavelet_shelf.specs.Entries.{faults_in}
+use Rattle.wavelet_shelf.specs.Parts.{fault_sums, IsPart, IsLike}
+use Rattle.wavelet_shelf.specs.Shelves.{fault_sum}
 use Rattle.wavelet_shelf.proofs.Parting.{all_fit, are_parts, taken_back}
 use Rattle.wavelet_shelf.proofs.shelf.Shelf.divide.Goals as goal
 
@@ -16,3 +18,11 @@ returns-clause-parts g c =
     let items = c.in_ok-parts.parts.items in
     subst (λ l. (i : ℕ) → IfSome (slice_get l i) (IsPart s i)) (sym (taken_back c.in_ok-parts.parts.len c.spread.new.shelves items c.in_ok-parts.parts.ok.0 (c.spread.ensures.sixteen ∙ sym c.in_ok-parts.ensures.sixteen)))
     (are_parts s lent c.spread.new.shelves (subst (AllByRecursion (IsLike s.folder)) (sym c.as_mut_slice.ensures.value) c.in_ok-parts.ensures.like) c.in_ok-spread.ensures.parts)
+
+pub returns-clause-counted : goal.returns-clause-counted
+returns-clause-counted g c =
+    let s = c.args.self in
+    let items = c.in_ok-parts.parts.items in
+    let before = ap fault_sums c.as_mut_slice.ensures.value ∙ c.in_ok-parts.ensures.counted in
+    subst (λ l. fault_sums l ≡ fault_sum s) (sym (taken_back c.in_ok-parts.parts.len c.spread.new.shelves items c.in_ok-parts.parts.ok.0 (c.spread.ensures.sixteen ∙ sym c.in_ok-parts.ensures.sixteen)))
+    (c.in_ok-spread.ensures.parts.counted ∙ ap (λ m. m + faults_in s.containers.map.entries) before)

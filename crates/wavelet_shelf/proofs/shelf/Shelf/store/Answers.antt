@@ -1,5 +1,6 @@
 use Rattle.std.proofs.Common.{◌≡◌, ◌≤◌, true, IfSome, sym, ap, subst, ◌∙◌}
 use Rattle.wavelet_shelf.specs.FileNames.{file_name_of}
+use Rattle.wavelet_shelf.specs.Folders.{IsUsedIn}
 use Rattle.wavelet_shelf.specs.Shelves.{folder_faults}
 use Rattle.wavelet_shelf.specs.declared.filed.Filed.{Filed}
 use Rattle.wavelet_shelf.proofs.Shelving.{after_first, put_from, fit_put, fits_there}
@@ -27,7 +28,7 @@ returns g c =
     let entries = (λ i. (c.start.ensures.map i).entries) ∙ place.same in
     after_first a _ c.args.name.now c.args.submission.now c.args.time _ c.in_ok-container.container filed a.containers.in_order
     (λ e. c.requires.filed)
-    (λ some. c.in_ok-container.ensures.filed, λ some. c.requires.filed)
+    (subst (λ o. IsUsedIn g.F.Folder (λ m. m ≡ file_name_of c.args.name.now) o b.folder) place.folder (subst (λ f. IsUsedIn g.F.Folder (λ m. m ≡ f) c.place.new.self.folder b.folder) (c.as_str.ensures.value ∙ place.file) c.start.ensures.used))
     (subst (λ o. folder_faults g.F.Folder.faults o ≤ folder_faults g.F.Folder.faults b.folder) place.folder c.start.ensures.later)
     (record { name = started.name; empty = started.empty; held = λ kept. started.held kept.told; unfailed = started.unfailed })
     c.taken-answer.ensures

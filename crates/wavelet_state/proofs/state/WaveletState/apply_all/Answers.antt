@@ -1,7 +1,8 @@
-use Rattle.std.proofs.Common.{Some, sym, ap, subst, ◌∙◌}
+use Rattle.std.proofs.Common.{◌≡◌, Some, sym, ap, subst, ◌∙◌}
 use Rattle.wavelet_op.specs.Acts.{meanings}
 use Rattle.wavelet_op.specs.States.{State, run}
 use Rattle.wavelet_state.specs.Drafts.{whole, IsRefused}
+use Rattle.wavelet_state.specs.Inverses.{inverse_acts, acts_back, led}
 use Rattle.wavelet_state.proofs.Drafts.{trimmed_is}
 use Rattle.wavelet_state.proofs.state.WaveletState.apply_all.Goals as goal
 
@@ -15,3 +16,8 @@ pub returns-in-Err-clause-refused : goal.returns-in-Err-clause-refused
 returns-in-Err-clause-refused c =
     let before = ap (whole c.self.inside.draft.roles) (trimmed_is c.self.inside.draft.documents c.self.invariant) ∙ c.self.view_is in
     subst (λ (s : State). IsRefused s (meanings c.args.ops.now) c.in-Err.fault) before c.in-Err.ensures.refused
+
+pub returns-in-Ok-clause-back : goal.returns-in-Ok-clause-back
+returns-in-Ok-clause-back c =
+    let before = ap (whole c.self.inside.draft.roles) (trimmed_is c.self.inside.draft.documents c.self.invariant) ∙ c.self.view_is in
+    subst (λ (s : State). acts_back c.run.new.back ≡ led (inverse_acts s (meanings c.args.ops.now)) (acts_back c.args.back.now)) before c.in-Ok.ensures.back

@@ -1,0 +1,14 @@
+-- Characters in a row that have the same annotations.
+--     character_item c m     the item of a character with these annotations
+--     AreCharacters items m text     the items begin with these characters, each of which has the annotations m
+use Rattle.std.specs.Prelude.{◌≡◌, ◌≤◌, ℕ, List, length, map, take}
+use Rattle.doc_items.specs.Maps.{Key, Map}
+use Rattle.doc_items.specs.declared.item.Content.TheVariants.{Character}
+use Rattle.doc_items.specs.declared.item.Item.{Item}
+
+abbrev pub character_item : ℕ → Map Key → Item
+character_item c m = record { content = Character c; notes = m }
+
+pub record AreCharacters (items : List Item) (m : Map Key) (text : List ℕ) : Type 0 where
+  pub are : take (length text) items ≡ map (λ c. character_item c m) text
+  pub fits : length text ≤ length items

@@ -1,0 +1,4 @@
+pub mod Characters
+pub mod Inverse
+pub mod Laws
+pub mod Walks

@@ -1,0 +1,3 @@
+pub mod Keeping
+pub mod Undoing
+mod Kept
