@@ -3,10 +3,10 @@ ghost use Rattle.std.specs.Prelude.{◌≤◌};
 
 use disk_model::MemoryDisk;
 use std::alloc::Global;
+use test_wavelet_words::submission;
 use wave_base::{HashedVersion, WaveletName};
 use wavelet_container::Container;
 use wavelet_op::Verdict;
-use wavelet_words::submission;
 
 /// A container over a disk in memory, or without one.
 #[derive(Drop)]

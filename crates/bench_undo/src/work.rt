@@ -1,10 +1,10 @@
 // A chain of 100 entries at a document of letters, and what is done to it.
 use std::alloc::Global;
 use std::mem;
+use test_wavelet_words::operations;
 use undo_control::UndoChain;
 use wavelet_op::Ops;
 use wavelet_state::{WaveletState, apply_delta};
-use wavelet_words::operations;
 
 /// The chain, and the edit and the change that come next: each inserts a letter or takes it away again.
 pub struct Bench {

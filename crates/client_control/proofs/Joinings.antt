@@ -21,10 +21,10 @@ use Rattle.wavelet_op.specs.Joining.{act_fronts}
 use Rattle.wavelet_op.specs.declared.op.WaveletOp.{WaveletOp}
 use Rattle.wavelet_codec.specs.Spelling.{ops_bytes}
 use Rattle.delta_history.specs.Verdicts.{ops_of}
-use Rattle.node_rules.specs.Submitting.{submit_bytes, is_short, if_fits, fitting, gather_on, gather}
-use Rattle.node_rules.proofs.Advances.{ops_back}
-use Rattle.node_rules.proofs.Gathers.{fitting_is}
-use Rattle.node_rules.proofs.Sounds.{same_ok, no_ok}
+use Rattle.follower_rules.specs.Submitting.{submit_bytes, is_short, if_fits, fitting, gather_on, gather}
+use Rattle.follower_rules.proofs.Advances.{ops_back}
+use Rattle.follower_rules.proofs.Gathers.{fitting_is}
+use Rattle.follower_rules.proofs.Sounds.{same_ok, no_ok}
 use Rattle.client_control.specs.declared.joining.Joint.{Joint}
 use Rattle.client_control.specs.Joins.{Joined, join_on, fit, gather_joined, IsJoining, IsFit, IsFitting, IsGathered, IsGathering}
 

@@ -19,16 +19,16 @@ use Rattle.wavelet_state.specs.Parts.{item_count}
 use Rattle.wavelet_state.specs.Snapshots.{max_inserted}
 use Rattle.delta_history.specs.Points.{Point}
 use Rattle.delta_history.proofs.Points.{and_then_is}
-use Rattle.node_rules.specs.declared.fault.FollowerFault.{FollowerFault}
-use Rattle.node_rules.specs.declared.fault.FollowerFault.TheVariants.{OpInvalid, EditFull, TooBig, NumbersSpent, Memory}
-use Rattle.node_rules.specs.declared.taken.Taken.TheVariants.{Pending, Old, Took}
-use Rattle.node_rules.specs.Followers.{ClientOf, FollowerOf, run_all, inserted_all, flying, pending, screen, moved, take_newer, take_settled, take_snapshot}
-use Rattle.node_rules.specs.Laws.{IsSound}
-use Rattle.node_rules.specs.Submitting.{is_short, IsFault, queued, edit_short, edit_held, edit_run, edit_shown, edit, gather, sent_by, submitting, take_numbered, take_gathered, take_queued, take_unless, submit}
-use Rattle.node_rules.proofs.Advances.{ops_back}
-use Rattle.node_rules.proofs.Gathers.{IsSubmitting, submitting_is_sound}
-use Rattle.node_rules.proofs.Rebases.{inserted_all_append}
-use Rattle.node_rules.proofs.Sounds.{new_is_sound, edit_is_sound, dropped_is_sound}
+use Rattle.follower_rules.specs.declared.fault.FollowerFault.{FollowerFault}
+use Rattle.follower_rules.specs.declared.fault.FollowerFault.TheVariants.{OpInvalid, EditFull, TooBig, NumbersSpent, Memory}
+use Rattle.follower_rules.specs.declared.taken.Taken.TheVariants.{Pending, Old, Took}
+use Rattle.follower_rules.specs.Followers.{ClientOf, FollowerOf, run_all, inserted_all, flying, pending, screen, moved, take_newer, take_settled, take_snapshot}
+use Rattle.follower_rules.specs.Laws.{IsSound}
+use Rattle.follower_rules.specs.Submitting.{is_short, IsFault, queued, edit_short, edit_held, edit_run, edit_shown, edit, gather, sent_by, submitting, take_numbered, take_gathered, take_queued, take_unless, submit}
+use Rattle.follower_rules.proofs.Advances.{ops_back}
+use Rattle.follower_rules.proofs.Gathers.{IsSubmitting, submitting_is_sound}
+use Rattle.follower_rules.proofs.Rebases.{inserted_all_append}
+use Rattle.follower_rules.proofs.Sounds.{new_is_sound, edit_is_sound, dropped_is_sound}
 use Rattle.client_control.specs.declared.flight.InFlight.{InFlight}
 use Rattle.client_control.specs.declared.joining.Joint.{Joint}
 use Rattle.client_control.specs.Parts.{Parts, parts, flight_of, follower_of, settled, IsKept}

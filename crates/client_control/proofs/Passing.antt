@@ -10,7 +10,7 @@ use Rattle.wavelet_op.specs.declared.op.WaveletOp.{WaveletOp}
 use Rattle.wavelet_op.specs.declared.pair.OpsPair.{OpsPair}
 use Rattle.wavelet_op.proofs.Passes.{split_first}
 use Rattle.delta_history.proofs.Points.{and_then_is}
-use Rattle.node_rules.specs.Receiving.{past, rebase}
+use Rattle.follower_rules.specs.Receiving.{past, rebase}
 use Rattle.client_control.specs.declared.past.Rebased.{Rebased}
 use Rattle.client_control.specs.Steps.{AreStructured, IsPair, IsRebased}
 

@@ -14,7 +14,7 @@ use Rattle.wavelet_op.specs.declared.op.WaveletOp.{WaveletOp}
 use Rattle.wavelet_op.proofs.Partial.{and_then_some}
 use Rattle.wavelet_op.proofs.Passes.{split_first}
 use Rattle.wavelet_op.proofs.Structures.{is_structured-holds}
-use Rattle.node_rules.specs.Followers.{FollowerOf, run_all, flying, pending, screen}
+use Rattle.follower_rules.specs.Followers.{FollowerOf, run_all, flying, pending, screen}
 use Rattle.client_control.specs.declared.flight.InFlight.{InFlight}
 use Rattle.client_control.specs.Parts.{Parts, flight_of, follower_of, ops_flying, ops_pending, settled, IsNormalFlight}
 use Rattle.client_control.specs.Steps.{AreStructured}

@@ -17,11 +17,11 @@ use Rattle.wavelet_state.specs.Snapshots.{max_inserted}
 use Rattle.delta_history.specs.Points.{Point, acts_of, point_behind, next_point}
 use Rattle.delta_history.specs.Steps.{IsWithin}
 use Rattle.delta_history.proofs.Points.{and_then_is}
-use Rattle.node_rules.specs.declared.received.Received.TheVariants.{OtherFlight, NotNext, Advanced}
-use Rattle.node_rules.specs.Followers.{FollowerOf, inserted_all, flying, pending, screen, moved}
-use Rattle.node_rules.specs.Laws.{IsSound}
-use Rattle.node_rules.specs.Receiving.{Over, over, is_within, advance_with, advance_within, with_acts, is_own, advance_to, advance, receive_other, receive_own, receive_id, receive_flight}
-use Rattle.node_rules.proofs.Advances.{ops_back, bounded, passing_is, landing_is}
+use Rattle.follower_rules.specs.declared.received.Received.TheVariants.{OtherFlight, NotNext, Advanced}
+use Rattle.follower_rules.specs.Followers.{FollowerOf, inserted_all, flying, pending, screen, moved}
+use Rattle.follower_rules.specs.Laws.{IsSound}
+use Rattle.follower_rules.specs.Receiving.{Over, over, is_within, advance_with, advance_within, with_acts, is_own, advance_to, advance, receive_other, receive_own, receive_id, receive_flight}
+use Rattle.follower_rules.proofs.Advances.{ops_back, bounded, passing_is, landing_is}
 use Rattle.client_control.specs.declared.flight.InFlight.{InFlight}
 use Rattle.client_control.specs.declared.past.Passed.{Passed}
 use Rattle.client_control.specs.declared.receiving.Meeting.{Meeting}

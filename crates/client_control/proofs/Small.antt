@@ -7,7 +7,7 @@ use Rattle.doc_items.specs.Maps.{Key}
 use Rattle.doc_items.specs.declared.item.Item.{Item}
 use Rattle.wavelet_op.specs.States.{State, document_of}
 use Rattle.wavelet_state.specs.Parts.{count_all, item_count}
-use Rattle.node_rules.specs.Laws.{IsSmall}
+use Rattle.follower_rules.specs.Laws.{IsSmall}
 
 found_small : (es : List (Key × List Item)) (k : Key) → length (unwrap_or (find (slice_cmp nat_cmp) k es) []) ≤ count_all es
 found_small [] k = omega arith

@@ -12,7 +12,7 @@ use Rattle.std.specs.Result.{result_ok}
 use Rattle.wavelet_op.specs.Acts.{Act, meanings, AreNormal}
 use Rattle.wavelet_op.specs.Compacts.{Unfit, bounded_join, act_front, compact_by, bounded_compact}
 use Rattle.wavelet_op.specs.declared.op.WaveletOp.{WaveletOp}
-use Rattle.node_rules.specs.Submitting.{if_fits, Gathered, gather}
+use Rattle.follower_rules.specs.Submitting.{if_fits, Gathered, gather}
 use Rattle.client_control.specs.declared.joining.Joint.{Joint}
 
 abbrev pub Joined : Type 0

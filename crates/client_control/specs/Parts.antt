@@ -17,8 +17,8 @@ use Rattle.wavelet_op.specs.Acts.{meanings, AreNormal}
 use Rattle.wavelet_op.specs.States.{State}
 use Rattle.wavelet_op.specs.declared.op.WaveletOp.{WaveletOp}
 use Rattle.delta_history.specs.Points.{Point}
-use Rattle.node_rules.specs.Followers.{ClientOf, Flight, FollowerOf, inserted_all, pending, screen}
-use Rattle.node_rules.specs.Laws.{IsSound}
+use Rattle.follower_rules.specs.Followers.{ClientOf, Flight, FollowerOf, inserted_all, pending, screen}
+use Rattle.follower_rules.specs.Laws.{IsSound}
 use Rattle.client_control.specs.declared.flight.InFlight.{InFlight}
 
 pub record Parts : Type 0 where

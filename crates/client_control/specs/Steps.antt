@@ -21,11 +21,11 @@ use Rattle.delta_history.specs.Steps.{IsWithin}
 use Rattle.delta_history.specs.Verdicts.{ops_of}
 use Rattle.wavelet_op.specs.Acts.{Act}
 use Rattle.wavelet_op.specs.States.{State, run, first_invalid}
-use Rattle.node_rules.specs.declared.fault.FollowerFault.{FollowerFault}
-use Rattle.node_rules.specs.declared.fault.FollowerFault.TheVariants.{OpInvalid, EditFull, TooBig, NumbersSpent, Memory}
-use Rattle.node_rules.specs.declared.received.Received.TheVariants.{OtherFlight}
-use Rattle.node_rules.specs.Followers.{Flight, FollowerOf, flying}
-use Rattle.node_rules.specs.Receiving.{past, rebase, over, is_own, advance, receive_other, receive_flight}
+use Rattle.follower_rules.specs.declared.fault.FollowerFault.{FollowerFault}
+use Rattle.follower_rules.specs.declared.fault.FollowerFault.TheVariants.{OpInvalid, EditFull, TooBig, NumbersSpent, Memory}
+use Rattle.follower_rules.specs.declared.received.Received.TheVariants.{OtherFlight}
+use Rattle.follower_rules.specs.Followers.{Flight, FollowerOf, flying}
+use Rattle.follower_rules.specs.Receiving.{past, rebase, over, is_own, advance, receive_other, receive_flight}
 use Rattle.client_control.specs.declared.flight.InFlight.{InFlight}
 use Rattle.client_control.specs.declared.step.Step.{Step}
 use Rattle.client_control.specs.declared.past.Rebased.{Rebased}

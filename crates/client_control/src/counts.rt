@@ -2,7 +2,7 @@
 ghost use Rattle.std.specs.Prelude.{◌≡◌, ◌≤◌, ◌+◌, ◌*◌, ◌++◌, map};
 ghost use Rattle.std.specs.Option.{option_to_list};
 ghost use Rattle.wavelet_state.specs.Snapshots.{max_inserted};
-ghost use Rattle.node_rules.specs.Followers.{inserted_all};
+ghost use Rattle.follower_rules.specs.Followers.{inserted_all};
 ghost use Rattle.doc_items.specs.Limits.{max_count};
 ghost use Rattle.wavelet_op.specs.Acts.{inserted_act, inserted, meaning, meanings};
 

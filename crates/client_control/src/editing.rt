@@ -2,8 +2,8 @@
 ghost use Rattle.std.specs.Prelude.{◌≡◌, ◌<◌, true, false, Some, Ok, IfOk, IfErr, OnOk, OnErr};
 ghost use Rattle.wavelet_op.specs.Acts.{meanings, AreNormal};
 ghost use Rattle.wavelet_op.specs.States.{run};
-ghost use Rattle.node_rules.specs.Followers.{screen};
-ghost use Rattle.node_rules.specs.Submitting.{IsFault, is_short, edit};
+ghost use Rattle.follower_rules.specs.Followers.{screen};
+ghost use Rattle.follower_rules.specs.Submitting.{IsFault, is_short, edit};
 ghost use Rattle.client_control.specs.Parts.{follower_of};
 ghost use Rattle.client_control.specs.Steps.{IsInvalid, IsTried};
 

@@ -4,15 +4,15 @@ ghost use Rattle.std.specs.Option.{option_copied, option_map, option_map_or};
 ghost use Rattle.doc_items.specs.Limits.{max_count};
 ghost use Rattle.wave_base.specs.Versions.{same_id};
 ghost use Rattle.wavelet_op.specs.Acts.{meanings, AreNormal};
-ghost use Rattle.node_rules.specs.Followers.{ClientOf, Flight, new_follower, pending, screen, dropped, refuse, point_of, take_snapshot};
-ghost use Rattle.node_rules.specs.Laws.{IsSound};
+ghost use Rattle.follower_rules.specs.Followers.{ClientOf, Flight, new_follower, pending, screen, dropped, refuse, point_of, take_snapshot};
+ghost use Rattle.follower_rules.specs.Laws.{IsSound};
 ghost use Rattle.client_control.specs.Parts.{Parts, follower_of, ops_pending, settled};
 
 use crate::flight::{InFlight, copy_flight};
 use crate::past::copy_queue;
 use crate::replay::{run_all, run_flight};
 use doc_items::Memory;
-use node_rules::Taken;
+use follower_rules::Taken;
 use std::alloc::Global;
 use std::marker::Model;
 use wave_base::{Address, DeltaId, HashedVersion, WaveletName};

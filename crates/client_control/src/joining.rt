@@ -3,7 +3,7 @@ ghost use Rattle.std.specs.Prelude.{◌≡◌, ◌<◌, ◌++◌, ◌∷◌, [],
 ghost use Rattle.std.specs.Result.{result_ok};
 ghost use Rattle.wavelet_op.specs.Acts.{meanings, AreNormal};
 ghost use Rattle.wavelet_op.specs.Compacts.{bounded_compact};
-ghost use Rattle.node_rules.specs.Submitting.{gather};
+ghost use Rattle.follower_rules.specs.Submitting.{gather};
 ghost use Rattle.client_control.specs.Joins.{join_on, IsCompacted, IsJoining, IsFit, IsFitting, IsGathered, IsGathering};
 
 use crate::submitting::SUBMIT_BYTES;

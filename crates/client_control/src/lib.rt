@@ -15,6 +15,6 @@ mod step;
 mod submitting;
 
 pub use follower::Follower;
-pub use node_rules::{FollowerFault, Received, Taken};
+pub use follower_rules::{FollowerFault, Received, Taken};
 pub use past::{Rebased, rebase};
 pub use submitting::SUBMIT_BYTES;

@@ -2,7 +2,7 @@
 ghost use Rattle.std.specs.Prelude.{◌≡◌, ◌++◌, ◌∷◌, [], None, map, MatchOption, IfOk, OnOk};
 ghost use Rattle.std.specs.Option.{option_map};
 ghost use Rattle.wavelet_op.specs.Acts.{meanings, AreStructuredActs};
-ghost use Rattle.node_rules.specs.Receiving.{past, rebase, over};
+ghost use Rattle.follower_rules.specs.Receiving.{past, rebase, over};
 ghost use Rattle.client_control.specs.Parts.{flight_of, ops_flying};
 ghost use Rattle.client_control.specs.Steps.{AreStructured, IsPair, IsRebased, IsOver};
 

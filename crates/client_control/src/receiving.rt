@@ -5,7 +5,7 @@ ghost use Rattle.wavelet_codec.specs.Spelling.{delta_bytes, IsDelta};
 ghost use Rattle.wavelet_op.specs.Acts.{meanings, AreNormal};
 ghost use Rattle.wavelet_op.specs.States.{run};
 ghost use Rattle.delta_history.specs.Points.{acts_of};
-ghost use Rattle.node_rules.specs.Receiving.{advance, receive_other, receive_flight, receive};
+ghost use Rattle.follower_rules.specs.Receiving.{advance, receive_other, receive_flight, receive};
 ghost use Rattle.client_control.specs.Parts.{follower_of, with_ops};
 ghost use Rattle.client_control.specs.Steps.{IsComparison, IsMeeting, IsOver};
 

@@ -2,7 +2,7 @@
 ghost use Rattle.std.specs.Prelude.{◌≡◌, ◌≢◌, map, None, Some, IfOk, OnOk, OnErr};
 ghost use Rattle.wavelet_op.specs.Acts.{meanings};
 ghost use Rattle.wavelet_op.specs.States.{run};
-ghost use Rattle.node_rules.specs.Followers.{run_all};
+ghost use Rattle.follower_rules.specs.Followers.{run_all};
 ghost use Rattle.client_control.specs.Parts.{ops_flying};
 
 use crate::flight::InFlight;

@@ -2,7 +2,7 @@
 ghost use Rattle.std.specs.Prelude.{◌≡◌, ◌≤◌, Ok, IfOk, IfErr, OnErr};
 ghost use Rattle.doc_items.specs.Limits.{max_count};
 ghost use Rattle.wavelet_op.specs.Acts.{meanings, AreNormal};
-ghost use Rattle.node_rules.specs.Submitting.{IsFault, sent_by, submit};
+ghost use Rattle.follower_rules.specs.Submitting.{IsFault, sent_by, submit};
 ghost use Rattle.client_control.specs.Parts.{follower_of};
 
 use crate::counts::inserted_both;

@@ -18,9 +18,9 @@ use Rattle.delta_history.specs.Places.{started_below}
 use Rattle.delta_history.specs.Points.{Point, start, acts_of, replay, IsAt}
 use Rattle.delta_history.proofs.Chains.{legal_front, legal_behind, starts_at}
 use Rattle.delta_history.proofs.Points.{replay_more}
-use Rattle.node_rules.specs.Followers.{ClientOf, Flight, FollowerOf, flying, pending}
-use Rattle.node_rules.specs.Receiving.{past, rebase, receive}
-use Rattle.node_rules.proofs.Advances.{IsAdvance}
+use Rattle.follower_rules.specs.Followers.{ClientOf, Flight, FollowerOf, flying, pending}
+use Rattle.follower_rules.specs.Receiving.{past, rebase, receive}
+use Rattle.follower_rules.proofs.Advances.{IsAdvance}
 use Rattle.wave_world.specs.Texts.{AreTextActs}
 use Rattle.wave_world.specs.Worlds.{Mem}
 use Rattle.wave_world.proofs.Clients.{IsFollower, meets, receive_follower}

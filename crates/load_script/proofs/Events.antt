@@ -12,9 +12,9 @@ use Rattle.wavelet_op.specs.Deltas.{DeltaOf, is_count}
 use Rattle.wavelet_op.specs.declared.delta.Submission.{Submission}
 use Rattle.delta_history.specs.Laws.{IsJudged}
 use Rattle.delta_history.specs.Verdicts.{Judged, judge}
-use Rattle.node_rules.specs.Followers.{ClientOf, same_client, FollowerOf, dropped}
-use Rattle.node_rules.specs.Receiving.{receive}
-use Rattle.node_rules.specs.Submitting.{Edited, edit, submit}
+use Rattle.follower_rules.specs.Followers.{ClientOf, same_client, FollowerOf, dropped}
+use Rattle.follower_rules.specs.Receiving.{receive}
+use Rattle.follower_rules.specs.Submitting.{Edited, edit, submit}
 use Rattle.wave_world.specs.Texts.{AreTextActs}
 use Rattle.wave_world.specs.Worlds.{Mem, Answer, World, Event, Edits, Submits, TakesDelta, TakesRefusal, Drops, HostTakes, set_follower, to_follower, pool, submitted, grown, pooled, take_answer, host_answers, happens}
 use Rattle.wave_world.proofs.Clients.{same_client_is}

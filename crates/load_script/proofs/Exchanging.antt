@@ -20,9 +20,9 @@ use Rattle.delta_history.specs.Legal.{IsLegal}
 use Rattle.delta_history.specs.Places.{started_below}
 use Rattle.delta_history.specs.Points.{start, replay}
 use Rattle.delta_history.specs.Verdicts.{judge}
-use Rattle.node_rules.specs.declared.fault.FollowerFault.TheVariants.{TooBig, NumbersSpent}
-use Rattle.node_rules.specs.Followers.{ClientOf, Flight, FollowerOf, flying, pending, dropped, refuse_if}
-use Rattle.node_rules.specs.Submitting.{Gathered, fitting, gather_on, gather, sent_by, submitting, take_numbered, take_gathered, take_queued, take_unless, Submitted, submit}
+use Rattle.follower_rules.specs.declared.fault.FollowerFault.TheVariants.{TooBig, NumbersSpent}
+use Rattle.follower_rules.specs.Followers.{ClientOf, Flight, FollowerOf, flying, pending, dropped, refuse_if}
+use Rattle.follower_rules.specs.Submitting.{Gathered, fitting, gather_on, gather, sent_by, submitting, take_numbered, take_gathered, take_queued, take_unless, Submitted, submit}
 use Rattle.client_control.specs.Parts.{settled}
 use Rattle.wave_world.specs.Worlds.{Mem, World, grown, take_answer}
 use Rattle.wave_world.proofs.Events.{IsGood}

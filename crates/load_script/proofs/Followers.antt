@@ -10,7 +10,7 @@ use Rattle.doc_items.specs.Maps.{Key, same_text}
 use Rattle.doc_op.proofs.Applying.{no_value, same_Some}
 use Rattle.wavelet_op.specs.Deltas.{DeltaOf}
 use Rattle.wavelet_op.proofs.Partial.{both}
-use Rattle.node_rules.specs.Followers.{ClientOf, same_client, FollowerOf}
+use Rattle.follower_rules.specs.Followers.{ClientOf, same_client, FollowerOf}
 use Rattle.wave_world.specs.Worlds.{World}
 use Rattle.wave_world.proofs.Clients.{client_same}
 use Rattle.wave_world.proofs.Events.{IsGood}

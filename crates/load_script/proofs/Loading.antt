@@ -14,9 +14,9 @@ use Rattle.op_build.specs.Plans.{erasing}
 use Rattle.wavelet_op.specs.Acts.{Act, Adds, Mutates}
 use Rattle.wavelet_op.specs.Deltas.{DeltaOf}
 use Rattle.delta_history.specs.Points.{Point, start, replay, end_of}
-use Rattle.node_rules.specs.Followers.{ClientOf, Flight, FollowerOf, new_follower, run_all, flying, pending}
-use Rattle.node_rules.specs.Submitting.{Edited, edit}
-use Rattle.node_rules.proofs.Sounds.{edited_is}
+use Rattle.follower_rules.specs.Followers.{ClientOf, Flight, FollowerOf, new_follower, run_all, flying, pending}
+use Rattle.follower_rules.specs.Submitting.{Edited, edit}
+use Rattle.follower_rules.proofs.Sounds.{edited_is}
 use Rattle.wave_world.specs.Texts.{AreTextActs, AreTextsIn}
 use Rattle.wave_world.specs.Worlds.{Mem, World, Event, Starts, world_of}
 use Rattle.wave_world.proofs.Events.{IsGood, good}

@@ -9,9 +9,9 @@ use Rattle.doc_op.proofs.Applying.{same_Some}
 use Rattle.wavelet_op.specs.Acts.{Act, inserted}
 use Rattle.wavelet_op.specs.States.{State, document_of, run}
 use Rattle.wavelet_op.proofs.Partial.{and_then_some}
-use Rattle.node_rules.specs.Followers.{FollowerOf, run_all, inserted_all, pending, screen}
-use Rattle.node_rules.specs.Laws.{IsSmall, IsSound}
-use Rattle.node_rules.proofs.Room.{small_run}
+use Rattle.follower_rules.specs.Followers.{FollowerOf, run_all, inserted_all, pending, screen}
+use Rattle.follower_rules.specs.Laws.{IsSmall, IsSound}
+use Rattle.follower_rules.proofs.Room.{small_run}
 use Rattle.load_script.specs.Edits.{letters}
 use Rattle.load_script.specs.Names.{the_document}
 

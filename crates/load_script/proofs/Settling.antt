@@ -1,7 +1,7 @@
 -- So many exchanges, one by one.
 --     settling_on, settling_done     at least one is left; nothing is pending
 use Rattle.std.proofs.Common.{◌≡◌, ℕ, zero, suc, ◌-◌, ◌<◌, true, false, cond, refl, ap, ◌∙◌, arith}
-use Rattle.node_rules.specs.Followers.{pending}
+use Rattle.follower_rules.specs.Followers.{pending}
 use Rattle.client_control.specs.Parts.{settled}
 use Rattle.load_script.specs.Exchanges.{Meeting, exchanged, settling}
 

@@ -9,7 +9,7 @@ use Rattle.std.specs.Result.{OnOk}
 use Rattle.std.proofs.lemmas.List.{map-set}
 use Rattle.std.proofs.lemmas.Option.{slice_get-map, slice_get_past}
 use Rattle.wavelet_op.specs.Deltas.{DeltaOf}
-use Rattle.node_rules.specs.Followers.{FollowerOf}
+use Rattle.follower_rules.specs.Followers.{FollowerOf}
 use Rattle.client_control.specs.Parts.{Parts, follower_of}
 use Rattle.load_script.specs.Exchanges.{Meeting, meeting}
 use Rattle.load_script.specs.Draws.{next, drawn}

@@ -32,7 +32,7 @@ use Rattle.wavelet_op.proofs.Squares.{document_there, document_elsewhere}
 use Rattle.doc_items.specs.Maps.{same_text}
 use Rattle.delta_history.specs.Points.{Point, start, acts_of, next_point, replay}
 use Rattle.delta_history.proofs.Points.{behind_point}
-use Rattle.node_rules.specs.Followers.{ClientOf, FollowerOf, run_all, pending}
+use Rattle.follower_rules.specs.Followers.{ClientOf, FollowerOf, run_all, pending}
 use Rattle.wave_world.specs.Texts.{AreTextsIn, AreText, IsTextAct, AreTextActs, AreTextEntries}
 use Rattle.wave_world.specs.Worlds.{Mem}
 use Rattle.wave_world.proofs.Clients.{IsFollower}

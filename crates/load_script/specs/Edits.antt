@@ -17,8 +17,8 @@ use Rattle.doc_op.specs.Actions.{Action}
 use Rattle.op_build.specs.Plans.{typing, erasing}
 use Rattle.wavelet_op.specs.Acts.{Act, Adds, Mutates}
 use Rattle.wavelet_op.specs.States.{document_of}
-use Rattle.node_rules.specs.Followers.{FollowerOf, screen}
-use Rattle.node_rules.specs.Submitting.{Edited, edit}
+use Rattle.follower_rules.specs.Followers.{FollowerOf, screen}
+use Rattle.follower_rules.specs.Submitting.{Edited, edit}
 use Rattle.load_script.specs.Draws.{next, drawn}
 use Rattle.load_script.specs.Names.{the_document, users}
 

@@ -11,9 +11,9 @@ use Rattle.wavelet_op.specs.Deltas.{DeltaOf}
 use Rattle.wavelet_op.specs.declared.delta.Submission.{Submission}
 use Rattle.delta_history.specs.Places.{started_below}
 use Rattle.delta_history.specs.Verdicts.{Judged, judge}
-use Rattle.node_rules.specs.Followers.{FollowerOf, pending, dropped}
-use Rattle.node_rules.specs.Receiving.{receive}
-use Rattle.node_rules.specs.Submitting.{Submitted, submit}
+use Rattle.follower_rules.specs.Followers.{FollowerOf, pending, dropped}
+use Rattle.follower_rules.specs.Receiving.{receive}
+use Rattle.follower_rules.specs.Submitting.{Submitted, submit}
 use Rattle.client_control.specs.Parts.{settled}
 use Rattle.wave_world.specs.Worlds.{grown, take_answer}
 use Rattle.load_script.specs.Names.{the_wavelet}

@@ -17,7 +17,7 @@ use Rattle.doc_items.specs.Maps.{Key}
 use Rattle.wavelet_op.specs.Deltas.{DeltaOf}
 use Rattle.wavelet_op.specs.States.{document_of}
 use Rattle.delta_history.specs.Points.{Point, end_of}
-use Rattle.node_rules.specs.Followers.{ClientOf, FollowerOf, new_follower, screen}
+use Rattle.follower_rules.specs.Followers.{ClientOf, FollowerOf, new_follower, screen}
 use Rattle.load_script.specs.Draws.{next, drawn}
 use Rattle.load_script.specs.Edits.{types, erases, invited}
 use Rattle.load_script.specs.Exchanges.{Meeting, meeting, level, exchanged, settling}

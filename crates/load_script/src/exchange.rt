@@ -2,8 +2,8 @@
 ghost use Rattle.std.specs.Prelude.{◌≡◌, ◌≤◌, nat_lt, length, IfOk, OnOk};
 ghost use Rattle.delta_history.specs.Places.{started_below, IsRisingFrom};
 ghost use Rattle.delta_history.specs.Verdicts.{judge};
-ghost use Rattle.node_rules.specs.Followers.{refuse};
-ghost use Rattle.node_rules.specs.Submitting.{submit};
+ghost use Rattle.follower_rules.specs.Followers.{refuse};
+ghost use Rattle.follower_rules.specs.Submitting.{submit};
 ghost use Rattle.wave_world.specs.Worlds.{take_answer};
 ghost use Rattle.client_control.specs.Parts.{follower_of};
 ghost use Rattle.load_script.specs.Exchanges.{meeting, lacking, received, caught_up, answered, submitted, exchanged, settling};

@@ -1,7 +1,7 @@
 // The host and the followers, as the load moves them.
 ghost use Rattle.std.specs.Prelude.{◌≡◌, ◌+◌, ◌<◌, ◌∷◌, [], map, IfOk, OnOk};
 ghost use Rattle.doc_items.specs.Maps.{Key};
-ghost use Rattle.node_rules.specs.Followers.{new_follower};
+ghost use Rattle.follower_rules.specs.Followers.{new_follower};
 ghost use Rattle.client_control.specs.Parts.{follower_of};
 ghost use Rattle.load_script.specs.Exchanges.{meeting, level};
 ghost use Rattle.load_script.specs.Loads.{client, first, edited, founding, on, each, founded, turned, step, settles, summary};

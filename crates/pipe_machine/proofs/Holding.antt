@@ -31,11 +31,11 @@ use Rattle.delta_history.specs.Places.{started_below}
 use Rattle.delta_history.specs.Points.{Point, start, next_point, replay, cut}
 use Rattle.delta_history.specs.Verdicts.{kept, accepted, is_within, same_hash, Judged, judge_next, judge_bounds, judge_pass, judge_ops, judge_hash, judge_base, judge_author, judge_head, judge_kept, judge}
 use Rattle.delta_history.specs.declared.kept.Kept.{Kept}
-use Rattle.message_parts.specs.Good.{is_count}
-use Rattle.message_parts.specs.declared.reason.BadReason.TheVariants as bad
-use Rattle.message_parts.specs.declared.reason.UnopenedReason.TheVariants as unopened
-use Rattle.message_table.specs.declared.message.Message.{Message}
-use Rattle.message_table.specs.declared.message.Message.TheVariants as message
+use Rattle.wavelet_json.specs.Good.{is_count}
+use Rattle.wavelet_json.specs.declared.reason.BadReason.TheVariants as bad
+use Rattle.wavelet_json.specs.declared.reason.UnopenedReason.TheVariants as unopened
+use Rattle.message_json.specs.declared.message.Message.{Message}
+use Rattle.message_json.specs.declared.message.Message.TheVariants as message
 use Rattle.wave_messages.specs.Read.{Refused, line_read}
 use Rattle.session_core.specs.declared.session.Party.{Party}
 use Rattle.session_core.specs.declared.session.Party.TheVariants.{Nobody, User, Domain}
@@ -52,7 +52,7 @@ use Rattle.session_core.specs.Rules.{Taken, refused, with_party, is_new, is_user
 use Rattle.wavelet_shelf.specs.Hosting.{Hosted, names_of, deltas_in, copy_of, copy_in, judged_in, with_added}
 use Rattle.wavelet_shelf.specs.Shelves.{acknowledged}
 use Rattle.wavelet_shelf.proofs.Growing.{grows_alone}
-use Rattle.line_run.specs.Turns.{Turn}
+use Rattle.line_loop.specs.Turns.{Turn}
 use Rattle.pipe_machine.specs.declared.seats.Seat.{Seat}
 use Rattle.pipe_machine.specs.Held.{IsIn, HasOf, IsHead, IsHeld}
 use Rattle.pipe_machine.specs.Keeping.{Begins}

@@ -17,13 +17,13 @@ use Rattle.wavelet_op.specs.declared.op.WaveletOp.{WaveletOp}
 use Rattle.wavelet_op.specs.declared.verdict.Verdict.{Verdict}
 use Rattle.wavelet_op.specs.declared.verdict.Verdict.TheVariants as verdict
 use Rattle.delta_history.specs.Histories.{HistoryOf, head_of, hash_found}
-use Rattle.message_parts.specs.Good.{is_count}
-use Rattle.message_parts.specs.declared.reason.BadReason.{BadReason}
-use Rattle.message_parts.specs.declared.reason.BadReason.TheVariants as bad
-use Rattle.message_parts.specs.declared.reason.UnopenedReason.TheVariants as unopened
-use Rattle.message_table.specs.Write.{IsShort}
-use Rattle.message_table.specs.declared.message.Message.{Message}
-use Rattle.message_table.specs.declared.message.Message.TheVariants.{Hello, OpenWavelet, Submit, CloseWavelet, Welcome, Opened, Snapshot, Unopened, Ack, Refused, Queued, Update, Closed, Bad, Peer, Have, Relay, Applied, Relayed, Dropped}
+use Rattle.wavelet_json.specs.Good.{is_count}
+use Rattle.wavelet_json.specs.declared.reason.BadReason.{BadReason}
+use Rattle.wavelet_json.specs.declared.reason.BadReason.TheVariants as bad
+use Rattle.wavelet_json.specs.declared.reason.UnopenedReason.TheVariants as unopened
+use Rattle.message_json.specs.Write.{IsShort}
+use Rattle.message_json.specs.declared.message.Message.{Message}
+use Rattle.message_json.specs.declared.message.Message.TheVariants.{Hello, OpenWavelet, Submit, CloseWavelet, Welcome, Opened, Snapshot, Unopened, Ack, Refused, Queued, Update, Closed, Bad, Peer, Have, Relay, Applied, Relayed, Dropped}
 use Rattle.session_core.specs.declared.session.Party.{Party}
 use Rattle.session_core.specs.declared.session.Party.TheVariants.{Nobody, User, Domain}
 use Rattle.session_core.specs.declared.session.Opening.{Opening}
@@ -37,7 +37,7 @@ use Rattle.session_core.specs.Answers.{with_sent, verdict_message, told_verdict,
 use Rattle.session_core.specs.Deliveries.{since, updates, outcome_sent, outcomes_sent, opening_news, opening_sent, openings_sent, delivered_to, delivered, after_for, after_delivery}
 use Rattle.session_core.specs.Rules.{Taken, party_is_user, party_is_peer, has_user, refused, with_party, is_new, is_user, greeted, as_user, in_domain, is_reached, place_of, closed_at, asked_open, submission_of, submitted_as, submitted, closed, taken}
 use Rattle.wavelet_shelf.specs.Hosting.{Hosted, judged_in}
-use Rattle.line_run.specs.declared.line_machine.TurnFault.{TurnFault}
+use Rattle.line_loop.specs.declared.line_machine.TurnFault.{TurnFault}
 use Rattle.pipe_machine.specs.Keeping.{asks_for, submits}
 use Rattle.pipe_machine.specs.Machine.{Reply, shown_in, reply_of, asked}
 use Rattle.pipe_machine.specs.Seats.{IsPlain, AsksAsUser}

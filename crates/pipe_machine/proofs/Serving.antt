@@ -6,7 +6,7 @@
 use Rattle.std.proofs.Common.{◌≡◌, ◌<◌, ℕ, zero, suc, List, [], ◌∷◌, ◌++◌, length, get_or, slice_set, refl, sym, ap, ◌∙◌, arith}
 use Rattle.std.proofs.lemmas.List.{append-nil}
 use Rattle.doc_items.specs.Maps.{Key}
-use Rattle.message_table.specs.declared.message.Message.{Message}
+use Rattle.message_json.specs.declared.message.Message.{Message}
 use Rattle.session_core.specs.declared.session.Session.{Session}
 use Rattle.wavelet_shelf.specs.Hosting.{Hosted}
 use Rattle.pipe_machine.specs.declared.seats.Seat.{Seat}

@@ -14,9 +14,9 @@ use Rattle.wave_outside.specs.Counts.{Rose}
 use Rattle.wavelet_shelf.specs.Shelves.{hosted_of, in_folder, fault_count}
 use Rattle.wavelet_shelf.specs.declared.shelf.Shelf.{Shelf}
 use Rattle.wavelet_shelf.proofs.Still.{used_on, used_more, used_there}
-use Rattle.line_run.specs.Turns.{Turn, turn_at}
-use Rattle.line_run.specs.declared.line_machine.TurnFault.{TurnFault}
-use Rattle.line_run.specs.declared.line_machine.TurnFault.TheVariants.{Store}
+use Rattle.line_loop.specs.Turns.{Turn, turn_at}
+use Rattle.line_loop.specs.declared.line_machine.TurnFault.{TurnFault}
+use Rattle.line_loop.specs.declared.line_machine.TurnFault.TheVariants.{Store}
 use Rattle.pipe_machine.specs.Pipes.{faults_where, store_faults}
 use Rattle.pipe_machine.specs.Keeping.{submits_to, submitted_in, IsFileAmong, IsMoved, IsEnded}
 use Rattle.pipe_machine.specs.Lines.{lines_of}

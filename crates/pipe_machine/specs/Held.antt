@@ -9,12 +9,12 @@ use Rattle.doc_items.specs.Maps.{Key}
 use Rattle.wavelet_op.specs.Deltas.{DeltaOf}
 use Rattle.wavelet_state.specs.Snapshots.{SnapshotOf}
 use Rattle.delta_history.specs.Points.{end_of}
-use Rattle.message_table.specs.declared.message.Message.{Message}
-use Rattle.message_table.specs.declared.message.Message.TheVariants.{Hello, OpenWavelet, Submit, CloseWavelet, Welcome, Opened, Snapshot, Unopened, Ack, Refused, Queued, Update, Closed, Bad, Peer, Have, Relay, Applied, Relayed, Dropped}
+use Rattle.message_json.specs.declared.message.Message.{Message}
+use Rattle.message_json.specs.declared.message.Message.TheVariants.{Hello, OpenWavelet, Submit, CloseWavelet, Welcome, Opened, Snapshot, Unopened, Ack, Refused, Queued, Update, Closed, Bad, Peer, Have, Relay, Applied, Relayed, Dropped}
 use Rattle.std.specs.List.{All}
 use Rattle.delta_history.specs.Copying.{AreAscending}
 use Rattle.wavelet_shelf.specs.Hosting.{Hosted, names_of, deltas_in}
-use Rattle.line_run.specs.Turns.{Turn}
+use Rattle.line_loop.specs.Turns.{Turn}
 use Rattle.pipe_machine.specs.Keeping.{Begins}
 use Rattle.pipe_machine.specs.Machine.{Pipe, sent, after}
 

@@ -12,8 +12,8 @@ use Rattle.std.specs.List.{list_any}
 use Rattle.doc_items.specs.Maps.{Key, same_text}
 use Rattle.wavelet_op.specs.Deltas.{DeltaOf}
 use Rattle.disk_model.specs.declared.disk.Disk as disk_of
-use Rattle.message_table.specs.declared.message.Message.{Message}
-use Rattle.message_table.specs.declared.message.Message.TheVariants.{Hello, OpenWavelet, Submit, CloseWavelet, Welcome, Opened, Snapshot, Unopened, Ack, Refused, Queued, Update, Closed, Bad, Peer, Have, Relay, Applied, Relayed, Dropped}
+use Rattle.message_json.specs.declared.message.Message.{Message}
+use Rattle.message_json.specs.declared.message.Message.TheVariants.{Hello, OpenWavelet, Submit, CloseWavelet, Welcome, Opened, Snapshot, Unopened, Ack, Refused, Queued, Update, Closed, Bad, Peer, Have, Relay, Applied, Relayed, Dropped}
 use Rattle.wave_messages.specs.Read as reading
 use Rattle.wave_outside.specs.Counts.{Rose}
 use Rattle.wave_outside.specs.declared.folder.Folder as folder_of
@@ -24,9 +24,9 @@ use Rattle.wavelet_shelf.specs.Shelves.{hosted_of, in_folder, container_in, faul
 use Rattle.wavelet_shelf.specs.declared.shelf.Shelf.{Shelf}
 use Rattle.session_core.specs.declared.request.Request.{Request}
 use Rattle.session_core.specs.declared.request.Request.TheVariants as ask
-use Rattle.line_run.specs.Turns.{Turn}
-use Rattle.line_run.specs.declared.line_machine.TurnFault.{TurnFault}
-use Rattle.line_run.specs.declared.line_machine.TurnFault.TheVariants.{Store}
+use Rattle.line_loop.specs.Turns.{Turn}
+use Rattle.line_loop.specs.declared.line_machine.TurnFault.{TurnFault}
+use Rattle.line_loop.specs.declared.line_machine.TurnFault.TheVariants.{Store}
 
 abbrev pub Begins : List DeltaOf → List DeltaOf → Type 0
 Begins ds es = (rest : List DeltaOf) × (ds ++ rest ≡ es)

@@ -5,8 +5,8 @@
 --     lines_of ss        the lines, one after the other
 use Rattle.std.specs.Prelude.{ℕ, List, [], ◌∷◌, ◌++◌}
 use Rattle.serde_json.specs.Written.{compact_text}
-use Rattle.message_table.specs.Write.{message_data}
-use Rattle.message_table.specs.declared.message.Message.{Message}
+use Rattle.message_json.specs.Write.{message_data}
+use Rattle.message_json.specs.declared.message.Message.{Message}
 use Rattle.wave_messages.specs.Write.{line_data}
 
 pub record Sent : Type 0 where

@@ -16,9 +16,9 @@ use Rattle.doc_items.specs.Maps.{Key}
 use Rattle.wave_base.specs.Versions.{IdOf}
 use Rattle.wavelet_op.specs.declared.verdict.Verdict.{Verdict}
 use Rattle.delta_history.specs.Copying.{kept_in}
-use Rattle.message_parts.specs.declared.reason.BadReason.TheVariants as bad
-use Rattle.message_table.specs.declared.message.Message.{Message}
-use Rattle.message_table.specs.declared.message.Message.TheVariants.{Bad}
+use Rattle.wavelet_json.specs.declared.reason.BadReason.TheVariants as bad
+use Rattle.message_json.specs.declared.message.Message.{Message}
+use Rattle.message_json.specs.declared.message.Message.TheVariants.{Bad}
 use Rattle.wave_messages.specs.declared.fault.Kind.{Kind}
 use Rattle.wave_messages.specs.Read.{Refused, line_read}
 use Rattle.session_core.specs.declared.session.Session.{Session}
@@ -30,7 +30,7 @@ use Rattle.session_core.specs.Answers.{attached, answered as told}
 use Rattle.session_core.specs.Rules.{Taken, taken, reason_of}
 use Rattle.wavelet_shelf.specs.Hosting.{Hosted, names_of, copy_in, judged_in, after_submission}
 use Rattle.wavelet_shelf.specs.Shelves.{acknowledged}
-use Rattle.line_run.specs.Turns.{Turn}
+use Rattle.line_loop.specs.Turns.{Turn}
 use Rattle.pipe_machine.specs.declared.seats.Seat.{Seat}
 use Rattle.pipe_machine.specs.Lines.{Sent, sent_to}
 use Rattle.pipe_machine.specs.Seats.{place_in, seated, seat_in, with_session, seats_sent, seats_after}

@@ -9,7 +9,7 @@ use Rattle.disk_model.specs.declared.disk.Disk as disk_of
 use Rattle.wave_outside.specs.declared.folder.Folder as folder_of
 use Rattle.wavelet_shelf.specs.Shelves.{hosted_of, in_folder, fault_count, IsKept, IsSettled}
 use Rattle.wavelet_shelf.specs.declared.shelf.Shelf.{Shelf}
-use Rattle.line_run.specs.Turns.{Turn}
+use Rattle.line_loop.specs.Turns.{Turn}
 use Rattle.pipe_machine.specs.declared.pipe.PipeMachine.{PipeMachine}
 use Rattle.pipe_machine.specs.Keeping.{submitted_in, IsMoved}
 use Rattle.pipe_machine.specs.Machine.{Pipe, after}

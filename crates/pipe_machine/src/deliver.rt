@@ -1,7 +1,7 @@
 // What is new to each session.
 ghost use Rattle.std.specs.Prelude.{◌≡◌, ◌++◌, map, IfOk, OnOk};
 ghost use Rattle.std.specs.List.{All};
-ghost use Rattle.message_table.specs.Write.{IsShort};
+ghost use Rattle.message_json.specs.Write.{IsShort};
 ghost use Rattle.session_core.specs.Deliveries.{delivered, after_delivery};
 ghost use Rattle.wavelet_shelf.specs.Shelves.{hosted_of};
 ghost use Rattle.pipe_machine.specs.Lines.{sent_to, lines_of};

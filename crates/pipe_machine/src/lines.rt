@@ -1,7 +1,7 @@
 // Lines on their way out.
 ghost use Rattle.std.specs.Prelude.{◌≡◌, ◌++◌, map, OnOk};
 ghost use Rattle.std.specs.List.{All};
-ghost use Rattle.message_table.specs.Write.{IsShort};
+ghost use Rattle.message_json.specs.Write.{IsShort};
 ghost use Rattle.pipe_machine.specs.Lines.{sent_to, line_of, lines_of};
 
 use doc_items::Memory;

@@ -13,7 +13,7 @@ use crate::pipe::PipeMachine;
 use crate::reply::reply;
 use crate::seats::seat_of;
 use doc_items::Memory;
-use line_run::{LineMachine, TurnFault};
+use line_loop::{LineMachine, TurnFault};
 use session_core::reason_of;
 use std::alloc::Global;
 use wave_base::SessionName;

@@ -1,6 +1,6 @@
 // The reply to a session's message.
 ghost use Rattle.std.specs.Prelude.{◌≡◌, true, IfOk, OnOk, OnErr, option_copied};
-ghost use Rattle.message_table.specs.Write.{IsShort};
+ghost use Rattle.message_json.specs.Write.{IsShort};
 ghost use Rattle.session_core.specs.Answers.{attached, answered};
 ghost use Rattle.session_core.specs.Rules.{has_user};
 ghost use Rattle.session_core.specs.declared.request.SubmitAnswer.TheVariants as answer;
@@ -12,7 +12,7 @@ ghost use Rattle.pipe_machine.specs.Machine.{shown_in, reply_of, asked, replied}
 ghost use Rattle.pipe_machine.specs.Seats.{IsPlain, AsksAsUser};
 
 use doc_items::Memory;
-use line_run::TurnFault;
+use line_loop::TurnFault;
 use session_core::{Request, Session, SubmitAnswer};
 use std::alloc::Global;
 use wave_base::{HashedVersion, WaveletName};

@@ -13,9 +13,9 @@ use Rattle.wavelet_op.specs.declared.verdict.Verdict.{Verdict}
 use Rattle.wavelet_op.specs.declared.verdict.Verdict.TheVariants as verdict
 use Rattle.delta_history.specs.Histories.{HistoryOf, head_of, hash_found}
 use Rattle.delta_history.specs.Places.{started_below}
-use Rattle.message_table.specs.declared.message.Message.{Message}
-use Rattle.message_parts.specs.declared.reason.UnopenedReason.TheVariants as unopened
-use Rattle.message_table.specs.declared.message.Message.TheVariants.{Opened, Unopened, Update, Snapshot, Applied, Dropped}
+use Rattle.message_json.specs.declared.message.Message.{Message}
+use Rattle.wavelet_json.specs.declared.reason.UnopenedReason.TheVariants as unopened
+use Rattle.message_json.specs.declared.message.Message.TheVariants.{Opened, Unopened, Update, Snapshot, Applied, Dropped}
 use Rattle.session_core.specs.declared.session.Party.{Party}
 use Rattle.session_core.specs.declared.session.Party.TheVariants.{Nobody, User, Domain}
 use Rattle.session_core.specs.declared.session.Opening.{Opening}

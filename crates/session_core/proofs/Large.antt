@@ -9,9 +9,9 @@ use Rattle.doc_items.specs.Maps.{Key}
 use Rattle.wave_base.specs.Versions.{VersionAt}
 use Rattle.wavelet_state.specs.Snapshots.{SnapshotOf, is_snapshot}
 use Rattle.delta_history.specs.Histories.{HistoryOf, head_of, hash_found}
-use Rattle.message_parts.specs.declared.reason.UnopenedReason.TheVariants as unopened
-use Rattle.message_table.specs.declared.message.Message.{Message}
-use Rattle.message_table.specs.declared.message.Message.TheVariants.{Opened, Snapshot, Unopened}
+use Rattle.wavelet_json.specs.declared.reason.UnopenedReason.TheVariants as unopened
+use Rattle.message_json.specs.declared.message.Message.{Message}
+use Rattle.message_json.specs.declared.message.Message.TheVariants.{Opened, Snapshot, Unopened}
 use Rattle.session_core.specs.declared.session.Session.{Session}
 use Rattle.session_core.specs.Access.{Shown}
 use Rattle.session_core.specs.Answers.{with_sent, snapshot_of, written_len, attached_head, attached_hash, attached_seen, seen_for, attached, IsLongHead, HasLongHead}

@@ -21,11 +21,11 @@ use Rattle.wavelet_op.specs.declared.verdict.Verdict.{Verdict}
 use Rattle.wavelet_op.specs.declared.verdict.Verdict.TheVariants as verdict
 use Rattle.wavelet_state.specs.Snapshots.{SnapshotOf, is_snapshot}
 use Rattle.delta_history.specs.Histories.{HistoryOf, head_of, hash_found}
-use Rattle.message_parts.specs.declared.reason.BadReason.TheVariants as bad
-use Rattle.message_parts.specs.declared.reason.UnopenedReason.TheVariants as unopened
-use Rattle.message_table.specs.Write.{message_data}
-use Rattle.message_table.specs.declared.message.Message.{Message}
-use Rattle.message_table.specs.declared.message.Message.TheVariants.{Opened, Snapshot, Unopened, Ack, Refused, Queued, Bad, Relayed}
+use Rattle.wavelet_json.specs.declared.reason.BadReason.TheVariants as bad
+use Rattle.wavelet_json.specs.declared.reason.UnopenedReason.TheVariants as unopened
+use Rattle.message_json.specs.Write.{message_data}
+use Rattle.message_json.specs.declared.message.Message.{Message}
+use Rattle.message_json.specs.declared.message.Message.TheVariants.{Opened, Snapshot, Unopened, Ack, Refused, Queued, Bad, Relayed}
 use Rattle.session_core.specs.declared.session.Party.{Party}
 use Rattle.session_core.specs.declared.session.Party.TheVariants.{Nobody, User, Domain}
 use Rattle.session_core.specs.declared.session.Opening.{Opening}

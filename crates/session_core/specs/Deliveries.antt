@@ -16,9 +16,9 @@ use Rattle.wavelet_op.specs.Deltas.{DeltaOf}
 use Rattle.wavelet_op.specs.declared.verdict.Verdict.{Verdict}
 use Rattle.delta_history.specs.Histories.{HistoryOf, head_of}
 use Rattle.delta_history.specs.Places.{started_below}
-use Rattle.message_parts.specs.declared.reason.ClosedReason.TheVariants.{Access}
-use Rattle.message_table.specs.declared.message.Message.{Message}
-use Rattle.message_table.specs.declared.message.Message.TheVariants.{Update, Closed, Applied, Dropped}
+use Rattle.wavelet_json.specs.declared.reason.ClosedReason.TheVariants.{Access}
+use Rattle.message_json.specs.declared.message.Message.{Message}
+use Rattle.message_json.specs.declared.message.Message.TheVariants.{Update, Closed, Applied, Dropped}
 use Rattle.session_core.specs.declared.session.Party.{Party}
 use Rattle.session_core.specs.declared.session.Party.TheVariants.{Nobody, User, Domain}
 use Rattle.session_core.specs.declared.session.Opening.{Opening}

@@ -25,15 +25,15 @@ use Rattle.wave_base.specs.Grammar.{is_address, domain_of, host_of}
 use Rattle.wave_base.specs.Versions.{VersionAt}
 use Rattle.wavelet_op.specs.declared.op.WaveletOp.{WaveletOp}
 use Rattle.wavelet_op.specs.declared.delta.Submission.{Submission}
-use Rattle.message_parts.specs.declared.reason.ClosedReason.TheVariants.{Asked}
-use Rattle.message_parts.specs.declared.reason.BadReason.{BadReason}
-use Rattle.message_parts.specs.declared.reason.BadReason.TheVariants as bad
-use Rattle.message_parts.specs.Good.{is_count}
-use Rattle.message_table.specs.declared.message.Message.{Message}
-use Rattle.message_table.specs.declared.message.Message.TheVariants.{Welcome, Closed, Bad}
-use Rattle.message_table.specs.declared.message.ForServer.{ForServer}
-use Rattle.message_table.specs.declared.message.ForServer.TheVariants as asks
-use Rattle.message_table.specs.Server.{for_server}
+use Rattle.wavelet_json.specs.declared.reason.ClosedReason.TheVariants.{Asked}
+use Rattle.wavelet_json.specs.declared.reason.BadReason.{BadReason}
+use Rattle.wavelet_json.specs.declared.reason.BadReason.TheVariants as bad
+use Rattle.wavelet_json.specs.Good.{is_count}
+use Rattle.message_json.specs.declared.message.Message.{Message}
+use Rattle.message_json.specs.declared.message.Message.TheVariants.{Welcome, Closed, Bad}
+use Rattle.message_json.specs.declared.message.ForServer.{ForServer}
+use Rattle.message_json.specs.declared.message.ForServer.TheVariants as asks
+use Rattle.message_json.specs.Server.{for_server}
 use Rattle.wave_messages.specs.Read.{read_of, max_client}
 use Rattle.wave_messages.specs.declared.fault.Kind.{Kind}
 use Rattle.wave_messages.specs.declared.fault.Kind.TheVariants as kind

@@ -6,7 +6,7 @@ ghost use Rattle.wavelet_state.specs.Snapshots.{is_snapshot};
 ghost use Rattle.session_core.specs.Rules.{has_user, has_peer, max_peer};
 ghost use Rattle.session_core.specs.Access.{shown, seen_by, MaySee};
 ghost use Rattle.session_core.specs.Answers.{verdict_message, told_verdict, is_waiting, with_waiting, answered, sent_at, with_sent, snapshot_of, is_sendable, attached_head, attached_hash, attached_seen, seen_for, attached, HasLongHead, told_at, had_hash, had_copy, had};
-ghost use Rattle.message_parts.specs.declared.reason.UnopenedReason.TheVariants.{TooLarge};
+ghost use Rattle.wavelet_json.specs.declared.reason.UnopenedReason.TheVariants.{TooLarge};
 ghost use Rattle.session_core.specs.declared.request.SubmitAnswer.TheVariants as answer;
 
 use crate::SubmitAnswer;

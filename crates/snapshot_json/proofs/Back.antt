@@ -30,7 +30,7 @@ use Rattle.wavelet_op.specs.declared.role.Role.{Role}
 use Rattle.wavelet_op.specs.declared.role.Role.TheVariants.{Full}
 use Rattle.wavelet_op.proofs.Maps.{set_same, set_other, set_twice}
 use Rattle.wavelet_op.proofs.Structures.{mutates}
-use Rattle.message_parts.specs.Operations.{role_of as role_read, role_data}
+use Rattle.wavelet_json.specs.Operations.{role_of as role_read, role_data}
 use Rattle.snapshot_json.specs.Back.{role_at, IsMemberBack, IsDocumentBack, AreMembersBack, AreDocumentsBack}
 use Rattle.snapshot_json.specs.Read.{member_of, document_of, joined, not_empty, opened, states_from}
 use Rattle.snapshot_json.specs.Write.{insertion_of, member_data, document_data}

@@ -16,8 +16,8 @@ use Rattle.wavelet_op.specs.Acts.{Adds, Sets, Mutates}
 use Rattle.wavelet_op.specs.States.{State, empty_state, kept, document_of as items_of_document, apply_act}
 use Rattle.wavelet_op.specs.declared.role.Role.{Role}
 use Rattle.wavelet_op.specs.declared.role.Role.TheVariants.{Full}
-use Rattle.wave_fields.specs.Read.{in_member, good_text}
-use Rattle.message_parts.specs.Operations.{of_members, role_of, component_list}
+use Rattle.json_fields.specs.Read.{in_member, good_text}
+use Rattle.wavelet_json.specs.Operations.{of_members, role_of, component_list}
 
 -- ---- one participant, one document
 

@@ -14,7 +14,7 @@ use Rattle.doc_op.specs.declared.component.Component.{Component}
 use Rattle.op_json.specs.Write.{list_data, op_data}
 use Rattle.wavelet_op.specs.States.{State, role_of, document_of}
 use Rattle.wavelet_op.specs.declared.role.Role.TheVariants.{Full}
-use Rattle.message_parts.specs.Operations.{role_data}
+use Rattle.wavelet_json.specs.Operations.{role_data}
 
 abbrev pub insertion_of : List Item → List Component
 insertion_of items = normal_form (map Ins items)

@@ -5,16 +5,16 @@ ghost use Rattle.serde_json.specs.View.{view, items_view};
 ghost use Rattle.doc_items.specs.Maps.{is_next};
 ghost use Rattle.wavelet_op.specs.Acts.{meaning};
 ghost use Rattle.wavelet_op.specs.States.{apply_act, empty_state};
-ghost use Rattle.wave_fields.specs.Read.{in_member};
+ghost use Rattle.json_fields.specs.Read.{in_member};
 ghost use Rattle.snapshot_json.specs.Read.{member_of, document_of, joined, not_empty, opened, states_from, with_members, with_documents, state_of};
 
 use doc_items::{Memory, is_next};
 use doc_op::DocOp;
-use message_parts::{components_at, role_at};
+use json_fields::{address_at, document_at, has_members};
 use serde_json::Value;
 use std::alloc::{AllocError, Global};
 use wave_base::{Address, DocumentName};
-use wave_fields::{address_at, document_at, has_members};
+use wavelet_json::{components_at, role_at};
 use wavelet_op::{Role, WaveletFault, WaveletOp};
 use wavelet_state::{WaveletState, apply_op};
 

@@ -15,12 +15,12 @@ use change_view::ChangeView;
 use doc_items::{Content, Item, Memory};
 use doc_op::{ContentRun, DocOp, NormalBuilder};
 use doc_rope::Rope;
-use message_parts::role_value;
+use json_fields::string_value;
 use op_json::to_value;
 use serde_json::{Value, json};
 use std::alloc::Global;
 use wave_base::{Address, DocumentName};
-use wave_fields::string_value;
+use wavelet_json::role_value;
 use wavelet_op::Role;
 use wavelet_state::WaveletState;
 

@@ -16,8 +16,8 @@ use Rattle.wavelet_op.proofs.Partial.{and_then_some, ok_some}
 use Rattle.wavelet_state.specs.Inverses.{inverse_acts}
 use Rattle.wavelet_state.proofs.Inverses.{acts_back_law}
 use Rattle.delta_history.proofs.Points.{and_then_is}
-use Rattle.node_rules.specs.Followers.{run_all}
-use Rattle.node_rules.specs.Receiving.{past, rebase}
+use Rattle.follower_rules.specs.Followers.{run_all}
+use Rattle.follower_rules.specs.Receiving.{past, rebase}
 use Rattle.undo_control.specs.Chains.{max_entries, ChainOf, with_entry, undone_by, IsInTurn}
 use Rattle.undo_control.specs.Laws.{EditKeeps, ChangeKeeps, UndoKeeps}
 

@@ -24,8 +24,8 @@ use Rattle.wavelet_op.specs.declared.role.Role.{Role}
 use Rattle.wavelet_op.specs.declared.role.Role.TheVariants.{Full, ReadOnly}
 use Rattle.wavelet_state.specs.Inverses.{readded, inverse_act, inverse_acts}
 use Rattle.delta_history.proofs.Points.{and_then_is}
-use Rattle.node_rules.specs.Followers.{run_all}
-use Rattle.node_rules.specs.Receiving.{past, rebase}
+use Rattle.follower_rules.specs.Followers.{run_all}
+use Rattle.follower_rules.specs.Receiving.{past, rebase}
 use Rattle.client_control.proofs.Kept.{true_le}
 use Rattle.client_control.proofs.Pending.{run_structured, entries_structured}
 use Rattle.client_control.specs.Steps.{AreStructured, IsRebased}

@@ -14,8 +14,8 @@ use Rattle.std.specs.Option.{option_map}
 use Rattle.wavelet_op.specs.Acts.{Act}
 use Rattle.wavelet_op.specs.States.{State, run}
 use Rattle.wavelet_state.specs.Inverses.{inverse_acts}
-use Rattle.node_rules.specs.Followers.{run_all}
-use Rattle.node_rules.specs.Receiving.{rebase}
+use Rattle.follower_rules.specs.Followers.{run_all}
+use Rattle.follower_rules.specs.Receiving.{rebase}
 
 abbrev pub max_entries : ℕ
 max_entries = 100

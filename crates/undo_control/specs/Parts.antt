@@ -12,7 +12,7 @@ use Rattle.wavelet_op.specs.States.{State, run, first_invalid}
 use Rattle.wavelet_op.specs.declared.fault.WaveletFault.{WaveletFault}
 use Rattle.wavelet_op.specs.declared.fault.WaveletFault.TheVariants.{OpInvalid, CountTooLarge, Conflict, DontFit, Memory}
 use Rattle.wavelet_op.specs.declared.op.WaveletOp.{WaveletOp}
-use Rattle.node_rules.specs.Receiving.{rebase}
+use Rattle.follower_rules.specs.Receiving.{rebase}
 use Rattle.undo_control.specs.Chains.{max_entries, ChainOf, IsInTurn}
 
 pub record Chain : Type 0 where

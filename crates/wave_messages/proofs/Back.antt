@@ -17,12 +17,12 @@ use Rattle.wave_base.specs.Grammar.{is_id}
 use Rattle.wavelet_op.specs.Deltas.{is_count}
 use Rattle.wavelet_op.specs.declared.op.WaveletOp.{WaveletOp}
 use Rattle.wavelet_op.proofs.Partial.{and_then_some}
-use Rattle.wave_fields.specs.Read.{has_members, in_member, version_of, id_of}
-use Rattle.message_parts.specs.Operations.{of_members, op_of, op_list, ops_of}
-use Rattle.message_table.specs.Read.{wavelet_of, serial_of, submit_of, relay_of, message_named, message_of}
-use Rattle.message_table.specs.Write.{message_data}
-use Rattle.message_table.specs.declared.message.Message.{Message}
-use Rattle.message_table.specs.declared.message.Message.TheVariants.{Submit, Relay}
+use Rattle.json_fields.specs.Read.{has_members, in_member, version_of, id_of}
+use Rattle.wavelet_json.specs.Operations.{of_members, op_of, op_list, ops_of}
+use Rattle.message_json.specs.Read.{wavelet_of, serial_of, submit_of, relay_of, message_named, message_of}
+use Rattle.message_json.specs.Write.{message_data}
+use Rattle.message_json.specs.declared.message.Message.{Message}
+use Rattle.message_json.specs.declared.message.Message.TheVariants.{Submit, Relay}
 use Rattle.wave_messages.specs.Read.{items_len, is_kind_handed_in, is_long, too_many, judged, data_of, if_data, read_of, max_client, to_session, line_of, line_read}
 use Rattle.wave_messages.specs.Write.{line_data}
 use Rattle.wave_messages.specs.declared.fault.Kind.TheVariants.{TooLong, NotJson, TooMany, NotMessage}

@@ -19,13 +19,13 @@ use Rattle.wavelet_op.specs.declared.role.Role.{Role}
 use Rattle.wavelet_op.specs.declared.role.Role.TheVariants.{Full, ReadOnly}
 use Rattle.wavelet_op.specs.declared.verdict.Verdict.{Verdict}
 use Rattle.wavelet_op.specs.declared.verdict.Verdict.TheVariants as verdict
-use Rattle.message_parts.specs.Operations.{role_data, op_data, ops_data}
-use Rattle.message_parts.specs.declared.reason.UnopenedReason.{UnopenedReason}
-use Rattle.message_parts.specs.declared.reason.UnopenedReason.TheVariants as unopened
+use Rattle.wavelet_json.specs.Operations.{role_data, op_data, ops_data}
+use Rattle.wavelet_json.specs.declared.reason.UnopenedReason.{UnopenedReason}
+use Rattle.wavelet_json.specs.declared.reason.UnopenedReason.TheVariants as unopened
 use Rattle.snapshot_json.specs.Write.{insertion_of, member_data, document_data, members_data, documents_data}
-use Rattle.message_table.specs.Write.{message_data, unopened_data, verdict_data, relayed_data}
-use Rattle.message_table.specs.declared.message.Message.{Message}
-use Rattle.message_table.specs.declared.message.Message.TheVariants.{Hello, OpenWavelet, Submit, CloseWavelet, Welcome, Opened, Snapshot, Unopened, Ack, Refused, Queued, Update, Closed, Bad, Peer, Have, Relay, Applied, Relayed, Dropped}
+use Rattle.message_json.specs.Write.{message_data, unopened_data, verdict_data, relayed_data}
+use Rattle.message_json.specs.declared.message.Message.{Message}
+use Rattle.message_json.specs.declared.message.Message.TheVariants.{Hello, OpenWavelet, Submit, CloseWavelet, Welcome, Opened, Snapshot, Unopened, Ack, Refused, Queued, Update, Closed, Bad, Peer, Have, Relay, Applied, Relayed, Dropped}
 use Rattle.wave_messages.specs.Write.{line_data}
 
 -- ---- parts

@@ -17,9 +17,9 @@ use Rattle.serde_json.specs.Data.{Data, Items, no_items, item}
 use Rattle.serde_json.specs.Find.{get, as_str, as_array}
 use Rattle.serde_json.specs.Read.{read}
 use Rattle.wave_base.specs.Grammar.{is_id}
-use Rattle.wave_fields.specs.Read.{in_member, good_text, has_members}
-use Rattle.message_table.specs.Read.{message_of}
-use Rattle.message_table.specs.declared.message.Message.{Message}
+use Rattle.json_fields.specs.Read.{in_member, good_text, has_members}
+use Rattle.message_json.specs.Read.{message_of}
+use Rattle.message_json.specs.declared.message.Message.{Message}
 use Rattle.wave_messages.specs.declared.fault.Kind.{Kind}
 use Rattle.wave_messages.specs.declared.fault.Kind.TheVariants.{TooLong, NotJson, TooMany, NotMessage}
 

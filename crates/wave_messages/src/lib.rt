@@ -9,7 +9,7 @@ mod writing;
 
 pub use fault::{Kind, LineFault, MessageFault};
 pub use line::{Line, read_line};
-pub use message_parts::{BadReason, ClosedReason, UnopenedReason};
-pub use message_table::{ForServer, Message};
+pub use message_json::{ForServer, Message};
 pub use reading::{MAX_CLIENT, MAX_PEER, read};
+pub use wavelet_json::{BadReason, ClosedReason, UnopenedReason};
 pub use writing::{write, write_line};

@@ -7,11 +7,11 @@ ghost use Rattle.wave_messages.specs.Read.{named_session, to_session, framed, ju
 use crate::reading::{MAX_CLIENT, data_of, judged};
 use crate::{Kind, LineFault, MessageFault};
 use doc_items::Memory;
-use message_table::Message;
+use json_fields::{has_members, session_at};
+use message_json::Message;
 use serde_json::Value;
 use std::alloc::Global;
 use wave_base::SessionName;
-use wave_fields::{has_members, session_at};
 
 /// A message with the session that it is from.
 pub struct Line {

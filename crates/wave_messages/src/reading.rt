@@ -6,10 +6,10 @@ ghost use Rattle.wave_messages.specs.Read.{is_kind_handed_in, is_handed_in, is_l
 
 use crate::{Kind, MessageFault};
 use doc_items::Memory;
-use message_table::{Message, message_of};
+use json_fields::str_at;
+use message_json::{Message, message_of};
 use serde_json::Value;
 use std::alloc::{AllocError, Global};
-use wave_fields::str_at;
 
 /// The most bytes of a message from a client, and of a line.
 pub const MAX_CLIENT: u64 = 1 << 20;

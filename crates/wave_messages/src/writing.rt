@@ -4,17 +4,17 @@ ghost use Rattle.serde_json.specs.Data.{depth};
 ghost use Rattle.serde_json.specs.Read.{max_depth};
 ghost use Rattle.serde_json.specs.View.{view};
 ghost use Rattle.serde_json.specs.Written.{compact_text, has_float};
-ghost use Rattle.message_table.specs.Back.{IsReadBack, InRange};
-ghost use Rattle.message_table.specs.Write.{message_data, IsShort};
+ghost use Rattle.message_json.specs.Back.{IsReadBack, InRange};
+ghost use Rattle.message_json.specs.Write.{message_data, IsShort};
 ghost use Rattle.wave_base.specs.Grammar.{is_id};
 ghost use Rattle.wave_messages.specs.Read.{data_of, read_of, max_client, line_read};
 ghost use Rattle.wave_messages.specs.Write.{line_data};
 
 use doc_items::Memory;
-use message_table::{Message, message_value};
+use json_fields::string_value;
+use message_json::{Message, message_value};
 use serde_json::{Value, json};
 use std::alloc::Global;
-use wave_fields::string_value;
 
 // The value without white space, its members in byte order of their names. It is read back.
 #[tactic(auto, using(crate::proofs::Texts::is_data))]

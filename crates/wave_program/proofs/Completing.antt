@@ -5,12 +5,12 @@ use Rattle.disk_model.specs.declared.disk.Disk as disk_of
 use Rattle.wave_outside.specs.Folders.{Entry}
 use Rattle.wave_outside.specs.declared.clock.Clock as clock_of
 use Rattle.wave_outside.specs.declared.folder.Folder as folder_of
-use Rattle.line_run.specs.Run.{byte_limit}
-use Rattle.line_run.specs.Lines.{turned}
-use Rattle.line_run.specs.Told.{WhereTold, IsRun}
-use Rattle.line_run.specs.Turns.{Turn}
-use Rattle.line_run.proofs.Telling.{Consumes-none, Appends-none}
-use Rattle.line_run.proofs.Whole.{told_of}
+use Rattle.line_loop.specs.Run.{byte_limit}
+use Rattle.line_loop.specs.Lines.{turned}
+use Rattle.line_loop.specs.Told.{WhereTold, IsRun}
+use Rattle.line_loop.specs.Turns.{Turn}
+use Rattle.line_loop.proofs.Telling.{Consumes-none, Appends-none}
+use Rattle.line_loop.proofs.Whole.{told_of}
 use Rattle.wavelet_shelf.specs.Loads.{IsSound}
 use Rattle.wave_program.specs.Run.{IsServing}
 use Rattle.wave_program.specs.Store.{IsUnloaded}

@@ -2,10 +2,10 @@
 use Rattle.std.proofs.Common.{◌≡◌, ℕ, ◌⊎◌, inl, inr, List, ◌++◌, Result, Ok, Err, Option, Some, None, IsSome, ◌↔◌, true, false, refl, sym, ◌∙◌, arith, append_assoc}
 use Rattle.std.specs.Prelude.{⊤, IsErrOf}
 use Rattle.wave_outside.specs.Counts.{Rose}
-use Rattle.line_run.specs.Lines.{IsPrefix}
-use Rattle.line_run.specs.Run.{status_of}
-use Rattle.line_run.specs.declared.run.Stop.{Stop}
-use Rattle.line_run.specs.declared.run.Stop.TheVariants.{Source, Sink, Store, Memory, Limit}
+use Rattle.line_loop.specs.Lines.{IsPrefix}
+use Rattle.line_loop.specs.Run.{status_of}
+use Rattle.line_loop.specs.declared.run.Stop.{Stop}
+use Rattle.line_loop.specs.declared.run.Stop.TheVariants.{Source, Sink, Store, Memory, Limit}
 use Rattle.pipe_machine.specs.Pipes.{faults_where}
 use Rattle.wave_program.specs.Run.{IsServing}
 

@@ -24,7 +24,7 @@ use Rattle.wavelet_container.specs.Records.{records_of, StandsForHistory}
 use Rattle.wavelet_container.specs.Stores.{IsPending, IsStored}
 use Rattle.wavelet_container.specs.declared.container.Container.{Container}
 use Rattle.wavelet_container.proofs.Journals.{records_more, spelled_more}
-use Rattle.line_run.specs.Turns.{Turn}
+use Rattle.line_loop.specs.Turns.{Turn}
 use Rattle.wavelet_shelf.specs.Entries.{found, hosting, histories, faults_in, AreInOrder}
 use Rattle.wavelet_shelf.specs.FileNames.{file_name_of}
 use Rattle.wavelet_shelf.specs.Hosting.{Hosted, deltas_in}
@@ -156,9 +156,9 @@ module _ {F D K : Type 0} (folder : folder_of.Ghosts F D) (disk : disk_of.Ghosts
       go None p there one two used = absurd (true≢false (sym there))
       go (Some h) None there one two used = absurd used
       go (Some h) (Some k) there one two used = subst (IsAsBefore disk.view (folder.files f l)) (sym (
-        two l (λ file. none file.0 (from_either m b ts moved file.0 file.1) (sym file.2))
-        ∙ used.others tells l (λ file. none file.0 (inr file.1) file.2)
-      )) (one l (λ n some. none n (inl some)))
+          two l (λ file. none file.0 (from_either m b ts moved file.0 file.1) (sym file.2))
+          ∙ used.others tells l (λ file. none file.0 (inr file.1) file.2)
+          )) (one l (λ n some. none n (inl some)))
 
   -- the histories that there were when the machine ended, in the files
   stored_from : (b : Shelf F D folder disk) (g : F) (hs : List Hosted) → IsTrue disk.tells → IsKept b → AreApart b → IsClosed b g → ((n : Key) → Begins (deltas_in hs n) (deltas_in (hosted_of b) n))
@@ -304,11 +304,16 @@ module _ {F D K : Type 0} (folder : folder_of.Ghosts F D) (disk : disk_of.Ghosts
   same_unloaded entries f e g held0 held1 before now status same entered u = record {
     known = u.known;
     silent = u.silent;
-    damaged = λ six. let d = u.damaged six in (d.0, d.1, d.2, record {
-      named = d.3.named;
-      refused = subst (λ (o : Option D). IsRefusedFile disk.view o d.0 d.1) (same d.0) d.3.refused;
-      first = λ m less. subst (λ (o : Option D). IsSound disk.view o m) (same m) (d.3.first m less);
-    });
+    damaged = λ six. let d = u.damaged six in (
+      d.0,
+      d.1,
+      d.2,
+      record {
+        named = d.3.named;
+        refused = subst (λ (o : Option D). IsRefusedFile disk.view o d.0 d.1) (same d.0) d.3.refused;
+        first = λ m less. subst (λ (o : Option D). IsSound disk.view o m) (same m) (d.3.first m less);
+      },
+    );
     as_before = λ m. subst (λ (o : Option D). IsAsBefore disk.view o (folder.files g m)) (same m) (u.as_before m);
     entered = elim u.entered [ inl e ↦ inl (e ∙ entered) | inr e ↦ inl (e.1 ∙ entered) ];
   }

@@ -7,9 +7,9 @@ use Rattle.doc_items.specs.Maps.{Key}
 use Rattle.disk_model.specs.declared.disk.Disk as disk_of
 use Rattle.wave_outside.specs.declared.clock.Clock as clock_of
 use Rattle.wave_outside.specs.declared.folder.Folder as folder_of
-use Rattle.line_run.specs.Lines.{turned, IsPrefix}
-use Rattle.line_run.specs.Told.{IsRun}
-use Rattle.line_run.specs.Turns.{Turn, lines_in}
+use Rattle.line_loop.specs.Lines.{turned, IsPrefix}
+use Rattle.line_loop.specs.Told.{IsRun}
+use Rattle.line_loop.specs.Turns.{Turn, lines_in}
 use Rattle.wavelet_shelf.specs.Hosting.{Hosted, deltas_in}
 use Rattle.wavelet_shelf.specs.Shelves.{hosted_of, IsKept, IsSettled}
 use Rattle.wavelet_shelf.specs.declared.shelf.Shelf.{Shelf}

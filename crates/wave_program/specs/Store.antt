@@ -24,10 +24,10 @@ use Rattle.wave_outside.specs.Folders.{Entry, IsPutBack, IsAsBefore, one_entered
 use Rattle.delta_journal.specs.Journal.{on_disk}
 use Rattle.wavelet_container.specs.Containers.{history_of, journal_of}
 use Rattle.wavelet_container.specs.Records.{StandsForHistory}
-use Rattle.line_run.specs.Lines.{turned, IsPrefix}
-use Rattle.line_run.specs.Output.{IsWritten}
-use Rattle.line_run.specs.Told.{IsRun}
-use Rattle.line_run.specs.Turns.{Turn, lines_in}
+use Rattle.line_loop.specs.Lines.{turned, IsPrefix}
+use Rattle.line_loop.specs.Output.{IsWritten}
+use Rattle.line_loop.specs.Told.{IsRun}
+use Rattle.line_loop.specs.Turns.{Turn, lines_in}
 use Rattle.wavelet_shelf.specs.FileNames.{file_name_of}
 use Rattle.wavelet_shelf.specs.Folders.{IsStill, IsStillIn}
 use Rattle.wavelet_shelf.specs.Hosting.{Hosted, deltas_in}

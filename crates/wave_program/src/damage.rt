@@ -1,11 +1,11 @@
 // The line that tells of a damaged file.
 ghost use Rattle.std.specs.Prelude.{◌≡◌, string_bytes, IfOk, OnOk, OnErr};
-ghost use Rattle.line_run.specs.Output.{IsWritten};
+ghost use Rattle.line_loop.specs.Output.{IsWritten};
 ghost use Rattle.wave_program.specs.Damage.{damage_line};
 
 use doc_items::Memory;
 use itoa::Buffer;
-use line_run::write_all;
+use line_loop::write_all;
 use std::alloc::Global;
 use wave_outside::Sink;
 

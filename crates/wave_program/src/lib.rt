@@ -1,6 +1,6 @@
 //! The program's top call: the words, and the commands that they name, over a source, a sink, a folder and a clock.
 //!
-//! `pipe` takes lines of any number of sessions through `line_run` into `pipe_machine`, whose histories stand in the folder where the
+//! `pipe` takes lines of any number of sessions through `line_loop` into `pipe_machine`, whose histories stand in the folder where the
 //! words name one. `load` is the command of that name.
 #![tactic(auto)]
 

@@ -5,7 +5,7 @@ ghost use Rattle.wave_outside.specs.Counts.{Rose};
 ghost use Rattle.wave_program.specs.Load.{load_line, IsFront};
 
 use doc_items::Memory;
-use line_run::write_all;
+use line_loop::write_all;
 use load_script::{run_load, summary_line};
 use std::alloc::Global;
 use wave_outside::Sink;

@@ -1,14 +1,14 @@
 // The lines of a source, answered over a shelf.
 ghost use Rattle.std.specs.Prelude.{◌≡◌, ◌⊎◌, [], None};
 ghost use Rattle.wave_outside.specs.Counts.{Rose};
-ghost use Rattle.line_run.specs.Run.{status_of};
-ghost use Rattle.line_run.specs.Told.{IsRun};
+ghost use Rattle.line_loop.specs.Run.{status_of};
+ghost use Rattle.line_loop.specs.Told.{IsRun};
 ghost use Rattle.wavelet_shelf.specs.Shelves.{in_folder, entries_of, hosted_of};
 ghost use Rattle.pipe_machine.specs.Pipes.{store_faults};
 ghost use Rattle.wave_program.specs.Pipe.{answers_over, IsOver};
 ghost use Rattle.wave_program.specs.Run.{IsServing};
 
-use line_run::{Stop, run_lines};
+use line_loop::{Stop, run_lines};
 use pipe_machine::PipeMachine;
 use std::alloc::Global;
 use wave_outside::{Clock, Folder, Sink, Source};

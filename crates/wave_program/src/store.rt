@@ -1,7 +1,7 @@
 // The lines of a source, answered over the wavelets of a folder.
 ghost use Rattle.std.specs.Prelude.{◌≡◌, ◌⊎◌, [], IsTrue, IsSome, IfSome};
 ghost use Rattle.wave_outside.specs.Counts.{Rose};
-ghost use Rattle.line_run.specs.Output.{IsWritten};
+ghost use Rattle.line_loop.specs.Output.{IsWritten};
 ghost use Rattle.wavelet_shelf.specs.Faults.{damage_of};
 ghost use Rattle.wavelet_shelf.specs.Shelves.{in_folder, entries_of, fault_count};
 ghost use Rattle.wave_program.specs.Damage.{damage_line};

@@ -2,9 +2,9 @@
 ghost use Rattle.std.specs.Prelude.{◌≡◌, ◌⊎◌, ℕ, List, [], length, ◌++◌, ◌<◌, ◌≤◌, map, string_bytes, Some, None, IsTrue};
 ghost use Rattle.wave_outside.specs.Counts.{Rose};
 ghost use Rattle.command_words.specs.Commands.{command_of, Pipe, Load};
-ghost use Rattle.line_run.specs.Output.{IsWritten};
-ghost use Rattle.line_run.specs.Run.{byte_limit};
-ghost use Rattle.line_run.specs.Told.{WhereTold, IsRun};
+ghost use Rattle.line_loop.specs.Output.{IsWritten};
+ghost use Rattle.line_loop.specs.Run.{byte_limit};
+ghost use Rattle.line_loop.specs.Told.{WhereTold, IsRun};
 ghost use Rattle.wavelet_shelf.specs.Loads.{IsSound};
 ghost use Rattle.wave_program.specs.Load.{IsLoaded};
 ghost use Rattle.wave_program.specs.Pipe.{answers_over};

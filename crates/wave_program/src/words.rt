@@ -1,9 +1,9 @@
 // What is told where the words name no command.
 ghost use Rattle.std.specs.Prelude.{◌≡◌, codes};
-ghost use Rattle.line_run.specs.Output.{IsWritten};
+ghost use Rattle.line_loop.specs.Output.{IsWritten};
 ghost use Rattle.wave_program.specs.Words.{usage};
 
-use line_run::write_all;
+use line_loop::write_all;
 use wave_outside::Sink;
 
 const USAGE: &str = "usage: wave pipe [--store DIR]\n       wave load N\n";

@@ -23,13 +23,13 @@ use Rattle.delta_history.specs.Points.{Point, start, acts_of, next_point, replay
 use Rattle.delta_history.proofs.Chains.{legal_front, starts_at, goes_from}
 use Rattle.delta_history.proofs.Points.{and_then_is, replay_append, replay_more, rises}
 use Rattle.delta_history.proofs.Versions.{pass_is}
-use Rattle.node_rules.specs.Followers.{ClientOf, client_of, same_client, Flight, FollowerOf, new_follower, run_all, flying, pending, dropped, refuse_if, refuse_flight, refuse, take_newer, take_settled, take_snapshot}
-use Rattle.node_rules.specs.Laws.{IsPlace, IsSound, AreOwn}
-use Rattle.node_rules.specs.Receiving.{is_within, receive_gap, receive_old, receive}
-use Rattle.node_rules.specs.Submitting.{queued, edit, sent_by, submitting}
-use Rattle.node_rules.proofs.Advances.{IsAdvance, advance_is, place_behind}
-use Rattle.node_rules.proofs.Gathers.{IsGathered, gathered, IsSubmitting, submitting_is_sound}
-use Rattle.node_rules.proofs.Sounds.{new_is_sound, edit_is_sound, edited_is, dropped_is_sound}
+use Rattle.follower_rules.specs.Followers.{ClientOf, client_of, same_client, Flight, FollowerOf, new_follower, run_all, flying, pending, dropped, refuse_if, refuse_flight, refuse, take_newer, take_settled, take_snapshot}
+use Rattle.follower_rules.specs.Laws.{IsPlace, IsSound, AreOwn}
+use Rattle.follower_rules.specs.Receiving.{is_within, receive_gap, receive_old, receive}
+use Rattle.follower_rules.specs.Submitting.{queued, edit, sent_by, submitting}
+use Rattle.follower_rules.proofs.Advances.{IsAdvance, advance_is, place_behind}
+use Rattle.follower_rules.proofs.Gathers.{IsGathered, gathered, IsSubmitting, submitting_is_sound}
+use Rattle.follower_rules.proofs.Sounds.{new_is_sound, edit_is_sound, edited_is, dropped_is_sound}
 use Rattle.wave_world.specs.Texts.{AreTextActs, AreTextEntries}
 use Rattle.wave_world.specs.Worlds.{Mem, Answer, is_refusal, take_answer}
 use Rattle.wave_world.proofs.Members.{mem_more, mem_last}

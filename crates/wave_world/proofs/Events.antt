@@ -28,11 +28,11 @@ use Rattle.delta_history.proofs.Judges.{judged_is}
 use Rattle.delta_history.proofs.Keeping.{kept_is}
 use Rattle.delta_history.proofs.Points.{replay_more}
 use Rattle.delta_history.proofs.Versions.{cut_is}
-use Rattle.node_rules.specs.Followers.{ClientOf, client_of, same_client, FollowerOf, new_follower, run_all, flying, pending, dropped, take_snapshot}
-use Rattle.node_rules.specs.Receiving.{receive}
-use Rattle.node_rules.specs.Replicas.{ReplicaOf, empty_replica, is_waiting, may_follow, grown as grown_replica, absorb_to, absorb_at, absorb, queue, settle}
-use Rattle.node_rules.specs.Submitting.{edit, sent_by, submit}
-use Rattle.node_rules.proofs.Gathers.{IsSubmitting, Submits, nothing, something, submitting_is, gathered}
+use Rattle.follower_rules.specs.Followers.{ClientOf, client_of, same_client, FollowerOf, new_follower, run_all, flying, pending, dropped, take_snapshot}
+use Rattle.follower_rules.specs.Receiving.{receive}
+use Rattle.follower_rules.specs.Replicas.{ReplicaOf, empty_replica, is_waiting, may_follow, grown as grown_replica, absorb_to, absorb_at, absorb, queue, settle}
+use Rattle.follower_rules.specs.Submitting.{edit, sent_by, submit}
+use Rattle.follower_rules.proofs.Gathers.{IsSubmitting, Submits, nothing, something, submitting_is, gathered}
 use Rattle.wave_world.specs.Texts.{AreTextActs, AreTextEntries}
 use Rattle.wave_world.specs.Worlds.{Mem, IsBegin, Answer, World, first_world, Event, Starts, Edits, Submits as Submitted, TakesDelta, TakesRefusal, TakesSnapshot, Drops, Pools, HostTakes, HostSnapshot, HostRestarts, Queues, Absorbs, Notes, NotesDrop, Restarts, ReplicaSnapshot, ReplicaAcks, Cuts, Opens, with_follower, set_follower, to_follower, set_replica, to_replica, has_client, pool, submitted, take_answer, host_answers, host_takes, shown, acked, happens, world_after, world_of}
 use Rattle.wave_world.proofs.Members.{not_true, mem_left, mem_right, mem_get, mem_more, mem_last, begin_more}

@@ -7,8 +7,8 @@ use Rattle.wavelet_op.specs.declared.delta.Submission.{Submission}
 use Rattle.delta_history.specs.declared.kept.Kept.{Kept}
 use Rattle.delta_history.specs.Points.{Point}
 use Rattle.delta_history.specs.Verdicts.{judge}
-use Rattle.node_rules.specs.Followers.{ClientOf, client_of, FollowerOf, new_follower}
-use Rattle.node_rules.specs.Replicas.{ReplicaOf}
+use Rattle.follower_rules.specs.Followers.{ClientOf, client_of, FollowerOf, new_follower}
+use Rattle.follower_rules.specs.Replicas.{ReplicaOf}
 use Rattle.wave_world.specs.Worlds.{IsBegin, World, first_world, Event, Starts, Edits, Submits, TakesDelta, TakesRefusal, TakesSnapshot, Drops, Pools, HostTakes, HostSnapshot, HostRestarts, Queues, Absorbs, Notes, NotesDrop, Restarts, ReplicaSnapshot, ReplicaAcks, Cuts, Opens, set_follower, to_follower, to_replica, has_client, pool, submitted, grown, host_takes, shown, acked, happens, world_after, world_of}
 use Rattle.wave_world.specs.Converged.{OnlyGrows}
 

@@ -22,9 +22,9 @@ use Rattle.wavelet_op.proofs.Grids.{bounded_is_exact}
 use Rattle.wavelet_op.proofs.Partial.{and_then_some, next_ok, ok_some}
 use Rattle.delta_history.specs.Laws.{IsSpelled}
 use Rattle.delta_history.specs.Verdicts.{op_of, ops_of}
-use Rattle.node_rules.specs.Receiving.{past, rebase}
-use Rattle.node_rules.specs.Submitting.{fitting, Gathered, gather_on, gather}
-use Rattle.node_rules.proofs.Gathers.{fitting_is}
+use Rattle.follower_rules.specs.Receiving.{past, rebase}
+use Rattle.follower_rules.specs.Submitting.{fitting, Gathered, gather_on, gather}
+use Rattle.follower_rules.proofs.Gathers.{fitting_is}
 use Rattle.wave_world.specs.Texts.{IsTextAct, AreTextActs, AreTextEntries}
 use Rattle.wave_world.proofs.Texts.{text_writable, transform_text, compose_text}
 

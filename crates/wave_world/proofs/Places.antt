@@ -21,7 +21,7 @@ use Rattle.delta_history.specs.Passing.{all_acts, IsPassed}
 use Rattle.delta_history.specs.Points.{Point, start, acts_of, version_behind, next_point, replay, IsAt}
 use Rattle.delta_history.proofs.Chains.{legal_front, legal_behind, starts_at, goes_from, some_ops, at_longer}
 use Rattle.delta_history.proofs.Points.{and_then_is, behind_point, replay_append, replay_more, rises}
-use Rattle.node_rules.specs.Followers.{ClientOf, client_of, Flight}
+use Rattle.follower_rules.specs.Followers.{ClientOf, client_of, Flight}
 use Rattle.wave_world.specs.Worlds.{Mem, Answer}
 use Rattle.wave_world.proofs.Members.{mem_split, whole_more}
 

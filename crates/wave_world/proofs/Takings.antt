@@ -10,7 +10,7 @@ use Rattle.delta_history.specs.Legal.{standing, may_write, IsNext, IsLegalFrom, 
 use Rattle.delta_history.specs.Points.{Point, start, acts_of, next_point, replay}
 use Rattle.delta_history.proofs.Chains.{legal_behind, starts_at, goes_from}
 use Rattle.delta_history.proofs.Points.{and_then_is}
-use Rattle.node_rules.specs.Replicas.{ReplicaOf, may_follow, grown, absorb_to, absorb_at, absorb}
+use Rattle.follower_rules.specs.Replicas.{ReplicaOf, may_follow, grown, absorb_to, absorb_at, absorb}
 use Rattle.wave_world.specs.Worlds.{Mem, IsBegin, world_of}
 use Rattle.wave_world.specs.Converged.{DeltaIsTaken, DeltaIsAbsorbed}
 use Rattle.wave_world.proofs.Places.{find_at}

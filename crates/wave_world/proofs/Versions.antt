@@ -14,7 +14,7 @@ use Rattle.delta_history.specs.Points.{Point, start, acts_of, next_point, replay
 use Rattle.delta_history.proofs.Chains.{legal_behind, starts_at}
 use Rattle.delta_history.proofs.Points.{behind_point, replay_append, rises}
 use Rattle.delta_history.proofs.Versions.{point_is, pass_is}
-use Rattle.node_rules.specs.Followers.{ClientOf, Flight, FollowerOf}
+use Rattle.follower_rules.specs.Followers.{ClientOf, Flight, FollowerOf}
 use Rattle.wave_world.specs.Worlds.{Mem, World, world_of}
 use Rattle.wave_world.specs.Converged.{IsAckOf, IsValidAt, IsSentAs, IsInFlight, IsFollowing, IsConverged, WorldConverges}
 use Rattle.wave_world.proofs.Members.{mem_right}

@@ -29,11 +29,11 @@ use Rattle.wavelet_state.specs.Snapshots.{max_inserted}
 use Rattle.delta_history.specs.Passing.{pass_between}
 use Rattle.delta_history.specs.Points.{Point, start, acts_of, replay, point_at}
 use Rattle.delta_history.specs.Verdicts.{judge}
-use Rattle.node_rules.specs.declared.received.Received.TheVariants.{Advanced}
-use Rattle.node_rules.specs.Followers.{ClientOf, client_of, Flight, FollowerOf, inserted_all, pending, screen}
-use Rattle.node_rules.specs.Laws.{IsMoved}
-use Rattle.node_rules.specs.Receiving.{receive}
-use Rattle.node_rules.specs.Replicas.{ReplicaOf, absorb}
+use Rattle.follower_rules.specs.declared.received.Received.TheVariants.{Advanced}
+use Rattle.follower_rules.specs.Followers.{ClientOf, client_of, Flight, FollowerOf, inserted_all, pending, screen}
+use Rattle.follower_rules.specs.Laws.{IsMoved}
+use Rattle.follower_rules.specs.Receiving.{receive}
+use Rattle.follower_rules.specs.Replicas.{ReplicaOf, absorb}
 use Rattle.wave_world.specs.Worlds.{Mem, IsBegin, Answer, World, Event, HostRestarts, happens, world_of}
 
 -- ---- one message

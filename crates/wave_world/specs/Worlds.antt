@@ -21,10 +21,10 @@ use Rattle.wavelet_op.specs.declared.verdict.Verdict.TheVariants.{Ack, NotPartic
 use Rattle.delta_history.specs.declared.kept.Kept.{Kept}
 use Rattle.delta_history.specs.Points.{Point, start, replay}
 use Rattle.delta_history.specs.Verdicts.{kept, Judged, judge}
-use Rattle.node_rules.specs.Followers.{ClientOf, client_of, same_client, FollowerOf, new_follower, dropped, refuse, take_snapshot}
-use Rattle.node_rules.specs.Submitting.{edit, submit}
-use Rattle.node_rules.specs.Receiving.{receive}
-use Rattle.node_rules.specs.Replicas.{ReplicaOf, empty_replica, absorb, queue, settle}
+use Rattle.follower_rules.specs.Followers.{ClientOf, client_of, same_client, FollowerOf, new_follower, dropped, refuse, take_snapshot}
+use Rattle.follower_rules.specs.Submitting.{edit, submit}
+use Rattle.follower_rules.specs.Receiving.{receive}
+use Rattle.follower_rules.specs.Replicas.{ReplicaOf, empty_replica, absorb, queue, settle}
 use Rattle.wave_world.specs.Texts.{AreTextActs}
 
 abbrev pub Mem : {A : Type 0} → A → List A → Type 0

@@ -1,6 +1,6 @@
 use Rattle.std.proofs.Common.{◌≡◌, ◌+◌, drop, map}
 use Rattle.wavelet_op.specs.Acts.{meanings}
-use Rattle.node_rules.specs.Followers.{inserted_all}
+use Rattle.follower_rules.specs.Followers.{inserted_all}
 use Rattle.client_control.proofs.counts.inserted_queue.Given as goal
 
 abbrev pub invariant-loop-ops : goal.invariant-loop-ops

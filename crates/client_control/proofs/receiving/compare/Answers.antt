@@ -3,7 +3,7 @@ use Rattle.std.specs.Cmp.Lexicographic.{bytes_decides}
 use Rattle.wavelet_codec.specs.Spelling.{delta_bytes}
 use Rattle.wavelet_op.specs.Deltas.{DeltaOf}
 use Rattle.wavelet_op.proofs.Partial.{both}
-use Rattle.node_rules.proofs.Advances.{ops_back}
+use Rattle.follower_rules.proofs.Advances.{ops_back}
 use Rattle.client_control.proofs.Receipts.{own_compared, other_compared}
 use Rattle.client_control.proofs.receiving.compare.Goals as goal
 

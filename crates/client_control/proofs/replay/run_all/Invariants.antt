@@ -1,6 +1,6 @@
 use Rattle.std.proofs.Common.{◌≡◌, drop, map}
 use Rattle.wavelet_op.specs.Acts.{meanings}
-use Rattle.node_rules.specs.Followers.{run_all}
+use Rattle.follower_rules.specs.Followers.{run_all}
 use Rattle.client_control.proofs.replay.run_all.Given as goal
 
 abbrev pub invariant-loop-ops : goal.invariant-loop-ops

@@ -1,7 +1,7 @@
 use Rattle.std.proofs.Common.{◌≡◌, ◌≤◌, ℕ, length, Some, Ok, ap, ◌∙◌}
 use Rattle.serde_json.specs.View.{view}
-use Rattle.message_table.specs.Back.{InRange}
-use Rattle.message_table.specs.Write.{message_data}
+use Rattle.message_json.specs.Back.{InRange}
+use Rattle.message_json.specs.Write.{message_data}
 use Rattle.wave_messages.specs.Read.{data_of, read_of}
 use Rattle.wave_messages.proofs.Back.{if_ok_to, message_read}
 use Rattle.wave_messages.proofs.writing.write.Goals as goal

@@ -1,7 +1,7 @@
 use Rattle.std.proofs.Common.{◌≡◌, ◌≤◌, length, true, Some, Ok, ap, ◌∙◌}
 use Rattle.serde_json.specs.View.{view}
 use Rattle.wave_base.specs.Grammar.{is_id}
-use Rattle.message_table.specs.Back.{InRange}
+use Rattle.message_json.specs.Back.{InRange}
 use Rattle.wave_messages.specs.Read.{data_of, max_client, line_read}
 use Rattle.wave_messages.specs.Write.{line_data}
 use Rattle.wave_messages.proofs.Back.{if_ok_to, line_read_back}

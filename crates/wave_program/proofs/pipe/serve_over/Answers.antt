@@ -1,6 +1,6 @@
 use Rattle.std.proofs.Common.{◌≡◌, ◌<◌, length, sym, ap, ◌∙◌, subst, inl, inr, refl}
-use Rattle.line_run.specs.Lines.{IsPrefix}
-use Rattle.line_run.specs.Turns.{lines_in}
+use Rattle.line_loop.specs.Lines.{IsPrefix}
+use Rattle.line_loop.specs.Turns.{lines_in}
 use Rattle.wavelet_shelf.specs.Shelves.{hosted_of}
 use Rattle.pipe_machine.specs.Lines.{lines_of}
 use Rattle.pipe_machine.specs.Machine.{Pipe, start, sent, after}

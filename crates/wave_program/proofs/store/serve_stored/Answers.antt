@@ -18,11 +18,17 @@ returns-in-Ok-clause-stored g c = λ folder_tells tells.
 pub returns-in-Err-Failed-clause-stored : goal.returns-in-Err-Failed-clause-stored
 returns-in-Err-Failed-clause-stored g c = λ folder_tells tells.
     let is : (entered (Err c.in-Err-Failed.field-0) c.args.path.now (g.F.Folder.log c.args.folder.now)).entries ≡ entered_at g.F.Folder c.args.path.now c.args.folder.now = ap (λ (f : FolderFault). (entered (Err f) c.args.path.now (g.F.Folder.log c.args.folder.now)).entries) c.in-Err-Failed.field-0-is in
-    inr (refl, never_read g.F.Folder g.F.Disk.Disk g.C.Clock (entered_at g.F.Folder c.args.path.now c.args.folder.now) c.args.folder.now c.enter.new.self (g.W.Sink.written c.args.sink.now) _ _ 5 (inl refl) (c.enter.ensures.files folder_tells)
-      (inl (ap (λ (l : FolderLog). l.entries) (c.in-Err-Failed.ensures.log folder_tells) ∙ is)))
+    inr (
+      refl,
+      never_read g.F.Folder g.F.Disk.Disk g.C.Clock (entered_at g.F.Folder c.args.path.now c.args.folder.now) c.args.folder.now c.enter.new.self (g.W.Sink.written c.args.sink.now) _ _ 5 (inl refl) (c.enter.ensures.files folder_tells)
+          (inl (ap (λ (l : FolderLog). l.entries) (c.in-Err-Failed.ensures.log folder_tells) ∙ is)),
+    )
 
 pub returns-in-Err-Memory-clause-stored : goal.returns-in-Err-Memory-clause-stored
 returns-in-Err-Memory-clause-stored g c = λ folder_tells tells.
     let is : (entered (Err c.in-Err-Memory.field-0) c.args.path.now (g.F.Folder.log c.args.folder.now)).entries ≡ (g.F.Folder.log c.args.folder.now).entries = ap (λ (f : FolderFault). (entered (Err f) c.args.path.now (g.F.Folder.log c.args.folder.now)).entries) c.in-Err-Memory.field-0-is in
-    inr (refl, never_read g.F.Folder g.F.Disk.Disk g.C.Clock _ c.args.folder.now c.enter.new.self (g.W.Sink.written c.args.sink.now) _ _ 8 (inr refl) (c.enter.ensures.files folder_tells)
-      (inr (refl, ap (λ (l : FolderLog). l.entries) (c.in-Err-Memory.ensures.log folder_tells) ∙ is)))
+    inr (
+      refl,
+      never_read g.F.Folder g.F.Disk.Disk g.C.Clock _ c.args.folder.now c.enter.new.self (g.W.Sink.written c.args.sink.now) _ _ 8 (inr refl) (c.enter.ensures.files folder_tells)
+          (inr (refl, ap (λ (l : FolderLog). l.entries) (c.in-Err-Memory.ensures.log folder_tells) ∙ is)),
+    )

@@ -1,6 +1,6 @@
 use Rattle.std.proofs.Common.{Option, None, cond, sym, ap, ◌∙◌}
 use Rattle.wavelet_op.specs.States.{State}
-use Rattle.node_rules.specs.Followers.{pending}
+use Rattle.follower_rules.specs.Followers.{pending}
 use Rattle.client_control.specs.Parts.{Parts, parts, follower_of, settled}
 use Rattle.client_control.proofs.Kept.{dropped_kept}
 use Rattle.client_control.proofs.follower.Follower.drop_pending.Goals as goal

@@ -2,7 +2,7 @@ use Rattle.std.proofs.Common.{◌≡◌, ◌+◌, ◌≤◌, ℕ, List, [], ◌�
 use Rattle.wavelet_op.specs.Acts.{inserted, meanings}
 use Rattle.wavelet_op.specs.declared.op.WaveletOp.{WaveletOp}
 use Rattle.wavelet_state.specs.Snapshots.{max_inserted}
-use Rattle.node_rules.specs.Followers.{screen}
+use Rattle.follower_rules.specs.Followers.{screen}
 use Rattle.client_control.specs.Parts.{Parts, parts, follower_of, IsKept}
 use Rattle.client_control.proofs.Kept.{few, longer_parts, edit_kept}
 use Rattle.client_control.proofs.follower.Follower.edit.Goals as goal

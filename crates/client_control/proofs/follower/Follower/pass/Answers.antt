@@ -4,7 +4,7 @@ use Rattle.wavelet_op.specs.Deltas.{DeltaOf}
 use Rattle.wavelet_op.specs.declared.op.WaveletOp.{WaveletOp}
 use Rattle.wavelet_op.proofs.Partial.{both}
 use Rattle.delta_history.specs.Points.{acts_of}
-use Rattle.node_rules.specs.Receiving.{over}
+use Rattle.follower_rules.specs.Receiving.{over}
 use Rattle.client_control.specs.Parts.{Parts, follower_of, ops_flying, IsKept}
 use Rattle.client_control.specs.Steps.{AreStructured}
 use Rattle.client_control.proofs.Pending.{pending_structured}

@@ -6,7 +6,7 @@ use Rattle.wavelet_op.specs.States.{State, run}
 use Rattle.wavelet_op.specs.declared.op.WaveletOp.{WaveletOp}
 use Rattle.wavelet_state.specs.Snapshots.{max_inserted}
 use Rattle.delta_history.specs.Points.{acts_of}
-use Rattle.node_rules.specs.Followers.{inserted_all}
+use Rattle.follower_rules.specs.Followers.{inserted_all}
 use Rattle.client_control.specs.declared.flight.InFlight.{InFlight}
 use Rattle.client_control.specs.Parts.{Parts, parts, with_ops, IsKept}
 use Rattle.client_control.specs.Steps.{IsOver}

@@ -1,7 +1,7 @@
 use Rattle.std.proofs.Common.{◌≤◌, sym, subst, ap, ◌∙◌}
 use Rattle.wavelet_op.specs.States.{State}
 use Rattle.wavelet_state.specs.Parts.{item_count}
-use Rattle.node_rules.specs.Followers.{pending}
+use Rattle.follower_rules.specs.Followers.{pending}
 use Rattle.client_control.specs.Parts.{Parts, parts, follower_of, settled}
 use Rattle.client_control.proofs.Kept.{snapshot_kept}
 use Rattle.client_control.proofs.follower.Follower.receive_snapshot.Goals as goal

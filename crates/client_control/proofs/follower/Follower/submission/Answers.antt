@@ -1,6 +1,6 @@
 use Rattle.std.proofs.Common.{sym, ap, ◌∙◌}
 use Rattle.wavelet_op.specs.Acts.{meanings}
-use Rattle.node_rules.specs.Submitting.{sent_by}
+use Rattle.follower_rules.specs.Submitting.{sent_by}
 use Rattle.client_control.specs.Parts.{Parts, parts, follower_of}
 use Rattle.client_control.proofs.Kept.{sent_is}
 use Rattle.client_control.proofs.follower.Follower.submission.Goals as goal

@@ -2,8 +2,8 @@ use Rattle.std.proofs.Common.{◌≡◌, ◌+◌, ◌≤◌, List, ◌∷◌, dr
 use Rattle.wavelet_op.specs.Acts.{inserted, meanings}
 use Rattle.wavelet_op.specs.declared.op.WaveletOp.{WaveletOp}
 use Rattle.wavelet_state.specs.Snapshots.{max_inserted}
-use Rattle.node_rules.specs.Followers.{inserted_all}
-use Rattle.node_rules.specs.Submitting.{sent_by}
+use Rattle.follower_rules.specs.Followers.{inserted_all}
+use Rattle.follower_rules.specs.Submitting.{sent_by}
 use Rattle.client_control.specs.Parts.{Parts, parts, follower_of}
 use Rattle.client_control.proofs.Kept.{none_if, drop_next, IsTaking, taking_room, taking_kept}
 use Rattle.client_control.proofs.Matches.{some_of}

@@ -1,8 +1,0 @@
-use Rattle.std.proofs.Common.{◌≡◌, [], drop}
-use Rattle.serde_json.specs.View.{items_view}
-use Rattle.op_json.specs.Read.{list_from}
-use Rattle.message_parts.specs.Operations.{op_of}
-use Rattle.message_parts.proofs.operation.list_in.Given as goal
-
-abbrev pub invariant-loop-value : goal.invariant-loop-value
-invariant-loop-value l = list_from op_of [] (items_view l.list) ≡ list_from op_of l.ops.items (items_view (drop l.value-index l.list))
