@@ -4,7 +4,7 @@ use Rattle.std.proofs.lemmas.List.{map-append, length-map}
 use Rattle.wave_outside.specs.declared.clock.Clock as clock_of
 use Rattle.line_loop.specs.declared.line_machine.LineMachine as machine_of
 use Rattle.line_loop.specs.Lines.{IsPrefix, IsCutInto, Begins, given, turned, has_line_feed}
-use Rattle.line_loop.specs.Steps.{IsAnswered, IsTakenLine, IsTriedLine, IsTaken, IsTakenChunk, IsTakenInPart}
+use Rattle.line_loop.specs.Steps.{IsAnswered, IsTakenLine, IsTriedLine, IsTaken, IsTakenInPart}
 use Rattle.line_loop.specs.Turns.{Turn, turn_at, lines_in, later, timed}
 use Rattle.line_loop.proofs.Cutting.{begins_nothing, begins_cut, begins_longer, begins_then, cut_line, turned-last}
 
@@ -73,7 +73,7 @@ module _ {M K : Type 0} (machine : machine_of.Ghosts M) (clock : clock_of.Ghosts
     turns = [];
     tried = [];
     front = begins_nothing bytes;
-    stopped = record { mid = a; now = k; after = before; answered = answered_none a k before; since = λ start us h. rw (append-nil us) h };
+    stopped = record { mid = a; now = k; after = before; answered = answered_none a k before; since = λ start us h. rw (append-nil us) h; left = refl };
   }
 
   pub line_in_part : (a b : M) (k : K) (before begun last line : List ℕ) → has_line_feed line ≡ false → IsCutInto begun last line [] → IsTriedLine machine a b line
@@ -82,7 +82,7 @@ module _ {M K : Type 0} (machine : machine_of.Ghosts M) (clock : clock_of.Ghosts
     turns = [];
     tried = p.tried;
     front = begins_cut begun (last ++ 10 ∷ []) [] (lines_in p.tried) (cut_line begun last line (lines_in p.tried) shut keeps p.lines);
-    stopped = record { mid = a; now = k; after = before; answered = answered_none a k before; since = p.since };
+    stopped = record { mid = a; now = k; after = before; answered = answered_none a k before; since = p.since; left = p.left };
   }
 
   -- more bytes follow
@@ -110,6 +110,7 @@ module _ {M K : Type 0} (machine : machine_of.Ghosts M) (clock : clock_of.Ghosts
       after = q.stopped.after;
       answered = answered_then a b q.stopped.mid k l q.stopped.now x y q.stopped.after p.turns q.turns p.answered q.stopped.answered;
       since = q.stopped.since;
+      left = q.stopped.left;
     };
   }
 
@@ -169,53 +170,12 @@ module _ {M K : Type 0} (machine : machine_of.Ghosts M) (clock : clock_of.Ghosts
     answered = p.answered;
   }
 
-  -- ---- a chunk
-
-  pub chunk_taken : {T E : Type 0} (r : Result T E) (a b : M) (k l : K) (x y begun bytes left : List ℕ) → 0 < length bytes → OnOk r (IsTaken machine clock a b k l x y begun bytes left)
-      → OnOk r (IsTakenChunk machine clock a b k l x y begun bytes left)
-  chunk_taken (Ok done) a b k l x y begun bytes left some p = record {
-    turns = p.turns;
-    cut = λ h. p.cut;
-    last = λ h. absurd (omega (arith, h, some));
-    answered = p.answered;
-  }
-  chunk_taken (Err e) a b k l x y begun bytes left some p = tt
-
-  pub chunk_last : {T E : Type 0} (r : Result T E) (a b : M) (k l : K) (x y begun bytes left : List ℕ) → length bytes ≡ 0 → has_line_feed begun ≡ false
-      → OnOk r (IsTakenLine machine clock a b k l x y begun) → OnOk r (IsTakenChunk machine clock a b k l x y begun bytes left)
-  chunk_last (Ok done) a b k l x y begun bytes left none shut p = record {
-    turns = p.turns;
-    cut = λ h. absurd (omega (arith, h, none));
-    last = λ h. p.lines ∙ sym (turned-last begun shut);
-    answered = p.answered;
-  }
-  chunk_last (Err e) a b k l x y begun bytes left none shut p = tt
-
-  pub chunk_cut : {T E : Type 0} (r : Result T E) (a b : M) (k : K) (before bytes : List ℕ) → OnErr r (IsTakenInPart machine clock a b k before (Begins bytes))
-      → OnErr r (IsTakenInPart machine clock a b k before (λ ls. IsPrefix ls (turned true bytes)))
-  chunk_cut (Ok done) a b k before bytes p = tt
-  chunk_cut (Err e) a b k before bytes p = record {
-    turns = p.turns;
-    tried = p.tried;
-    front = rw (append-nil bytes) at (p.front []);
-    stopped = p.stopped;
-  }
-
-  pub chunk_untaken : {T E : Type 0} (r : Result T E) (a b : M) (k : K) (before begun bytes : List ℕ) → bytes ≡ [] → has_line_feed begun ≡ false → OnErr r (IsTriedLine machine a b begun)
-      → OnErr r (IsTakenInPart machine clock a b k before (λ ls. IsPrefix ls (turned true (begun ++ bytes))))
-  chunk_untaken (Ok done) a b k before begun bytes none shut p = tt
-  chunk_untaken (Err e) a b k before begun bytes none shut p = record {
-    turns = [];
-    tried = p.tried;
-    front = ([], append-nil (lines_in p.tried) ∙ p.lines ∙ sym (turned-last begun shut) ∙ ap (turned true) (sym (append-nil begun)) ∙ ap (λ t. turned true (begun ++ t)) (sym none));
-    stopped = record { mid = a; now = k; after = before; answered = answered_none a k before; since = p.since };
-  }
-
 pub line_tried : {M T E : Type 0} (machine : machine_of.Ghosts M) (r : Result T E) (a b : M) (time n : ℕ) (line : List ℕ) → take n line ∷ [] ≡ given (line ∷ [])
     → ((start : M) (us : List Turn) → machine.since start us a → machine.since start (us ++ turn_at time (take n line) ∷ []) b)
+    → OnErr r (machine.tried a (turn_at time (take n line)) b)
     → OnErr r (IsTriedLine machine a b line)
-line_tried machine (Ok done) a b time n line same since = tt
-line_tried machine (Err e) a b time n line same since = record { tried = turn_at time (take n line) ∷ []; lines = same; since = since }
+line_tried machine (Ok done) a b time n line same since left = tt
+line_tried machine (Err e) a b time n line same since left = record { tried = turn_at time (take n line) ∷ []; lines = same; since = since; left = left }
 
 pub on_err : {T E P : Type 0} (r : Result T E) → P → OnErr r P
 on_err (Ok done) p = tt

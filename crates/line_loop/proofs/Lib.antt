@@ -1,5 +1,6 @@
 pub mod Answering
 pub mod Cutting
+pub mod Feeding
 pub mod Serving
 pub mod Slices
 pub mod Telling

@@ -6,9 +6,11 @@ use Rattle.wave_outside.specs.declared.clock.Clock as clock_of
 use Rattle.line_loop.specs.declared.line_machine.LineMachine as machine_of
 use Rattle.line_loop.specs.declared.run.Stop.{Stop}
 use Rattle.line_loop.specs.declared.run.Stop.TheVariants.{Source, Sink, Store, Memory, Limit}
+use Rattle.line_loop.specs.Feeding.{IsFedInPart}
+use Rattle.line_loop.specs.declared.feed.FeedFault.{FeedFault}
+use Rattle.line_loop.specs.declared.feed.FeedFault.TheVariants.{Sink as FedSink}
 use Rattle.line_loop.specs.Lines.{turned, IsPrefix, IsCutInto, has_line_feed}
 use Rattle.line_loop.specs.Run.{IsServed, IsUnderWay, IsPumped, IsCut, stop_status, byte_limit}
-use Rattle.line_loop.specs.Steps.{IsTakenChunk, IsTakenInPart}
 use Rattle.line_loop.specs.Turns.{lines_in}
 use Rattle.line_loop.proofs.Answering.{answered_none, answered_then, answered_behind, answered_all, lines_in-append}
 use Rattle.line_loop.proofs.Cutting.{turned-open}
@@ -17,12 +19,6 @@ use Rattle.line_loop.proofs.Telling.{Keeps-consumes, Consumes-none, Consumes-the
 pub length-zero : (s : List ℕ) → length s ≡ 0 → s ≡ []
 length-zero [] e = refl
 length-zero (x ∷ s) e = absurd (omega (arith, e))
-
--- the lines of a chunk are the first
-chunk_front : (begun bytes left : List ℕ) (ls : List (List ℕ)) → (0 < length bytes → IsCutInto begun bytes left ls) → (length bytes ≡ 0 → ls ≡ turned true begun) → IsPrefix ls (turned true (begun ++ bytes))
-chunk_front begun [] left ls cut last = ([], append-nil ls ∙ last refl ∙ ap (turned true) (sym (append-nil begun)))
-chunk_front begun (b ∷ bytes) left ls cut last =
-    (turned true (left ++ []), sym (cut (omega arith) true []) ∙ ap (λ t. turned true (begun ++ t)) (append-nil (b ∷ bytes)))
 
 -- ---- statuses
 
@@ -74,49 +70,30 @@ module _ {M K : Type 0} (machine : machine_of.Ghosts M) (clock : clock_of.Ghosts
     appended = Appends-none h;
     small = omega arith;
     front = (turned true (begun ++ []), refl);
-    stopped = record { mid = m; now = k; after = []; answered = answered_none machine clock m k []; since = λ start us h. rw (append-nil us) h };
+    stopped = record { mid = m; now = k; after = []; answered = answered_none machine clock m k []; since = λ start us h. rw (append-nil us) h; left = refl };
     prefix = ([], refl);
     unread = λ q. (refl, refl, refl);
     all = λ q. (refl, refl);
     short = λ q. absurd (cc);
   }
 
-  -- a step whose sink failed
-  pub cut_unwritten : (room : ℕ) (old new : M) (was now : K) (a b h i : Option (List ℕ)) (begun bytes left out : List ℕ) (k : ℕ) → length bytes ≤ room → Consumes a b bytes
-      → IsTakenChunk machine clock old new was now [] out begun bytes left → k < length out → Appends h i (take k out) → IsCut machine clock room old new was a b h i begun Sink
-  cut_unwritten room old new was now a b h i begun bytes left out k small consumed p low appended = record {
+  -- a step that read these bytes, and whose machine or sink failed
+  pub cut_fed : (f : FeedFault) (e : Stop) → (e ≡ Source → ⊥) → (e ≡ Sink → f ≡ FedSink) → (room : ℕ) (old new : M) (was : K) (a b h i : Option (List ℕ)) (begun bytes : List ℕ) → length bytes ≤ room → Consumes a b bytes
+      → IsFedInPart machine clock old new was h i (λ ls. IsPrefix ls (turned true (begun ++ bytes))) f → IsCut machine clock room old new was a b h i begun e
+  cut_fed f e source sink room old new was a b h i begun bytes small consumed p = record {
     read = bytes;
-    written = take k out;
-    turns = p.turns;
-    tried = [];
-    consumed = consumed;
-    appended = appended;
-    small = small;
-    front = rw (append-nil (lines_in p.turns)) (chunk_front begun bytes left (lines_in p.turns) p.cut p.last);
-    stopped = record { mid = new; now = now; after = out; answered = p.answered; since = λ start us h. rw (append-nil us) h };
-    prefix = (drop k out, take-append-drop k out);
-    unread = λ q. absurd (cc);
-    all = λ q. (refl, refl);
-    short = λ q. omega (arith, length-take k out, low);
-  }
-
-  -- a step whose machine failed
-  pub cut_stopped : (e : Stop) → (e ≡ Source → ⊥) → (e ≡ Sink → ⊥) → (room : ℕ) (old new : M) (was : K) (a b h : Option (List ℕ)) (begun bytes : List ℕ) → length bytes ≤ room → Consumes a b bytes
-      → IsTakenInPart machine clock old new was [] (λ ls. IsPrefix ls (turned true (begun ++ bytes))) → IsCut machine clock room old new was a b h h begun e
-  cut_stopped e source sink room old new was a b h begun bytes small consumed p = record {
-    read = bytes;
-    written = [];
+    written = p.written;
     turns = p.turns;
     tried = p.tried;
     consumed = consumed;
-    appended = Appends-none h;
+    appended = p.appended;
     small = small;
     front = p.front;
     stopped = p.stopped;
-    prefix = (p.stopped.after, refl);
+    prefix = p.prefix;
     unread = λ q. absurd (source q);
-    all = λ q. absurd (elim q [ inl x ↦ source x | inr x ↦ sink x ]);
-    short = λ q. absurd (sink q);
+    all = λ q. elim q [ inl x ↦ absurd (source x) | inr x ↦ p.all (sink x) ];
+    short = λ q. p.short (sink q);
   }
 
   -- nothing was read yet
@@ -171,6 +148,7 @@ module _ {M K : Type 0} (machine : machine_of.Ghosts M) (clock : clock_of.Ghosts
           mid = new;
           reached = all.reached start [] (at_start start);
           since = unmoved new;
+          left = refl;
           moved = rw (append-nil (p.turns ++ q.turns)) (all.since start [] (unmoved start));
           calm = all.calm;
           timed = all.timed;
@@ -203,6 +181,7 @@ module _ {M K : Type 0} (machine : machine_of.Ghosts M) (clock : clock_of.Ghosts
           mid = s.mid;
           reached = all.reached start [] (at_start start);
           since = s.since s.mid [] (unmoved s.mid);
+          left = s.left;
           moved = s.since start (p.turns ++ q.turns) (all.since start [] (unmoved start));
           calm = all.calm;
           timed = all.timed;
@@ -251,6 +230,7 @@ module _ {M K : Type 0} (machine : machine_of.Ghosts M) (clock : clock_of.Ghosts
           mid = now;
           reached = p.answered.reached start [] (at_start start);
           since = unmoved now;
+          left = refl;
           moved = rw (append-nil p.turns) (p.answered.since start [] (unmoved start));
           calm = p.answered.calm;
           timed = p.answered.timed;

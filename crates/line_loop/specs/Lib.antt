@@ -1,3 +1,4 @@
+pub mod Feeding
 pub mod Lines
 pub mod Output
 pub mod Run

@@ -12,7 +12,7 @@ use Rattle.line_loop.specs.declared.line_machine.LineMachine as machine_of
 use Rattle.line_loop.specs.declared.run.Stop.{Stop}
 use Rattle.line_loop.specs.declared.run.Stop.TheVariants.{Source, Sink, Store, Memory, Limit}
 use Rattle.line_loop.specs.Lines.{turned, IsPrefix, IsCutInto}
-use Rattle.line_loop.specs.Steps.{IsAnswered, IsStopped}
+use Rattle.line_loop.specs.Steps.{IsAnswered, IsLeft, IsStopped}
 use Rattle.line_loop.specs.Turns.{Turn, lines_in, timed}
 
 abbrev pub byte_limit : ℕ
@@ -44,6 +44,7 @@ module _ {M K : Type 0} (machine : machine_of.Ghosts M) (clock : clock_of.Ghosts
     pub mid : M
     pub reached : machine.reached start turns mid
     pub since : machine.since mid tried now
+    pub left : IsLeft machine mid now tried
     pub moved : machine.since start (turns ++ tried) now
     pub calm : machine.calm start → machine.calm mid
     pub timed : IsTrue clock.tells → turns ≡ timed (clock.readings was) (lines_in turns)

@@ -1,21 +1,27 @@
 -- Steps of a machine over lines, from one state of it, of the clock and of what is to be written to another.
---     IsTriedLine     it was given one line, or nothing where that had no bytes, and may have failed
+--     IsLeft          what a failure left: the machine as it was where it was given nothing, or what a turn left that failed
+--     IsTriedLine     it was given one line, or nothing where that had no bytes, and failed
 --     IsAnswered      the machine took these turns, and answered each
 --     IsStopped       it answered some turns, and failed at what it tried then, if anything
 --     IsTakenLine     it was given one line, or nothing where that had no bytes, and answered it
 --     IsTaken         it took the lines that ended in some bytes
---     IsTakenChunk    it took such lines; where there were no bytes, it took the open line as the last
 --     IsTakenInPart   it took some of them, and failed; what it took and tried are the first lines of something
-use Rattle.std.specs.Prelude.{◌≡◌, ℕ, ◌+◌, List, [], ◌∷◌, ◌++◌, ◌<◌, length, true, IsTrue}
+use Rattle.std.specs.Prelude.{◌≡◌, ℕ, ◌+◌, List, [], ◌∷◌, ◌++◌, length, IsTrue}
 use Rattle.wave_outside.specs.declared.clock.Clock as clock_of
 use Rattle.line_loop.specs.declared.line_machine.LineMachine as machine_of
-use Rattle.line_loop.specs.Lines.{given, turned, IsCutInto}
+use Rattle.line_loop.specs.Lines.{given, IsCutInto}
 use Rattle.line_loop.specs.Turns.{Turn, lines_in, timed}
+
+abbrev pub IsLeft : {M : Type 0} → machine_of.Ghosts M → M → M → List Turn → Type 0
+IsLeft machine old new [] = new ≡ old
+IsLeft machine old new (t ∷ []) = machine.tried old t new
+IsLeft machine old new (t ∷ u ∷ ts) = ⊥
 
 pub record IsTriedLine {M : Type 0} (machine : machine_of.Ghosts M) (old new : M) (line : List ℕ) : Type 0 where
   pub tried : List Turn
   pub lines : lines_in tried ≡ given (line ∷ [])
   pub since : (start : M) (us : List Turn) → machine.since start us old → machine.since start (us ++ tried) new
+  pub left : IsLeft machine old new tried
 
 module _ {M K : Type 0} (machine : machine_of.Ghosts M) (clock : clock_of.Ghosts K) where
   pub record IsAnswered (old new : M) (was now : K) (before after : List ℕ) (ts : List Turn) : Type 0 where
@@ -32,6 +38,7 @@ module _ {M K : Type 0} (machine : machine_of.Ghosts M) (clock : clock_of.Ghosts
     pub after : List ℕ
     pub answered : IsAnswered old mid was now before after ts
     pub since : (start : M) (us : List Turn) → machine.since start us mid → machine.since start (us ++ tried) new
+    pub left : IsLeft machine mid new tried
 
   pub record IsTakenLine (old new : M) (was now : K) (before after : List ℕ) (line : List ℕ) : Type 0 where
     pub turns : List Turn
@@ -41,12 +48,6 @@ module _ {M K : Type 0} (machine : machine_of.Ghosts M) (clock : clock_of.Ghosts
   pub record IsTaken (old new : M) (was now : K) (before after : List ℕ) (begun bytes left : List ℕ) : Type 0 where
     pub turns : List Turn
     pub cut : IsCutInto begun bytes left (lines_in turns)
-    pub answered : IsAnswered old new was now before after turns
-
-  pub record IsTakenChunk (old new : M) (was now : K) (before after : List ℕ) (begun bytes left : List ℕ) : Type 0 where
-    pub turns : List Turn
-    pub cut : 0 < length bytes → IsCutInto begun bytes left (lines_in turns)
-    pub last : length bytes ≡ 0 → lines_in turns ≡ turned true begun
     pub answered : IsAnswered old new was now before after turns
 
   pub record IsTakenInPart (old new : M) (was : K) (before : List ℕ) (are_first : List (List ℕ) → Type 0) : Type 0 where

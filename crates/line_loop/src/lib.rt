@@ -2,6 +2,7 @@
 #![tactic(auto)]
 
 mod cut;
+mod feed;
 mod line_machine;
 mod output;
 mod run;

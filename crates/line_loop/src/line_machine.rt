@@ -1,5 +1,5 @@
 // What takes the lines.
-ghost use Rattle.std.specs.Prelude.{◌≡◌, ◌≤◌, ℕ, List, [], ◌∷◌, ◌++◌, OnOk, IsErrOf};
+ghost use Rattle.std.specs.Prelude.{◌≡◌, ◌≤◌, ℕ, List, [], ◌∷◌, ◌++◌, OnOk, OnErr, IsErrOf};
 ghost use Rattle.wave_outside.specs.Counts.{Rose};
 ghost use Rattle.line_loop.specs.Turns.{Turn, turn_at};
 
@@ -36,11 +36,18 @@ pub trait LineMachine {
     /// What stays so between two states of it, whatever became of these turns.
     ghost since: { Self → List Turn → Self → Type 0 };
 
+    /// What holds between it before and after a turn that failed.
+    ghost tried: { Self → Turn → Self → Type 0 };
+
     /// What holds of it while no turn fails.
     ghost calm: { Self → Type 0 };
 
     /// How many calls of what it stores things in have failed.
     ghost faults: { Self → ℕ };
+
+    /// Whether a turn may fail for another cause than want of memory, as where it stores what it is given. The answers before such a
+    /// turn are written first.
+    fn may_fail(&self) -> bool;
 
     /// Takes a line, with the time, and appends its answer. After an error anything may have been appended.
     fn turn(
@@ -53,6 +60,7 @@ pub trait LineMachine {
         ensures answered { OnOk result ((ts : List Turn) → out.old.items ++ answers self.old (turn_at time line.now ∷ ts) ≡ out.new.items ++ answers self.new ts) }
         ensures reached { OnOk result ((start : Self) (ts : List Turn) → reached start ts self.old → reached start (ts ++ turn_at time line.now ∷ []) self.new) }
         ensures since { (start : Self) (ts : List Turn) → since start ts self.old → since start (ts ++ turn_at time line.now ∷ []) self.new }
+        ensures tried { OnErr result (tried self.old (turn_at time line.now) self.new) }
         ensures calm { OnOk result (calm self.old → calm self.new) }
         ensures later { faults self.old ≤ faults self.new }
         ensures failed { IsErrOf result TurnFault.Store → Rose (faults self.old) (faults self.new) };

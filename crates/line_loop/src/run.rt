@@ -1,21 +1,18 @@
 // The loop over the input, a chunk at a time.
-ghost use Rattle.std.specs.Prelude.{◌≡◌, ◌≤◌, ◌<◌, ◌++◌, true, length, IfOk, IfErr, OnOk, OnErr, IsErrOf};
+ghost use Rattle.std.specs.Prelude.{◌≡◌, ◌≤◌, ◌<◌, length, IfOk, IfErr, IsErrOf};
 ghost use Rattle.wave_outside.specs.Counts.{Rose};
-ghost use Rattle.line_loop.specs.Lines.{turned, IsPrefix};
 ghost use Rattle.line_loop.specs.Run.{status_of, IsServed, IsPumped, IsCut};
-ghost use Rattle.line_loop.specs.Steps.{IsTakenChunk, IsTakenInPart};
 
+use crate::LineMachine;
 use crate::cut::OpenLine;
-use crate::output::write_all;
-use crate::take::{give, take};
-use crate::{LineMachine, TurnFault};
+use crate::feed::{FeedFault, feed};
 use std::alloc::Global;
 use wave_outside::{Clock, Sink, Source};
 
 // The most bytes that one run reads.
 const BYTE_LIMIT: u64 = 1 << 62;
 
-// The most bytes that are read at once. The answers to them are written at once, too.
+// The most bytes that are read at once.
 const CHUNK: usize = 1 << 16;
 
 /// Why a run stopped before the end of its input.
@@ -34,7 +31,8 @@ pub enum Stop {
 }
 
 /// Gives the machine the lines of the source until it ends, and writes its answers. A line that has no bytes is passed over, and takes
-/// no reading of the clock; the last line may lack its line feed. What is read at once is answered before more is read.
+/// no reading of the clock; the last line may lack its line feed. What is read at once is answered before more is read; the answers
+/// are written before a turn that may fail for another cause than want of memory, and once many bytes of them wait.
 pub fn run_lines<M: LineMachine, S: Source, W: Sink, C: Clock>(
     alloc: Global,
     machine: &mut M,
@@ -72,8 +70,8 @@ pub fn run_lines<M: LineMachine, S: Source, W: Sink, C: Clock>(
     Err(Stop::Limit)
 }
 
-// Reads some bytes, at most as many as the buffer takes, and writes the answers to the lines that end in them; at the end of the
-// input, the answer to the line that is open.
+// Reads some bytes, at most as many as the buffer takes, and has the lines answered that end in them; at the end of the input, the
+// line that is open.
 fn pump<M: LineMachine, S: Source, W: Sink, C: Clock>(
     alloc: Global,
     begun: &mut OpenLine,
@@ -100,34 +98,10 @@ fn pump<M: LineMachine, S: Source, W: Sink, C: Clock>(
     let Ok(count) = source.read(buffer) else {
         return Err(Stop::Source);
     };
-    let mut out = Vec::new(alloc);
-    match answer(alloc, begun, machine, clock, &buffer[..count], &mut out) {
-        Ok(()) => match write_all(sink, out.as_slice()) {
-            Ok(()) => Ok(count),
-            Err(_) => Err(Stop::Sink),
-        },
-        Err(TurnFault::Store) => Err(Stop::Store),
-        Err(TurnFault::Memory) => Err(Stop::Memory),
+    match feed(alloc, begun, machine, sink, clock, &buffer[..count]) {
+        Ok(()) => Ok(count),
+        Err(FeedFault::Sink) => Err(Stop::Sink),
+        Err(FeedFault::Store) => Err(Stop::Store),
+        Err(FeedFault::Memory) => Err(Stop::Memory),
     }
-}
-
-// Appends the answers to the lines that end in these bytes; where there are none, the input has ended.
-fn answer<M: LineMachine, C: Clock>(
-    alloc: Global,
-    begun: &mut OpenLine,
-    machine: &mut M,
-    clock: &mut C,
-    bytes: &[u8],
-    out: &mut Vec<u8>,
-) -> Result<(), TurnFault>
-    ensures ok { OnOk result (IsTakenChunk M.LineMachine C.Clock machine.old machine.new clock.old clock.new out.old.items out.new.items
-        begun.old.bytes.items bytes.now begun.new.bytes.items) }
-    ensures err { OnErr result (IsTakenInPart M.LineMachine C.Clock machine.old machine.new clock.old out.old.items (λ ls. IsPrefix ls (turned true (begun.old.bytes.items ++ bytes.now)))) }
-    ensures later { M.faults machine.old ≤ M.faults machine.new }
-    ensures failed { IsErrOf result TurnFault.Store → Rose (M.faults machine.old) (M.faults machine.new) }
-{
-    if bytes.is_empty() {
-        return give(alloc, machine, clock, begun.bytes.as_slice(), out);
-    }
-    take(alloc, begun, machine, clock, bytes, out)
 }

@@ -7,6 +7,8 @@
 --                           room
 --     IsNear h s t k d      the delta d is what the submission becomes: that is the verdict, unless the delta can't be next
 --     IsDecided h s t r     what is told at once is the verdict
+--     LooksAtOps j          the verdict is one that comes only after the operations were looked at: that they aren't valid, that there
+--                           is no room, or that they are accepted
 --     refusal_of h s k v    this verdict is the refusal
 use Rattle.std.specs.Prelude.{◌≡◌, ◌≤◌, ◌<◌, ◌+◌, ℕ, Bool, true, false, ◌&&◌, nat_le, min, List, length, take, drop, Option, Some, None, IsSome}
 use Rattle.doc_items.specs.Limits.{max_count}
@@ -18,7 +20,7 @@ use Rattle.wavelet_op.specs.declared.op.WaveletOp.{WaveletOp}
 use Rattle.wavelet_op.specs.declared.delta.Submission.{Submission}
 use Rattle.wavelet_op.specs.declared.role.Role.TheVariants as role
 use Rattle.wavelet_op.specs.declared.verdict.Verdict.{Verdict}
-use Rattle.wavelet_op.specs.declared.verdict.Verdict.TheVariants.{Invalid, Full}
+use Rattle.wavelet_op.specs.declared.verdict.Verdict.TheVariants.{Ack, NotParticipant, ReadOnly, UnknownVersion, WrongHash, Invalid, Full}
 use Rattle.delta_history.specs.Histories.{HistoryOf, head_of}
 use Rattle.wavelet_state.specs.Snapshots.{max_inserted}
 use Rattle.delta_history.specs.Legal.{has_id, standing, may_write, IsLegal}
@@ -33,6 +35,16 @@ use Rattle.wavelet_container.specs.declared.early.Tested.TheVariants as tested
 
 abbrev pub judged : HistoryOf → Submission → ℕ → Judged
 judged h s t = judge h.name h.deltas s t
+
+abbrev pub LooksAtOps : Judged → Type 0
+LooksAtOps (v, Some d) = Unit {0}
+LooksAtOps (Invalid index, None) = Unit {0}
+LooksAtOps (Full head, None) = Unit {0}
+LooksAtOps (Ack at to, None) = ⊥
+LooksAtOps (NotParticipant, None) = ⊥
+LooksAtOps (ReadOnly, None) = ⊥
+LooksAtOps (UnknownVersion head, None) = ⊥
+LooksAtOps (WrongHash host, None) = ⊥
 
 pub record IsBase (h : HistoryOf) (s : Submission) (k : ℕ) : Type 0 where
   pub inside : k ≤ length h.deltas

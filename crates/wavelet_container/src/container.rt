@@ -4,7 +4,7 @@ ghost use Rattle.std.specs.Option.{option_map};
 ghost use Rattle.disk_model.specs.Disk.{LeavesJust, Rose};
 ghost use Rattle.delta_history.specs.Histories.{IsSameHistory};
 ghost use Rattle.delta_journal.specs.Journal.{disk_of, on_disk, left_over, needs_repair, EachImage};
-ghost use Rattle.wavelet_container.specs.Decisions.{judged};
+ghost use Rattle.wavelet_container.specs.Decisions.{judged, LooksAtOps};
 ghost use Rattle.wavelet_container.specs.Records.{StandsForHistory};
 ghost use Rattle.wavelet_container.specs.Stores.{IsGrownBy, IsStored, IsLeftOver};
 ghost use Rattle.wavelet_container.specs.Containers.{history_of, journal_of, OfBoth, Moments, IsHeld};
@@ -91,8 +91,10 @@ impl<K: Disk> Container<K> {
 
     /// The verdict on a submission at the time, in milliseconds; the history grows by just the delta that is accepted. With a
     /// journal a pending repair comes first, and an accepted delta is on the disk before the history has it: at `Ok` every image
-    /// stands for the history. At `DiskFault` and at `Memory` the history is as before; each image stands for it, or for it and the
-    /// accepted delta, and a repair may be pending.
+    /// stands for the history. At `DiskFault` and at `Memory` the history is as before. At `DiskFault` each image stands for it, or for
+    /// it and the accepted delta, and a repair may be pending; at `Memory` each image stands for just the history, and no repair is
+    /// pending. No memory is taken before the operations are looked at: a kept acknowledgement, `NotParticipant`, `ReadOnly`,
+    /// `UnknownVersion` and `WrongHash` never become `Memory`.
     pub fn submit(
         &mut self,
         alloc: Global,
@@ -106,7 +108,10 @@ impl<K: Disk> Container<K> {
         ensures stored { OfBoth (journal_of self.old) (journal_of self.new) (λ i j. IsStored (history_of self.old) i → IsStored (history_of self.new) j) }
         ensures any_moment { OfBoth (journal_of self.old) (journal_of self.new) (λ i j. IsStored (history_of self.old) i → Moments (history_of self.old) submission.now time i j) }
         ensures every_image { OnOk result (OfBoth (journal_of self.old) (journal_of self.new) (λ i j. IsStored (history_of self.old) i → EachImage j (StandsForHistory (history_of self.new).name (history_of self.new).deltas))) }
+        ensures nothing_left { IsErrOf result SubmitFault.Memory → OfBoth (journal_of self.old) (journal_of self.new) (λ i j. IsStored (history_of self.old) i → EachImage j (StandsForHistory (history_of self.new).name (history_of self.new).deltas)) }
         ensures done { OnOk result (OfBoth (journal_of self.old) (journal_of self.new) (λ i j. needs_repair j ≡ false)) }
+        ensures untouched { IsErrOf result SubmitFault.Memory → OfBoth (journal_of self.old) (journal_of self.new) (λ i j. needs_repair j ≡ false) }
+        ensures late { IsErrOf result SubmitFault.Memory → LooksAtOps (judged (history_of self.old) submission.now time) }
         ensures left_over { OfBoth (journal_of self.old) (journal_of self.new) (λ i j. IsLeftOver (left_over i) (judged (history_of self.old) submission.now time).1 (left_over j)) }
 
         ensures later { OfBoth (journal_of self.old) (journal_of self.new) (λ i j. (on_disk i).faults ≤ (on_disk j).faults) }

@@ -1,9 +1,9 @@
 // What becomes of a submission, up to the delta that it becomes.
-ghost use Rattle.std.specs.Prelude.{◌≡◌, ◌≤◌, ◌*◌, length, IsSome, IfOk, MatchOption, None};
+ghost use Rattle.std.specs.Prelude.{◌≡◌, ◌≤◌, ◌*◌, length, IsSome, IfOk, OnErr, MatchOption, None};
 ghost use Rattle.doc_items.specs.Limits.{max_count};
 ghost use Rattle.wavelet_op.specs.Acts.{inserted_act, inserted, meaning, meanings, AreNormal};
 ghost use Rattle.wavelet_op.specs.States.{run, first_invalid};
-ghost use Rattle.wavelet_container.specs.Decisions.{IsBase, IsDecided, IsRefusal, IsInvalidAt, IsSubmitted, IsValidBelow, has_room};
+ghost use Rattle.wavelet_container.specs.Decisions.{IsBase, IsDecided, IsRefusal, IsInvalidAt, IsSubmitted, IsValidBelow, LooksAtOps, has_room, judged};
 
 use crate::cached::CachedHistory;
 use crate::early::{Tested, test};
@@ -24,7 +24,8 @@ pub(crate) enum Decision {
 }
 
 impl CachedHistory {
-    /// The verdict, or the delta that the submission becomes at the time.
+    /// The verdict, or the delta that the submission becomes at the time. The error is want of memory, which is taken only once the
+    /// operations are looked at.
     pub fn decide(
         &mut self,
         alloc: Global,
@@ -32,6 +33,7 @@ impl CachedHistory {
         time: u64,
     ) -> Result<Decision, Memory>
         ensures decided { IfOk result (λ r. IsDecided self.old submission.now time r) }
+        ensures late { OnErr result (LooksAtOps (judged self.old submission.now time)) }
         ensures same { self.new ≡ self.old }
     {
         match test(self.history(), submission) {

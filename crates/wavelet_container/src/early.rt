@@ -106,8 +106,8 @@ fn standing(history: &History, author: &Address, ops: &Ops) -> Option<Role>
     }
 }
 
-// Whether the first operation adds the address.
-fn adds_first(ops: &Ops, address: &Address) -> bool
+/// Whether the first operation adds the address.
+pub(crate) fn adds_first(ops: &Ops, address: &Address) -> bool
     ensures { result ≡ adds_first (meanings ops.now) address.now }
 {
     match ops.as_slice().first() {

@@ -7,6 +7,7 @@ mod container;
 mod decision;
 mod early;
 mod fault;
+mod first;
 mod laws;
 mod load;
 mod passing;
@@ -15,5 +16,6 @@ mod stored;
 
 pub use container::Container;
 pub use fault::{LoadFault, SubmitFault};
+pub use first::first_verdict;
 pub use laws::stored_history_is_one;
 pub use load::LoadRefused;

@@ -3,7 +3,7 @@ ghost use Rattle.std.specs.Prelude.{◌≡◌, IfOk, OnErr};
 ghost use Rattle.wavelet_op.specs.declared.verdict.Verdict.TheVariants.{Ack};
 ghost use Rattle.delta_history.specs.Histories.{head_of, IsSameHistory};
 ghost use Rattle.delta_history.specs.Legal.{IsLegal};
-ghost use Rattle.wavelet_container.specs.Decisions.{IsNear};
+ghost use Rattle.wavelet_container.specs.Decisions.{IsNear, LooksAtOps, judged};
 ghost use Rattle.wavelet_container.specs.Stores.{IsAnswered};
 
 use crate::cached::CachedHistory;
@@ -23,6 +23,7 @@ impl CachedHistory {
     ) -> Result<Verdict, Memory>
         ensures ok { IfOk result (λ v. IsAnswered self.old self.new submission.now time v) }
         ensures err { OnErr result (IsSameHistory self.old self.new) }
+        ensures late { OnErr result (LooksAtOps (judged self.old submission.now time)) }
     {
         match self.decide(alloc, submission, time)? {
             Decision::Told(verdict) => Ok(verdict),

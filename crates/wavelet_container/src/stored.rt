@@ -8,7 +8,7 @@ ghost use Rattle.delta_history.specs.Histories.{head_of, IsSameHistory, IsGrown}
 ghost use Rattle.delta_history.specs.Legal.{IsLegal, IsNext, max_delta};
 ghost use Rattle.delta_history.specs.Pushes.{IsReady};
 ghost use Rattle.delta_journal.specs.Journal.{IsJournal, WhereHeld, on_disk, left_over, needs_repair};
-ghost use Rattle.wavelet_container.specs.Decisions.{judged, IsBase, IsNear, IsRefusal};
+ghost use Rattle.wavelet_container.specs.Decisions.{judged, IsBase, IsNear, IsRefusal, LooksAtOps};
 ghost use Rattle.wavelet_container.specs.Stores.{IsAnswered, IsMoved};
 
 use crate::SubmitFault;
@@ -97,6 +97,7 @@ fn store<K: Disk>(
     ensures moved { (added : Option DeltaOf) → (IsNext wavelet.old.name wavelet.old.deltas delta → added ≡ Some delta) → IsMoved wavelet.old wavelet.new journal.old journal.new added }
     ensures done { OnOk result (needs_repair journal.new ≡ false) }
     ensures unwritten { IsErrOf result AddFault.NotLegal → needs_repair journal.new ≡ false }
+    ensures untouched { IsErrOf result AddFault.Memory → needs_repair journal.new ≡ false }
     ensures failed { IsErrOf result AddFault.DiskFault → Rose (on_disk journal.old) (on_disk journal.new) }
 {
     match bytes_of(alloc, &delta)? {
@@ -123,6 +124,7 @@ fn store_as<K: Disk>(
     ensures moved { (added : Option DeltaOf) → (IsNext wavelet.old.name wavelet.old.deltas delta → added ≡ Some delta) → IsMoved wavelet.old wavelet.new journal.old journal.new added }
     ensures done { OnOk result (needs_repair journal.new ≡ false) }
     ensures unwritten { IsErrOf result AddFault.NotLegal → needs_repair journal.new ≡ false }
+    ensures untouched { IsErrOf result AddFault.Memory → needs_repair journal.new ≡ false }
     ensures failed { IsErrOf result AddFault.DiskFault → Rose (on_disk journal.old) (on_disk journal.new) }
 {
     let ready = prepared(alloc, wavelet, delta)?;
@@ -147,6 +149,7 @@ fn answer<K: Disk>(
     ensures same { OnErr result (IsSameHistory wavelet.old wavelet.new) }
     ensures moved { IsMoved wavelet.old wavelet.new journal.old journal.new (judged wavelet.old submission.now time).1 }
     ensures done { OnOk result (needs_repair journal.new ≡ false) }
+    ensures untouched { IsErrOf result SubmitFault.Memory → needs_repair journal.new ≡ false }
     ensures failed { IsErrOf result SubmitFault.DiskFault → Rose (on_disk journal.old) (on_disk journal.new) }
 {
     let at = version(&delta);
@@ -189,6 +192,8 @@ fn submit_repaired<K: Disk>(
     ensures same { OnErr result (IsSameHistory wavelet.old wavelet.new) }
     ensures moved { IsMoved wavelet.old wavelet.new journal.old journal.new (judged wavelet.old submission.now time).1 }
     ensures done { OnOk result (needs_repair journal.new ≡ false) }
+    ensures untouched { IsErrOf result SubmitFault.Memory → needs_repair journal.new ≡ false }
+    ensures late { IsErrOf result SubmitFault.Memory → LooksAtOps (judged wavelet.old submission.now time) }
     ensures failed { IsErrOf result SubmitFault.DiskFault → Rose (on_disk journal.old) (on_disk journal.new) }
 {
     match wavelet.decide(alloc, submission, time) {
@@ -213,6 +218,8 @@ pub(crate) fn submit_stored<K: Disk>(
     ensures same { OnErr result (IsSameHistory wavelet.old wavelet.new) }
     ensures moved { IsMoved wavelet.old wavelet.new journal.old journal.new (judged wavelet.old submission.now time).1 }
     ensures done { OnOk result (needs_repair journal.new ≡ false) }
+    ensures untouched { IsErrOf result SubmitFault.Memory → needs_repair journal.new ≡ false }
+    ensures late { IsErrOf result SubmitFault.Memory → LooksAtOps (judged wavelet.old submission.now time) }
     ensures failed { IsErrOf result SubmitFault.DiskFault → Rose (on_disk journal.old) (on_disk journal.new) }
 {
     match journal.repair() {

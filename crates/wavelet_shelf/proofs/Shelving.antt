@@ -3,6 +3,8 @@
 --     after_first         the name's first container did, and came to the others
 --     after_nothing       nothing was accepted where the name isn't there
 --     after_fault         nothing was answered, and the folder may have failed
+--     looks_here          in the empty history the operations decide, and so at a shelf without the name
+--     after_first_tests   there the verdict was given before they were looked at
 --     apart_after         where no name has the file of the new one, no two names have one file
 use Rattle.std.proofs.Common.{◌≡◌, ◌≢◌, ◌==◌, ⊎_elim, ℕ, ◌+◌, ◌-◌, ◌^◌, ◌≤◌, min, Bool, true, false, List, [], ◌∷◌, ◌++◌, length, insert, Option, Some, None, Ok, Err, IsSome, IfSome, is_some, IfOk, Result, string_bytes, refl, sym, ap, subst, ◌∙◌, arith, le_refl, append-nil, true≢false}
 use Rattle.std.specs.Result.{IsErrOf, IsOk}
@@ -26,7 +28,7 @@ use Rattle.disk_model.specs.declared.disk.Disk as disk_of
 use Rattle.wave_outside.specs.Counts.{Rose}
 use Rattle.wave_outside.specs.declared.folder.Folder as folder_of
 use Rattle.wavelet_container.specs.Containers.{history_of, journal_of, IsHeld}
-use Rattle.wavelet_container.specs.Decisions.{judged}
+use Rattle.wavelet_container.specs.Decisions.{judged, LooksAtOps}
 use Rattle.wavelet_container.specs.Stores.{IsGrownBy}
 use Rattle.wavelet_container.specs.declared.container.Container.{Container}
 use Rattle.wavelet_container.specs.declared.fault.SubmitFault.{SubmitFault}
@@ -168,6 +170,8 @@ module _ {F D : Type 0} {folder : folder_of.Ghosts F D} {disk : disk_of.Ghosts D
         settled = on_ok_weaker r
             (λ safe k settled. subst AreSafe (sym x.is) (all_set deltas_of (λ e. IsSafe e.1.container) es n x.new settled (safe (all_found deltas_of (λ e. IsHeld e.1.container) es n x.old k.held x.was))))
             x.taken.safe;
+        late = λ e. subst LooksAtOps judges (x.taken.late e);
+        untouched = λ e k settled. subst AreSafe (sym x.is) (all_set deltas_of (λ e. IsSafe e.1.container) es n x.new settled (x.taken.untouched e (all_found deltas_of (λ e. IsHeld e.1.container) es n x.old k.held x.was)));
         later = sum_later (folder_faults folder.faults (in_folder a)) (folder_faults folder.faults (in_folder b)) (faults_of c) (faults_of x.new.container) (faults_in es) (faults_in (entries_of b)) (2 ^ 64 - 1) sums x.taken.later (subst (λ o. folder_faults folder.faults (in_folder a) ≤ folder_faults folder.faults o) (sym same) (le_refl _));
         failed = λ e. subst (λ o. Rose (fault_count a) (min (folder_faults folder.faults o + faults_in (entries_of b)) (2 ^ 64 - 1))) (sym same)
             (sum_rose (folder_faults folder.faults (in_folder a)) (faults_of c) (faults_of x.new.container) (faults_in es) (faults_in (entries_of b)) (2 ^ 64 - 1) sums (subst (λ m. faults_of c ≤ m) (sym (faults_total es)) (sum_has count_of es n x.old x.was)) (x.taken.failed e));
@@ -212,14 +216,16 @@ module _ {F D : Type 0} {folder : folder_of.Ghosts F D} {disk : disk_of.Ghosts D
         settled = on_ok_weaker r
             (λ safe k settled. subst AreSafe (sym put.is) (all_put deltas_of (λ e. IsSafe e.1.container) es put.at (n, filed) inside settled (safe (first.held k))))
             taken.safe;
+        late = λ e. subst LooksAtOps judges (taken.late e);
+        untouched = λ e k settled. subst AreSafe (sym put.is) (all_put deltas_of (λ e. IsSafe e.1.container) es put.at (n, filed) inside settled (taken.untouched e (first.held k)));
         later = first_later (folder_faults folder.faults (in_folder a)) (folder_faults folder.faults (in_folder b)) (faults_of filed.container) (faults_in es) (faults_in (entries_of b)) (2 ^ 64 - 1) sums counts;
         failed = λ e. first_rose (folder_faults folder.faults (in_folder a)) (folder_faults folder.faults (in_folder b)) (faults_of c) (faults_of filed.container) (faults_in es) (faults_in (entries_of b)) (2 ^ 64 - 1) sums counts first.unfailed (taken.failed e);
         disk_there = there;
         used = same;
       }
 
-  pub after_fault : (e : SubmitFault) → entries_of b ≡ entries_of a → (e ≡ DiskFault → IsSome (in_folder a)) → IsUsedIn folder (λ m. m ≡ file_name_of n) (in_folder a) (in_folder b) → folder_faults folder.faults (in_folder a) ≤ folder_faults folder.faults (in_folder b) → (e ≡ DiskFault → Rose (folder_faults folder.faults (in_folder a)) (folder_faults folder.faults (in_folder b))) → IsHosted n s t a b (Err e)
-  after_fault e is there same counts rose = record {
+  pub after_fault : (e : SubmitFault) → LooksAtOps (judged_in (hosted_of a) n s t) → entries_of b ≡ entries_of a → (e ≡ DiskFault → IsSome (in_folder a)) → IsUsedIn folder (λ m. m ≡ file_name_of n) (in_folder a) (in_folder b) → folder_faults folder.faults (in_folder a) ≤ folder_faults folder.faults (in_folder b) → (e ≡ DiskFault → Rose (folder_faults folder.faults (in_folder a)) (folder_faults folder.faults (in_folder b))) → IsHosted n s t a b (Err e)
+  after_fault e looks is there same counts rose = record {
     verdict = tt;
     grown = tt;
     same = ap hosting is;
@@ -227,6 +233,8 @@ module _ {F D : Type 0} {folder : folder_of.Ghosts F D} {disk : disk_of.Ghosts D
     kept = λ k. record { told = k.told; filed = (used_there folder (λ m. m ≡ file_name_of n) (in_folder a) (in_folder b) same).0 k.filed; held = subst AreHeld (sym is) k.held };
     safe = tt;
     settled = tt;
+    late = λ r. looks;
+    untouched = λ r k settled. subst AreSafe (sym is) settled;
     later = same_later (folder_faults folder.faults (in_folder a)) (folder_faults folder.faults (in_folder b)) (faults_in (entries_of a)) (faults_in (entries_of b)) (2 ^ 64 - 1) (ap faults_in is) counts;
     failed = λ r. same_rose (folder_faults folder.faults (in_folder a)) (folder_faults folder.faults (in_folder b)) (faults_in (entries_of a)) (faults_in (entries_of b)) (2 ^ 64 - 1) (ap faults_in is) (rose (same_Err r));
     disk_there = λ r. there (same_Err r);
@@ -270,6 +278,35 @@ module _ {F D : Type 0} {folder : folder_of.Ghosts F D} {disk : disk_of.Ghosts D
         kept = λ k. k;
         safe = λ k. subst (λ o. IfSome o IsSafe) (sym (ap (λ o. option_map (λ (f : Filed D disk). f.container) o) absent)) tt;
         settled = λ k settled. settled;
+        late = λ r. absurd (ok_err r);
+        untouched = λ r. absurd (ok_err r);
+        later = le_refl _;
+        failed = λ r. absurd (ok_err r);
+        disk_there = λ r. absurd (ok_err r);
+        used = used_as folder (λ m. m ≡ file_name_of n) (in_folder a);
+      }
+
+  nowhere : AreInOrder (entries_of a) → lookup (same_text n) (entries_of a) ≡ None → judge n [] s t ≡ judged_in (hosted_of a) n s t
+  nowhere order absent = ap (λ ds. judge n ds s t) (sym (deltas_hosting deltas_of (entries_of a) n order.0 ∙ ap (λ o. option_map_or deltas_of o []) absent))
+
+  -- what decides in the empty history does so at the shelf, where the name isn't there
+  pub looks_here : AreInOrder (entries_of a) → lookup (same_text n) (entries_of a) ≡ None → LooksAtOps (judge n [] s t) → LooksAtOps (judged_in (hosted_of a) n s t)
+  looks_here order absent looks = subst LooksAtOps (nowhere order absent) looks
+
+  -- the verdict was given before the operations were looked at
+  pub after_first_tests : (v : Verdict) → AreInOrder (entries_of a) → lookup (same_text n) (entries_of a) ≡ None → judge n [] s t ≡ (v, None) → IsHosted n s t a a (Ok v)
+  after_first_tests v order absent told =
+      let is : (v, None) ≡ judged_in (hosted_of a) n s t = sym told ∙ nowhere order absent in
+      record {
+        verdict = ap (λ (j : Judged). j.0) is;
+        grown = ap (λ (j : Judged). with_added (hosted_of a) n j.1) is;
+        same = tt;
+        others = λ m other. refl;
+        kept = λ k. k;
+        safe = λ k. subst (λ o. IfSome o IsSafe) (sym (ap (λ o. option_map (λ (f : Filed D disk). f.container) o) absent)) tt;
+        settled = λ k settled. settled;
+        late = λ r. absurd (ok_err r);
+        untouched = λ r. absurd (ok_err r);
         later = le_refl _;
         failed = λ r. absurd (ok_err r);
         disk_there = λ r. absurd (ok_err r);

@@ -15,11 +15,11 @@ use Rattle.disk_model.specs.declared.disk.Disk as disk_of
 use Rattle.wave_outside.specs.Counts.{Rose}
 use Rattle.wave_outside.specs.declared.folder.Folder as folder_of
 use Rattle.wavelet_container.specs.Containers.{history_of, journal_of, IsHeld}
-use Rattle.wavelet_container.specs.Decisions.{judged}
+use Rattle.wavelet_container.specs.Decisions.{judged, LooksAtOps}
 use Rattle.wavelet_container.specs.Stores.{IsGrownBy}
 use Rattle.wavelet_container.specs.declared.container.Container.{Container}
 use Rattle.wavelet_container.specs.declared.fault.SubmitFault.{SubmitFault}
-use Rattle.wavelet_container.specs.declared.fault.SubmitFault.TheVariants.{DiskFault}
+use Rattle.wavelet_container.specs.declared.fault.SubmitFault.TheVariants.{DiskFault, Memory}
 use Rattle.wavelet_shelf.specs.Entries.{faults_of, IsSafe}
 use Rattle.wavelet_shelf.specs.FileNames.{file_name_of}
 use Rattle.wavelet_shelf.specs.Folders.{IsUsedIn}
@@ -35,6 +35,8 @@ module _ {K : Type 0} {disk : disk_of.Ghosts K} where
     pub same : OnErr r (IsSameHistory (history_of c) (history_of after))
     pub held : IsHeld c → IsHeld after
     pub safe : OnOk r (IsHeld c → IsSafe after)
+    pub late : IsErrOf r Memory → LooksAtOps (judged (history_of c) s t)
+    pub untouched : IsErrOf r Memory → IsHeld c → IsSafe after
     pub later : faults_of c ≤ faults_of after
     pub failed : IsErrOf r DiskFault → Rose (faults_of c) (faults_of after)
     pub filed : IsErrOf r DiskFault → IsSome (journal_of c)
@@ -72,6 +74,8 @@ module _ {F D : Type 0} {folder : folder_of.Ghosts F D} {disk : disk_of.Ghosts D
     pub kept : IsKept a → IsKept b
     pub safe : OnOk r (IsKept a → IfSome (container_in b n) IsSafe)
     pub settled : OnOk r (IsKept a → IsSettled a → IsSettled b)
+    pub late : IsErrOf r Memory → LooksAtOps (judged_in (hosted_of a) n s t)
+    pub untouched : IsErrOf r Memory → IsKept a → IsSettled a → IsSettled b
     pub later : fault_count a ≤ fault_count b
     pub failed : IsErrOf r DiskFault → Rose (fault_count a) (fault_count b)
     pub disk_there : IsErrOf r DiskFault → IsSome (in_folder a)

@@ -6,6 +6,7 @@ ghost use Rattle.doc_items.specs.Maps.{Key};
 ghost use Rattle.indexmap.specs.IndexMap.{spare};
 ghost use Rattle.wave_outside.specs.Counts.{Rose};
 ghost use Rattle.wavelet_container.specs.Containers.{history_of, journal_of};
+ghost use Rattle.wavelet_container.specs.Decisions.{LooksAtOps};
 ghost use Rattle.wavelet_shelf.specs.Entries.{IsSafe};
 ghost use Rattle.wavelet_shelf.specs.FileNames.{file_name_of};
 ghost use Rattle.wavelet_shelf.specs.Folders.{IsUsed, IsUsedIn};
@@ -22,14 +23,14 @@ use doc_items::Memory;
 use std::alloc::Global;
 use wave_base::WaveletName;
 use wave_outside::{Folder, FolderFault};
-use wavelet_container::{Container, SubmitFault};
+use wavelet_container::{Container, SubmitFault, first_verdict};
 use wavelet_op::{Submission, Verdict};
 
 impl<F: Folder + Drop> Shelf<F> {
     /// The verdict on a submission to the wavelet of this name at the time, in milliseconds; a name that isn't there counts as an
     /// empty history. The history of the name grows by just the delta that is accepted, and that of every other name stays as it
     /// is. Over a folder the delta is in the wavelet's file before the history has it. `DiskFault` where the folder or the disk
-    /// failed.
+    /// failed. No memory is taken before the operations are looked at, and after `Memory` nothing new is left for a crash to add.
     pub fn submit(
         &mut self,
         alloc: Global,
@@ -45,6 +46,8 @@ impl<F: Folder + Drop> Shelf<F> {
         ensures kept { IsKept self.old → IsKept self.new }
         ensures stored { OnOk result (IsKept self.old → IfSome (container_in self.new name.now) IsSafe) }
         ensures settled { OnOk result (IsKept self.old → IsSettled self.old → IsSettled self.new) }
+        ensures untouched { IsErrOf result SubmitFault.Memory → IsKept self.old → IsSettled self.old → IsSettled self.new }
+        ensures late { IsErrOf result SubmitFault.Memory → LooksAtOps (judged_in (hosted_of self.old) name.now submission.now time) }
         ensures apart { AreApart self.old → ((m : Key) → IsSome (container_in self.old m) → file_name_of m ≡ file_name_of name.now → m ≡ name.now) → AreApart self.new }
 
         ensures folder { IsUsedIn F.Folder (λ m. m ≡ file_name_of name.now) (in_folder self.old) (in_folder self.new) }
@@ -83,6 +86,24 @@ impl<F: Folder + Drop> Shelf<F> {
         requires absent { is_some (lookup (pointwise ◌==◌ name.now) (entries_of self.old)) ≡ false }
         ensures { IsHosted name.now submission.now time self.old self.new result }
     {
+        match first_verdict(name, submission) {
+            Some(verdict) => Ok(verdict),
+            None => self.submit_new(alloc, name, submission, time),
+        }
+    }
+
+    // So it is, where the operations decide.
+    fn submit_new(
+        &mut self,
+        alloc: Global,
+        name: &WaveletName,
+        submission: &Submission,
+        time: u64,
+    ) -> Result<Verdict, SubmitFault>
+        requires absent { is_some (lookup (pointwise ◌==◌ name.now) (entries_of self.old)) ≡ false }
+        requires late { LooksAtOps (judged_in (hosted_of self.old) name.now submission.now time) }
+        ensures { IsHosted name.now submission.now time self.old self.new result }
+    {
         let mut plain = empty(alloc, name)?;
         match taken(alloc, &mut plain, submission, time) {
             Ok(verdict) => self.host(alloc, name, submission, time, plain, verdict),
@@ -102,6 +123,7 @@ impl<F: Folder + Drop> Shelf<F> {
     ) -> Result<Verdict, SubmitFault>
         requires absent { is_some (lookup (pointwise ◌==◌ name.now) (entries_of self.old)) ≡ false }
         requires taken { IsTakenFirst name.now submission.now time plain verdict }
+        requires late { LooksAtOps (judged_in (hosted_of self.old) name.now submission.now time) }
         ensures { IsHosted name.now submission.now time self.old self.new result }
     {
         if plain.history().deltas().is_empty() {
@@ -126,6 +148,7 @@ impl<F: Folder + Drop> Shelf<F> {
         requires absent { is_some (lookup (pointwise ◌==◌ name.now) (entries_of self.old)) ≡ false }
         requires plain { in_folder self.old ≡ None }
         requires taken { IsTakenFirst name.now submission.now time plain verdict }
+        requires late { LooksAtOps (judged_in (hosted_of self.old) name.now submission.now time) }
         ensures { IsHosted name.now submission.now time self.old self.new result }
     {
         let (key, file) = self.place(alloc, name)?;
@@ -149,6 +172,7 @@ impl<F: Folder + Drop> Shelf<F> {
     ) -> Result<Verdict, SubmitFault>
         requires absent { is_some (lookup (pointwise ◌==◌ name.now) (entries_of self.old)) ≡ false }
         requires filed { IsSome (in_folder self.old) }
+        requires late { LooksAtOps (judged_in (hosted_of self.old) name.now submission.now time) }
         ensures { IsHosted name.now submission.now time self.old self.new result }
     {
         let (key, file) = self.place(alloc, name)?;

@@ -17,4 +17,4 @@ pub returns-clause-err : goal.returns-clause-err
 returns-clause-err g c =
     let some : 0 < length c.args.line.now = let none = eqb-false (length c.args.line.now) 0 (sym c.if-is_empty.ensures) in omega arith in
     let same : take c.min-count.result c.args.line.now ∷ [] ≡ given (c.args.line.now ∷ []) = given-front c.min-count.result c.args.line.now some c.min-count.ensures in
-    line_tried g.M.LineMachine c.turn.result c.args.machine.now c.turn.new.self c.now-time.result c.min-count.result c.args.line.now same c.turn.ensures.since
+    line_tried g.M.LineMachine c.turn.result c.args.machine.now c.turn.new.self c.now-time.result c.min-count.result c.args.line.now same c.turn.ensures.since c.turn.ensures.tried
