@@ -7,4 +7,5 @@ pub mod Turning
 pub mod Holding
 pub mod Seating
 pub mod Delivering
+pub mod Trying
 mod Serving

@@ -6,20 +6,27 @@
 --     submitted_in ts n   one of the turns is one
 --     IsFileAmong may m   this is the file of a name of which this holds
 --     IsMoved may a b     the shelf before and behind a step that may submit to the names of which this holds
---     IsEnded a b r       that no repair waits behind it, or why it failed
-use Rattle.std.specs.Prelude.{◌≡◌, ◌≤◌, ℕ, List, ◌++◌, Bool, true, false, Result, Ok, Err, IsSome, OnOk, IsErrOf}
+--     IsFileOfEither n ds es c    as it reads, and in each image, the container's file stands for the one history or the other
+--     IsTriedTo a b hs    a step was tried that leads to these histories: there are those of before, or these, and so it is with each file
+--     IsEnded a b hs r    no repair waits after it; or why it failed, and that it was tried
+use Rattle.std.specs.Prelude.{◌≡◌, ◌⊎◌, ◌≤◌, ℕ, List, ◌++◌, Bool, true, false, Result, Ok, Err, IsSome, IfSome, OnOk, OnErr, IsErrOf}
 use Rattle.std.specs.List.{list_any}
 use Rattle.doc_items.specs.Maps.{Key, same_text}
 use Rattle.wavelet_op.specs.Deltas.{DeltaOf}
+use Rattle.disk_model.specs.Disk.{Kept}
 use Rattle.disk_model.specs.declared.disk.Disk as disk_of
 use Rattle.message_json.specs.declared.message.Message.{Message}
 use Rattle.message_json.specs.declared.message.Message.TheVariants.{Hello, OpenWavelet, Submit, CloseWavelet, Welcome, Opened, Snapshot, Unopened, Ack, Refused, Queued, Update, Closed, Bad, Peer, Have, Relay, Applied, Relayed, Dropped}
 use Rattle.wave_messages.specs.Read as reading
 use Rattle.wave_outside.specs.Counts.{Rose}
 use Rattle.wave_outside.specs.declared.folder.Folder as folder_of
+use Rattle.delta_journal.specs.Journal.{on_disk}
+use Rattle.wavelet_container.specs.Containers.{journal_of}
+use Rattle.wavelet_container.specs.Records.{StandsForHistory}
+use Rattle.wavelet_container.specs.declared.container.Container.{Container}
 use Rattle.wavelet_shelf.specs.FileNames.{file_name_of}
 use Rattle.wavelet_shelf.specs.Folders.{IsUsedIn}
-use Rattle.wavelet_shelf.specs.Hosting.{deltas_in}
+use Rattle.wavelet_shelf.specs.Hosting.{Hosted, deltas_in}
 use Rattle.wavelet_shelf.specs.Shelves.{hosted_of, in_folder, container_in, fault_count, IsKept, IsSettled}
 use Rattle.wavelet_shelf.specs.declared.shelf.Shelf.{Shelf}
 use Rattle.session_core.specs.declared.request.Request.{Request}
@@ -80,7 +87,15 @@ module _ {F D : Type 0} {folder : folder_of.Ghosts F D} {disk : disk_of.Ghosts D
     pub used : IsUsedIn folder (IsFileAmong may) (in_folder a) (in_folder b)
     pub later : fault_count a ≤ fault_count b
 
-  pub record IsEnded {A : Type 0} (a b : Shelf F D folder disk) (r : Result A TurnFault) : Type 0 where
+  abbrev pub IsFileOfEither : Key → List DeltaOf → List DeltaOf → Container D disk → Type 0
+  IsFileOfEither n ds es c = IfSome (journal_of c) (λ j. Kept (on_disk j) (λ bytes. StandsForHistory n ds bytes ⊎ StandsForHistory n es bytes))
+
+  pub record IsTriedTo (a b : Shelf F D folder disk) (after : List Hosted) : Type 0 where
+    pub hosted : (hosted_of b ≡ hosted_of a) ⊎ (hosted_of b ≡ after)
+    pub files : IsKept a → IsSettled a → (n : Key) → IfSome (container_in b n) (IsFileOfEither n (deltas_in (hosted_of a) n) (deltas_in after n))
+
+  pub record IsEnded {A : Type 0} (a b : Shelf F D folder disk) (after : List Hosted) (r : Result A TurnFault) : Type 0 where
     pub settled : OnOk r (IsKept a → IsSettled a → IsSettled b)
     pub failed : IsErrOf r Store → Rose (fault_count a) (fault_count b)
     pub store : IsErrOf r Store → IsSome (in_folder a)
+    pub tried : OnErr r (IsTriedTo a b after)

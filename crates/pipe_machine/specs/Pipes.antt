@@ -3,6 +3,7 @@
 --     store_faults s      how often its folder and its disks have failed: never where it has no folder
 --     IsReached a ts b    the second has answered these turns since it was the first
 --     IsSince a ts b      what stays so of the shelf, whatever became of these turns
+--     IsTried a t b       this turn failed in between: there are the histories of before, or those after it, and so it is with each file
 --     IsCalm m            over a folder whose disks tell their bytes: each history stands in its file, and no repair waits
 use Rattle.std.specs.Prelude.{◌≡◌, ℕ, List, Option, Some, None}
 use Rattle.disk_model.specs.declared.disk.Disk as disk_of
@@ -11,8 +12,8 @@ use Rattle.wavelet_shelf.specs.Shelves.{hosted_of, in_folder, fault_count, IsKep
 use Rattle.wavelet_shelf.specs.declared.shelf.Shelf.{Shelf}
 use Rattle.line_loop.specs.Turns.{Turn}
 use Rattle.pipe_machine.specs.declared.pipe.PipeMachine.{PipeMachine}
-use Rattle.pipe_machine.specs.Keeping.{submitted_in, IsMoved}
-use Rattle.pipe_machine.specs.Machine.{Pipe, after}
+use Rattle.pipe_machine.specs.Keeping.{submitted_in, IsMoved, IsTriedTo}
+use Rattle.pipe_machine.specs.Machine.{Pipe, turn, after}
 
 abbrev pub faults_where : {F : Type 0} → Option F → ℕ → ℕ
 faults_where None count = 0
@@ -30,6 +31,9 @@ module _ {F D : Type 0} {folder : folder_of.Ghosts F D} {disk : disk_of.Ghosts D
 
   abbrev pub IsSince : PipeMachine F D folder disk → List Turn → PipeMachine F D folder disk → Type 0
   IsSince a ts b = IsMoved (submitted_in ts) a.shelf b.shelf
+
+  abbrev pub IsTried : PipeMachine F D folder disk → Turn → PipeMachine F D folder disk → Type 0
+  IsTried a t b = IsTriedTo a.shelf b.shelf (turn (pipe_of a) t.time t.line).pipe.hosted
 
   abbrev pub IsCalm : PipeMachine F D folder disk → Type 0
   IsCalm m = IsKept m.shelf × IsSettled m.shelf

@@ -61,7 +61,7 @@ impl<F: Folder + Drop> PipeMachine<F> {
         ensures pipe { OnOk result (pipe_of self.new ≡ (served (pipe_of self.old) time name message).pipe) }
         ensures sent { OnOk result (out.new.items ≡ out.old.items ++ lines_of (served (pipe_of self.old) time name message).sent) }
         ensures moved { IsMoved (submits message) self.old.shelf self.new.shelf }
-        ensures ended { IsEnded self.old.shelf self.new.shelf result }
+        ensures ended { IsEnded self.old.shelf self.new.shelf (served (pipe_of self.old) time name message).pipe.hosted result }
     {
         let place = seat_of(alloc, &mut self.seats, name)?;
         let seat = &mut self.seats[place];
@@ -81,7 +81,7 @@ impl<F: Folder + Drop> PipeMachine<F> {
         ensures pipe { OnOk result (pipe_of self.new ≡ (answered (pipe_of self.old) time line.now).pipe) }
         ensures sent { OnOk result (out.new.items ≡ out.old.items ++ lines_of (answered (pipe_of self.old) time line.now).sent) }
         ensures moved { IsMoved (submits_to line.now) self.old.shelf self.new.shelf }
-        ensures ended { IsEnded self.old.shelf self.new.shelf result }
+        ensures ended { IsEnded self.old.shelf self.new.shelf (answered (pipe_of self.old) time line.now).pipe.hosted result }
     {
         match read_line(alloc, line) {
             Ok(line) => {
@@ -106,7 +106,7 @@ impl<F: Folder + Drop> PipeMachine<F> {
         ensures pipe { OnOk result (pipe_of self.new ≡ (turn (pipe_of self.old) time line.now).pipe) }
         ensures sent { OnOk result (out.new.items ≡ out.old.items ++ lines_of (turn (pipe_of self.old) time line.now).sent) }
         ensures moved { IsMoved (submits_to line.now) self.old.shelf self.new.shelf }
-        ensures ended { IsEnded self.old.shelf self.new.shelf result }
+        ensures ended { IsEnded self.old.shelf self.new.shelf (turn (pipe_of self.old) time line.now).pipe.hosted result }
     {
         self.answer(alloc, line, time, out)?;
         deliver(alloc, &self.shelf, &mut self.seats, out)?;
@@ -117,7 +117,7 @@ impl<F: Folder + Drop> PipeMachine<F> {
 impl<F: Folder + Drop> LineMachine for PipeMachine<F> {
     ghost use Rattle.pipe_machine.specs.Lines.{lines_of};
     ghost use Rattle.pipe_machine.specs.Machine.{sent};
-    ghost use Rattle.pipe_machine.specs.Pipes.{pipe_of, store_faults, IsReached, IsSince, IsCalm};
+    ghost use Rattle.pipe_machine.specs.Pipes.{pipe_of, store_faults, IsReached, IsSince, IsTried, IsCalm};
     ghost use Rattle.pipe_machine.specs.Laws.{unmoved};
     ghost use Rattle.std.specs.Prelude.{refl};
 
@@ -126,6 +126,8 @@ impl<F: Folder + Drop> LineMachine for PipeMachine<F> {
     ghost reached = { λ a ts b. IsReached a ts b };
 
     ghost since = { λ a ts b. IsSince a ts b };
+
+    ghost tried = { λ a t b. IsTried a t b };
 
     ghost calm = { λ m. IsCalm m };
 
@@ -136,6 +138,10 @@ impl<F: Folder + Drop> LineMachine for PipeMachine<F> {
     ghost at_start = { λ m. refl };
 
     ghost unmoved = { λ m. unmoved m };
+
+    fn may_fail(&self) -> bool {
+        self.shelf.is_stored()
+    }
 
     #[tactic(auto, using(crate::proofs::Turning::after_more, crate::proofs::Turning::faults_later, crate::proofs::Turning::faults_rose))]
     fn turn(

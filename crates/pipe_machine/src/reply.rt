@@ -51,7 +51,7 @@ fn submit<F: Folder + Drop>(
     ensures reply { IfOk result (λ m. (session.new, m) ≡ answered session.old name.now submission.now.id (answer.Verdict (judged_in (hosted_of shelf.old) name.now submission.now time).0)) }
     ensures same { OnErr result (session.new ≡ session.old) }
     ensures moved { IsMoved (same_text name.now) shelf.old shelf.new }
-    ensures ended { IsEnded shelf.old shelf.new result }
+    ensures ended { IsEnded shelf.old shelf.new (after_submission (hosted_of shelf.old) name.now submission.now time) result }
 {
     shelf.copies_are_hosted();
     match shelf.submit(alloc, name, submission, time) {
@@ -76,7 +76,7 @@ fn answer<F: Folder + Drop>(
     ensures reply { IfOk result (λ m. reply_of (hosted_of shelf.new) (session.new, m) ≡ asked (hosted_of shelf.old) time session.old request) }
     ensures same { OnErr result (session.new ≡ session.old) }
     ensures moved { IsMoved (asks_for request) shelf.old shelf.new }
-    ensures ended { IsEnded shelf.old shelf.new result }
+    ensures ended { IsEnded shelf.old shelf.new (asked (hosted_of shelf.old) time session.old request).hosted result }
 {
     match request {
         Request::Reply(message) => Ok(message),
@@ -101,7 +101,7 @@ pub fn reply<F: Folder + Drop>(
     ensures plain { IsPlain session.new }
     ensures short { IfOk result IsShort }
     ensures moved { IsMoved (submits message) shelf.old shelf.new }
-    ensures ended { IsEnded shelf.old shelf.new result }
+    ensures ended { IsEnded shelf.old shelf.new (replied (hosted_of shelf.old) session.old message time).hosted result }
 {
     let request = session.take(alloc, message)?;
     answer(alloc, shelf, session, request, time)

@@ -1,4 +1,4 @@
-// A machine that writes each line again, behind the time.
+// A machine that writes each line again, after the time.
 ghost use Rattle.std.specs.Prelude.{◌≡◌, ◌++◌, OnOk};
 ghost use Rattle.line_loop.specs.Turns.{turn_at};
 ghost use Rattle.test_lines.specs.Echoes.{echo};
@@ -23,9 +23,15 @@ impl LineMachine for Echo {
 
     ghost since = { λ _ _ _. ⊤ };
 
+    ghost tried = { λ _ _ _. ⊤ };
+
     ghost calm = { λ _. ⊤ };
 
     ghost faults = { λ m. m.faults };
+
+    fn may_fail(&self) -> bool {
+        true
+    }
 
     fn turn(
         &mut self,

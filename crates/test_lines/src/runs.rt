@@ -1,4 +1,4 @@
-// Runs of the loop over objects in memory, by a clock that reads 0, 1, 2 and so on. An echo is a line behind its time.
+// Runs of the loop over objects in memory, by a clock that reads 0, 1, 2 and so on. An echo is a line after its time.
 use crate::echo::Echo;
 use line_loop::{Stop, run_lines};
 use std::alloc::{AllocError, Global};
@@ -63,6 +63,24 @@ fn each_end_has_its_status(rt: HostRuntime) -> Result<(), Fail> {
     ];
     for (lines, reads, writes, status, expected) in rows {
         let ends = run(alloc, b"a\nb", lines, reads, writes)?;
+        assert_eq!(rt; ends.status, status);
+        assert_eq!(rt; ends.written.bytes(), expected);
+    }
+    Ok(())
+}
+
+// Three lines in one read: each answer is written before the next line is taken.
+#[test]
+fn answers_are_written_before_a_turn_that_fails(rt: HostRuntime) -> Result<(), Fail> {
+    let alloc = rt.alloc();
+    let rows: [(u64, &[u64], Result<(), Stop>, &[u8]); 4] = [
+        (2, &[], Err(Stop::Store), b"0a\n1b\n"),
+        (1, &[], Err(Stop::Store), b"0a\n"),
+        (9, &[1], Err(Stop::Sink), b"0a\n"),
+        (9, &[2], Err(Stop::Sink), b"0a\n1b\n"),
+    ];
+    for (lines, writes, status, expected) in rows {
+        let ends = run(alloc, b"a\nb\nc\n", lines, &[], writes)?;
         assert_eq!(rt; ends.status, status);
         assert_eq!(rt; ends.written.bytes(), expected);
     }

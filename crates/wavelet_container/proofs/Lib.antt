@@ -2,7 +2,7 @@ pub mod Sizes
 pub mod Within
 pub mod Ways
 pub mod Bases
-pub mod Early
+pub mod Looks
 pub mod Judging
 pub mod Journals
 pub mod Outcomes

@@ -5,6 +5,7 @@
 --                               over is that of a delta that may come next
 --     StandsForOneMore n ds P f     the file stands for this history, or for it and a delta more that has P
 --     MayFollow left a d        the delta was left over, or it is the one that is accepted
+--     IsWithin n ds P j         as it reads, and in each image, the file stands for this history, or for it and a delta more that has P
 --     IsMoved g h i j a         what a call may do to a history and its journal
 --     IsLeftOver before a left  what is left over is what was before, or the accepted delta, or nothing
 use Rattle.std.specs.Prelude.{◌≡◌, ◌⊎◌, ◌≤◌, ℕ, List, [], ◌∷◌, ◌++◌, Option, Some, None}
@@ -15,7 +16,7 @@ use Rattle.wavelet_op.specs.declared.verdict.Verdict.{Verdict}
 use Rattle.wavelet_codec.specs.Spelling.{delta_bytes, IsDelta}
 use Rattle.delta_history.specs.Histories.{HistoryOf, IsSameHistory, IsGrown}
 use Rattle.delta_history.specs.Legal.{IsNext, IsLegal}
-use Rattle.disk_model.specs.Disk.{LeavesOnly}
+use Rattle.disk_model.specs.Disk.{LeavesOnly, Kept}
 use Rattle.disk_model.specs.declared.disk.Disk.{Ghosts}
 use Rattle.delta_journal.specs.Journal.{IsJournal, on_disk, left_over}
 use Rattle.delta_journal.specs.declared.journal.Journal.{Journal}
@@ -42,6 +43,9 @@ pub record IsStored {K : Type 0} {disk : Ghosts K} (h : HistoryOf) (j : Journal 
 abbrev pub StandsForOneMore : List ℕ → List DeltaOf → (DeltaOf → Type 0) → List ℕ → Type 0
 StandsForOneMore name ds P file = StandsForHistory name ds file ⊎ ((d : DeltaOf) × P d × StandsForHistory name (ds ++ d ∷ []) file)
 
+abbrev pub IsWithin : {K : Type 0} {disk : Ghosts K} → List ℕ → List DeltaOf → (DeltaOf → Type 0) → Journal K disk → Type 0
+IsWithin name ds P j = Kept (on_disk j) (StandsForOneMore name ds P)
+
 abbrev pub MayFollow : List (List ℕ) → Option DeltaOf → DeltaOf → Type 0
 MayFollow left added d = (left ≡ delta_bytes d ∷ []) ⊎ (added ≡ Some d)
 
@@ -53,4 +57,5 @@ pub record IsMoved {K : Type 0} {disk : Ghosts K} (g h : HistoryOf) (i j : Journ
   pub stored : IsStored g i → IsStored h j
   pub moments : IsStored g i → LeavesOnly (on_disk i) (on_disk j) (StandsForOneMore g.name g.deltas (MayFollow (left_over i) added))
   pub left : IsLeftOver (left_over i) added (left_over j)
+  pub within : IsStored g i → left_over i ≡ [] → IsWithin g.name g.deltas (λ d. added ≡ Some d) j
   pub later : (on_disk i).faults ≤ (on_disk j).faults

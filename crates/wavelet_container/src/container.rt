@@ -6,7 +6,7 @@ ghost use Rattle.delta_history.specs.Histories.{IsSameHistory};
 ghost use Rattle.delta_journal.specs.Journal.{disk_of, on_disk, left_over, needs_repair, EachImage};
 ghost use Rattle.wavelet_container.specs.Decisions.{judged, LooksAtOps};
 ghost use Rattle.wavelet_container.specs.Records.{StandsForHistory};
-ghost use Rattle.wavelet_container.specs.Stores.{IsGrownBy, IsStored, IsLeftOver};
+ghost use Rattle.wavelet_container.specs.Stores.{IsGrownBy, IsStored, IsLeftOver, IsWithin};
 ghost use Rattle.wavelet_container.specs.Containers.{history_of, journal_of, OfBoth, Moments, IsHeld};
 
 use crate::SubmitFault;
@@ -112,6 +112,8 @@ impl<K: Disk> Container<K> {
         ensures done { OnOk result (OfBoth (journal_of self.old) (journal_of self.new) (λ i j. needs_repair j ≡ false)) }
         ensures untouched { IsErrOf result SubmitFault.Memory → OfBoth (journal_of self.old) (journal_of self.new) (λ i j. needs_repair j ≡ false) }
         ensures late { IsErrOf result SubmitFault.Memory → LooksAtOps (judged (history_of self.old) submission.now time) }
+        ensures within { OfBoth (journal_of self.old) (journal_of self.new) (λ i j. IsStored (history_of self.old) i → left_over i ≡ []
+            → IsWithin (history_of self.old).name (history_of self.old).deltas (λ d. (judged (history_of self.old) submission.now time).1 ≡ Some d) j) }
         ensures left_over { OfBoth (journal_of self.old) (journal_of self.new) (λ i j. IsLeftOver (left_over i) (judged (history_of self.old) submission.now time).1 (left_over j)) }
 
         ensures later { OfBoth (journal_of self.old) (journal_of self.new) (λ i j. (on_disk i).faults ≤ (on_disk j).faults) }

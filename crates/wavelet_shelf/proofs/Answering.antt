@@ -2,24 +2,26 @@
 --     held_after            the history stands in the journal as before
 --     plain_after           without one there is none then
 --     safe_file             where no repair is pending it stands in the file as that reads, and in each image
+--     safe_start            so it does at the start
 --     safe_after            so it does after a call that answered
+--     within_after          the file then stands for the history, or for it and the delta that was accepted
 --     faults_later, faults_rose     the disk's count
 --     name_after            the name stays
-use Rattle.std.proofs.Common.{◌≡◌, ◌≤◌, false, Option, Some, None, IsSome, is_some, refl, sym, subst, le_refl, true≢false}
+use Rattle.std.proofs.Common.{◌≡◌, ◌≤◌, false, [], Option, Some, None, IsSome, is_some, refl, sym, subst, ◌∙◌, le_refl, true≢false, IfSome}
 use Rattle.wavelet_op.specs.Deltas.{DeltaOf}
 use Rattle.delta_history.specs.Histories.{HistoryOf}
 use Rattle.disk_model.specs.Disk.{Rose as HasRisen}
 use Rattle.disk_model.specs.declared.disk.Disk.{Ghosts}
-use Rattle.delta_journal.specs.Journal.{on_disk, needs_repair}
+use Rattle.delta_journal.specs.Journal.{on_disk, left_over, needs_repair}
 use Rattle.delta_journal.specs.declared.journal.Journal.{Journal}
 use Rattle.delta_journal.proofs.Stages.{sure_stands}
 use Rattle.wave_outside.specs.Counts.{Rose}
 use Rattle.wavelet_container.specs.Containers.{history_of, journal_of, OfBoth, IsHeld}
 use Rattle.wavelet_container.specs.Records.{records_of}
-use Rattle.wavelet_container.specs.Stores.{IsStored, IsGrownBy}
+use Rattle.wavelet_container.specs.Stores.{IsStored, IsGrownBy, IsWithin}
 use Rattle.wavelet_container.specs.declared.container.Container.{Container}
-use Rattle.wavelet_container.proofs.Journals.{sure_images}
-use Rattle.wavelet_shelf.specs.Entries.{faults_on, IsSafe}
+use Rattle.wavelet_container.proofs.Journals.{sure_images, sure_none}
+use Rattle.wavelet_shelf.specs.Entries.{faults_on, IsFileWithin, IsSafe}
 
 no_value : {X T : Type 0} {x : X} → None ≡ Some x → T
 no_value e = absurd (cc)
@@ -63,10 +65,29 @@ module _ {K : Type 0} {disk : Ghosts K} where
     images = sure_images (history_of c) j s sure;
   }
 
+  pub safe_start : (c : Container K disk) → IsHeld c → IfSome (journal_of c) (λ j. needs_repair j ≡ false) → IsSafe c
+  safe_start c held sure = safe_file c held.0 held.1 held.2 (subst (λ o. IfSome o (λ j. needs_repair j ≡ false)) held.1 sure)
+
   pub safe_after : (c after : Container K disk) → OfBoth (journal_of c) (journal_of after) (λ i j. IsStored (history_of c) i → IsStored (history_of after) j) → OfBoth (journal_of c) (journal_of after) (λ i j. needs_repair j ≡ false) → IsHeld c → IsSafe after
   safe_after c after both sure held =
       let now = held_after c after both held in
       safe_file after now.0 now.1 now.2 (sure_from (journal_of c) (journal_of after) sure now.0 now.1)
+
+  left_none : (i : Journal K disk) (o : Option (Journal K disk)) (k : Journal K disk) → o ≡ Some i → o ≡ Some k → needs_repair k ≡ false → left_over i ≡ []
+  left_none i o k is also sure = sure_none i (subst (λ l. needs_repair l ≡ false) (same_Some (sym also ∙ is)) sure)
+
+  within_from : (c : Container K disk) (o p : Option (Journal K disk)) (P : DeltaOf → Type 0) → journal_of c ≡ o
+      → OfBoth o p (λ i j. IsStored (history_of c) i → left_over i ≡ [] → IsWithin (history_of c).name (history_of c).deltas P j)
+      → IsHeld c → IsSafe c → IfSome p (IsWithin (history_of c).name (history_of c).deltas P)
+  within_from c o None P is both held safe = tt
+  within_from c None (Some j) P is both held safe = absurd both
+  within_from c (Some i) (Some j) P is both held safe =
+      both (subst (IsStored (history_of c)) (same_Some (sym held.1 ∙ is)) held.2) (left_none i (journal_of c) safe.journal is safe.is safe.whole)
+
+  pub within_after : (c after : Container K disk) (added : Option DeltaOf)
+      → OfBoth (journal_of c) (journal_of after) (λ i j. IsStored (history_of c) i → left_over i ≡ [] → IsWithin (history_of c).name (history_of c).deltas (λ d. added ≡ Some d) j)
+      → IsHeld c → IsSafe c → IsFileWithin (history_of c).name (history_of c).deltas added after
+  within_after c after added both held safe = within_from c (journal_of c) (journal_of after) (λ d. added ≡ Some d) refl both held safe
 
   pub faults_later : (o p : Option (Journal K disk)) → OfBoth o p (λ i j. (on_disk i).faults ≤ (on_disk j).faults) → faults_on o ≤ faults_on p
   faults_later None None both = le_refl 0

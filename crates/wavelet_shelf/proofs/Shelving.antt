@@ -33,7 +33,7 @@ use Rattle.wavelet_container.specs.Stores.{IsGrownBy}
 use Rattle.wavelet_container.specs.declared.container.Container.{Container}
 use Rattle.wavelet_container.specs.declared.fault.SubmitFault.{SubmitFault}
 use Rattle.wavelet_container.specs.declared.fault.SubmitFault.TheVariants.{DiskFault}
-use Rattle.wavelet_shelf.specs.Entries.{found, shown, hosting, IsNamed, AreInOrder, IsPut, faults_of, faults_in, AreHeld, AreSafe, IsSafe, HaveRoom, FitsFolder, FitFolder}
+use Rattle.wavelet_shelf.specs.Entries.{found, shown, hosting, IsNamed, AreInOrder, IsPut, faults_of, faults_in, AreHeld, AreSafe, IsFileWithin, IsSafe, HaveRoom, FitsFolder, FitFolder}
 use Rattle.wavelet_shelf.specs.FileNames.{file_name_of}
 use Rattle.wavelet_shelf.specs.Folders.{IsUsedIn}
 use Rattle.wavelet_shelf.specs.Hosting.{deltas_in, with_added, judged_in}
@@ -86,6 +86,14 @@ module _ {K : Type 0} {disk : disk_of.Ghosts K} where
   -- what a container judges is what the shelf does
   judged_same : (es : List (Key × Filed K disk)) (n : Key) (s : Submission) (t : ℕ) (c : Container K disk) → (history_of c).name ≡ n → deltas_in (hosting es) n ≡ (history_of c).deltas → judged (history_of c) s t ≡ judged_in (hosting es) n s t
   judged_same es n s t c name deltas = λ i. judge (name i) (sym deltas i) s t
+
+  within_as : (es : List (Key × Filed K disk)) (n : Key) (s : Submission) (t : ℕ) (c after : Container K disk) → (history_of c).name ≡ n → deltas_in (hosting es) n ≡ (history_of c).deltas
+      → IsFileWithin (history_of c).name (history_of c).deltas (judged (history_of c) s t).1 after → IsFileWithin n (deltas_in (hosting es) n) (judged_in (hosting es) n s t).1 after
+  within_as es n s t c after name deltas w = subst (λ (x : Key × List DeltaOf). IsFileWithin x.0 x.1 (judge x.0 x.1 s t).1 after) (λ i. (name i, sym deltas i)) w
+
+  -- without a container there is nothing to say of its file
+  within_none : (es : List (Key × Filed K disk)) (n : Key) (P : Container K disk → Type 0) → lookup (same_text n) es ≡ None → IfSome (found es n) P
+  within_none es n P absent = subst (λ o. IfSome o P) (sym (ap (λ o. option_map (λ (f : Filed K disk). f.container) o) absent)) tt
 
   -- ---- the container of a name that is there
 
@@ -172,6 +180,10 @@ module _ {F D : Type 0} {folder : folder_of.Ghosts F D} {disk : disk_of.Ghosts D
             x.taken.safe;
         late = λ e. subst LooksAtOps judges (x.taken.late e);
         untouched = λ e k settled. subst AreSafe (sym x.is) (all_set deltas_of (λ e. IsSafe e.1.container) es n x.new settled (x.taken.untouched e (all_found deltas_of (λ e. IsHeld e.1.container) es n x.old k.held x.was)));
+        within = λ k settled.
+            let left = x.taken.within (all_found deltas_of (λ e. IsHeld e.1.container) es n x.old k.held x.was) (all_found deltas_of (λ e. IsSafe e.1.container) es n x.old settled x.was) in
+            subst (λ o. IfSome o (IsFileWithin n (deltas_in (hosting es) n) (judged_in (hosting es) n s t).1)) (sym (ap (λ l. found l n) x.is ∙ ap (λ o. option_map (λ f. f.container) o) (found_set es n x.old x.new x.was)))
+            (within_as es n s t c x.new.container (old_name es n x.old x.new order x.was) (old_deltas es n x.old x.new order x.was) left);
         later = sum_later (folder_faults folder.faults (in_folder a)) (folder_faults folder.faults (in_folder b)) (faults_of c) (faults_of x.new.container) (faults_in es) (faults_in (entries_of b)) (2 ^ 64 - 1) sums x.taken.later (subst (λ o. folder_faults folder.faults (in_folder a) ≤ folder_faults folder.faults o) (sym same) (le_refl _));
         failed = λ e. subst (λ o. Rose (fault_count a) (min (folder_faults folder.faults o + faults_in (entries_of b)) (2 ^ 64 - 1))) (sym same)
             (sum_rose (folder_faults folder.faults (in_folder a)) (faults_of c) (faults_of x.new.container) (faults_in es) (faults_in (entries_of b)) (2 ^ 64 - 1) sums (subst (λ m. faults_of c ≤ m) (sym (faults_total es)) (sum_has count_of es n x.old x.was)) (x.taken.failed e));
@@ -184,6 +196,7 @@ module _ {F D : Type 0} {folder : folder_of.Ghosts F D} {disk : disk_of.Ghosts D
     pub name : (history_of c).name ≡ n
     pub empty : (history_of c).deltas ≡ []
     pub held : IsKept a → IsHeld c
+    pub safe : IsKept a → IsSafe c
     pub unfailed : faults_of c ≡ 0
 
   put_grown : (filed : Filed D disk) (c : Container D disk) → AreInOrder (entries_of a) → IsPut n filed (entries_of a) (entries_of b) → (history_of c).deltas ≡ [] → (added : Option DeltaOf) → IsGrownBy (history_of c) added (history_of filed.container) → hosted_of b ≡ with_added (hosted_of a) n added
@@ -218,14 +231,17 @@ module _ {F D : Type 0} {folder : folder_of.Ghosts F D} {disk : disk_of.Ghosts D
             taken.safe;
         late = λ e. subst LooksAtOps judges (taken.late e);
         untouched = λ e k settled. subst AreSafe (sym put.is) (all_put deltas_of (λ e. IsSafe e.1.container) es put.at (n, filed) inside settled (taken.untouched e (first.held k)));
+        within = λ k settled.
+            subst (λ o. IfSome o (IsFileWithin n (deltas_in (hosting es) n) (judged_in (hosting es) n s t).1)) (sym (ap (λ l. found l n) put.is ∙ ap (λ o. option_map (λ f. f.container) o) (found_put es n filed put.at inside put.absent)))
+            (within_as es n s t c filed.container first.name (none ∙ sym first.empty) (taken.within (first.held k) (first.safe k)));
         later = first_later (folder_faults folder.faults (in_folder a)) (folder_faults folder.faults (in_folder b)) (faults_of filed.container) (faults_in es) (faults_in (entries_of b)) (2 ^ 64 - 1) sums counts;
         failed = λ e. first_rose (folder_faults folder.faults (in_folder a)) (folder_faults folder.faults (in_folder b)) (faults_of c) (faults_of filed.container) (faults_in es) (faults_in (entries_of b)) (2 ^ 64 - 1) sums counts first.unfailed (taken.failed e);
         disk_there = there;
         used = same;
       }
 
-  pub after_fault : (e : SubmitFault) → LooksAtOps (judged_in (hosted_of a) n s t) → entries_of b ≡ entries_of a → (e ≡ DiskFault → IsSome (in_folder a)) → IsUsedIn folder (λ m. m ≡ file_name_of n) (in_folder a) (in_folder b) → folder_faults folder.faults (in_folder a) ≤ folder_faults folder.faults (in_folder b) → (e ≡ DiskFault → Rose (folder_faults folder.faults (in_folder a)) (folder_faults folder.faults (in_folder b))) → IsHosted n s t a b (Err e)
-  after_fault e looks is there same counts rose = record {
+  pub after_fault : (e : SubmitFault) → LooksAtOps (judged_in (hosted_of a) n s t) → lookup (same_text n) (entries_of a) ≡ None → entries_of b ≡ entries_of a → (e ≡ DiskFault → IsSome (in_folder a)) → IsUsedIn folder (λ m. m ≡ file_name_of n) (in_folder a) (in_folder b) → folder_faults folder.faults (in_folder a) ≤ folder_faults folder.faults (in_folder b) → (e ≡ DiskFault → Rose (folder_faults folder.faults (in_folder a)) (folder_faults folder.faults (in_folder b))) → IsHosted n s t a b (Err e)
+  after_fault e looks absent is there same counts rose = record {
     verdict = tt;
     grown = tt;
     same = ap hosting is;
@@ -235,6 +251,7 @@ module _ {F D : Type 0} {folder : folder_of.Ghosts F D} {disk : disk_of.Ghosts D
     settled = tt;
     late = λ r. looks;
     untouched = λ r k settled. subst AreSafe (sym is) settled;
+    within = λ k settled. within_none (entries_of b) n _ (ap (lookup (same_text n)) is ∙ absent);
     later = same_later (folder_faults folder.faults (in_folder a)) (folder_faults folder.faults (in_folder b)) (faults_in (entries_of a)) (faults_in (entries_of b)) (2 ^ 64 - 1) (ap faults_in is) counts;
     failed = λ r. same_rose (folder_faults folder.faults (in_folder a)) (folder_faults folder.faults (in_folder b)) (faults_in (entries_of a)) (faults_in (entries_of b)) (2 ^ 64 - 1) (ap faults_in is) (rose (same_Err r));
     disk_there = λ r. there (same_Err r);
@@ -280,6 +297,7 @@ module _ {F D : Type 0} {folder : folder_of.Ghosts F D} {disk : disk_of.Ghosts D
         settled = λ k settled. settled;
         late = λ r. absurd (ok_err r);
         untouched = λ r. absurd (ok_err r);
+        within = λ k settled. within_none (entries_of a) n _ absent;
         later = le_refl _;
         failed = λ r. absurd (ok_err r);
         disk_there = λ r. absurd (ok_err r);
@@ -307,6 +325,7 @@ module _ {F D : Type 0} {folder : folder_of.Ghosts F D} {disk : disk_of.Ghosts D
         settled = λ k settled. settled;
         late = λ r. absurd (ok_err r);
         untouched = λ r. absurd (ok_err r);
+        within = λ k settled. within_none (entries_of a) n _ absent;
         later = le_refl _;
         failed = λ r. absurd (ok_err r);
         disk_there = λ r. absurd (ok_err r);

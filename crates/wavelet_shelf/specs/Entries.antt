@@ -9,10 +9,11 @@
 --     AreHeld es             over disks that tell their bytes, each history stands in a journal
 --     IsSafe c               the history stands in its file as that reads, and in each image of it, and no repair is pending
 --     AreSafe es             so it is for each
+--     IsFileWithin n ds o c  where it has a file: as it reads, and in each image, that stands for this history, or for it and the delta
 --     HaveRoom room es       there is room for the disk of each
 --     FitsFolder room folder e     there is room for its disk in the folder; without one, it stands in no journal
 --     FitFolder room folder es     so it is for each
-use Rattle.std.specs.Prelude.{◌≡◌, ◌==◌, ℕ, ◌+◌, ◌≤◌, Bool, true, false, List, [], ◌∷◌, length, insert, map, Option, Some, None, is_some, string_bytes}
+use Rattle.std.specs.Prelude.{◌≡◌, ◌==◌, ℕ, ◌+◌, ◌≤◌, Bool, true, false, List, [], ◌∷◌, length, insert, map, Option, Some, None, is_some, IfSome, string_bytes}
 use Rattle.std.specs.Cmp.Lexicographic.{pointwise, slice_cmp}
 use Rattle.std.specs.Coded.{Coded-set, coded_ℕ, coded_list, coded_bool, ×_prop, Unit-prop}
 use Rattle.std.specs.List.{AllByRecursion, AllByRecursion-prop, AllWithin}
@@ -28,6 +29,7 @@ use Rattle.delta_journal.specs.Journal.{on_disk, needs_repair, EachImage}
 use Rattle.delta_journal.specs.declared.journal.Journal.{Journal}
 use Rattle.wavelet_container.specs.Containers.{history_of, journal_of, IsHeld}
 use Rattle.wavelet_container.specs.Records.{StandsForHistory}
+use Rattle.wavelet_container.specs.Stores.{IsWithin}
 use Rattle.wavelet_container.specs.declared.container.Container.{Container}
 use Rattle.wavelet_shelf.specs.FileNames.{file_name_of}
 use Rattle.wavelet_shelf.specs.Hosting.{Hosted}
@@ -110,6 +112,9 @@ module _ {K : Type 0} {disk : Ghosts K} where
     pub whole : needs_repair journal ≡ false
     pub read : StandsForHistory (history_of c).name (history_of c).deltas (on_disk journal).seen
     pub images : EachImage journal (StandsForHistory (history_of c).name (history_of c).deltas)
+
+  abbrev pub IsFileWithin : Key → List DeltaOf → Option DeltaOf → Container K disk → Type 0
+  IsFileWithin n ds added c = IfSome (journal_of c) (IsWithin n ds (λ d. added ≡ Some d))
 
   abbrev pub AreSafe : List (Key × Filed K disk) → Type 0
   AreSafe es = AllByRecursion (λ e. IsSafe e.1.container) es

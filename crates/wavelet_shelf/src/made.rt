@@ -1,5 +1,5 @@
 // Shelves that are new.
-ghost use Rattle.std.specs.Prelude.{◌≡◌, [], Some, None, IsTrue, option_copied};
+ghost use Rattle.std.specs.Prelude.{◌≡◌, [], Some, None, IsTrue, is_some, option_copied};
 ghost use Rattle.wavelet_shelf.specs.Shelves.{in_folder, entries_of, container_in, hosted_of, IsKept};
 
 use crate::Shelf;
@@ -33,5 +33,12 @@ impl<F: Folder + Drop> Shelf<F> {
             folder: Some(folder),
             containers: Containers::new(alloc),
         }
+    }
+
+    /// Whether it is over a folder.
+    pub fn is_stored(&self) -> bool
+        ensures { result ≡ is_some (in_folder self.now) }
+    {
+        self.folder.is_some()
     }
 }

@@ -7,10 +7,10 @@ ghost use Rattle.indexmap.specs.IndexMap.{spare};
 ghost use Rattle.wave_outside.specs.Counts.{Rose};
 ghost use Rattle.wavelet_container.specs.Containers.{history_of, journal_of};
 ghost use Rattle.wavelet_container.specs.Decisions.{LooksAtOps};
-ghost use Rattle.wavelet_shelf.specs.Entries.{IsSafe};
+ghost use Rattle.wavelet_shelf.specs.Entries.{IsFileWithin, IsSafe};
 ghost use Rattle.wavelet_shelf.specs.FileNames.{file_name_of};
 ghost use Rattle.wavelet_shelf.specs.Folders.{IsUsed, IsUsedIn};
-ghost use Rattle.wavelet_shelf.specs.Hosting.{judged_in, after_submission};
+ghost use Rattle.wavelet_shelf.specs.Hosting.{deltas_in, judged_in, after_submission};
 ghost use Rattle.wavelet_shelf.specs.Shelves.{entries_of, in_folder, folder_faults, hosted_of, container_in, fault_count, IsKept, IsSettled, AreApart};
 ghost use Rattle.wavelet_shelf.specs.Steps.{IsHosted, IsStarted, IsTakenFirst};
 
@@ -30,7 +30,7 @@ impl<F: Folder + Drop> Shelf<F> {
     /// The verdict on a submission to the wavelet of this name at the time, in milliseconds; a name that isn't there counts as an
     /// empty history. The history of the name grows by just the delta that is accepted, and that of every other name stays as it
     /// is. Over a folder the delta is in the wavelet's file before the history has it. `DiskFault` where the folder or the disk
-    /// failed. No memory is taken before the operations are looked at, and after `Memory` nothing new is left for a crash to add.
+    /// failed; the file then stands for the history, or for it and the delta that was accepted. No memory is taken before the operations are looked at, and after `Memory` nothing new is left for a crash to add.
     pub fn submit(
         &mut self,
         alloc: Global,
@@ -47,6 +47,8 @@ impl<F: Folder + Drop> Shelf<F> {
         ensures stored { OnOk result (IsKept self.old → IfSome (container_in self.new name.now) IsSafe) }
         ensures settled { OnOk result (IsKept self.old → IsSettled self.old → IsSettled self.new) }
         ensures untouched { IsErrOf result SubmitFault.Memory → IsKept self.old → IsSettled self.old → IsSettled self.new }
+        ensures within { IsKept self.old → IsSettled self.old
+            → IfSome (container_in self.new name.now) (IsFileWithin name.now (deltas_in (hosted_of self.old) name.now) (judged_in (hosted_of self.old) name.now submission.now time).1) }
         ensures late { IsErrOf result SubmitFault.Memory → LooksAtOps (judged_in (hosted_of self.old) name.now submission.now time) }
         ensures apart { AreApart self.old → ((m : Key) → IsSome (container_in self.old m) → file_name_of m ≡ file_name_of name.now → m ≡ name.now) → AreApart self.new }
 

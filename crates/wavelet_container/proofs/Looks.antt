@@ -4,8 +4,7 @@
 --     at_zero           it is, and the version is 0: the hash is left to test
 --     elsewhere         the version isn't 0
 --     another, same     the hash there is another, or that of the submission
---     zero_flipped      the test of a number against 0, the other way round
-use Rattle.std.proofs.Common.{◌≡◌, ℕ, zero, suc, ◌==◌, Bool, true, false, cond, List, [], drop, Option, Some, None, sym, ap, subst, ◌∙◌}
+use Rattle.std.proofs.Common.{◌≡◌, ℕ, ◌==◌, Bool, true, false, cond, List, [], drop, Option, Some, None, sym, ap, subst, ◌∙◌}
 use Rattle.wave_hash.specs.Chain.{zero_hash_of}
 use Rattle.wavelet_op.specs.Acts.{Act, meanings}
 use Rattle.wavelet_op.specs.Deltas.{DeltaOf}
@@ -60,7 +59,3 @@ module _ (name : List ℕ) (s : Submission) where
 
   pub same : adds_first (meanings s.ops) s.id.author ≡ true → 0 == s.at.version ≡ true → same_hash s.at.hash (zero_hash_of name) ≡ true → (t : ℕ) → LooksAtOps (judge name [] s t)
   same e v h t = subst LooksAtOps (sym (at_zero e v t ∙ ap (judge_hash s t (start name) (start name) []) h)) (ops_look s t (start name) (start name) [] (run (start name).state (meanings s.ops)))
-
-pub zero_flipped : (n : ℕ) (b : Bool) → n == 0 ≡ b → 0 == n ≡ b
-zero_flipped zero b e = e
-zero_flipped (suc n) b e = e
