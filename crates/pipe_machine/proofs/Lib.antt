@@ -8,4 +8,6 @@ pub mod Holding
 pub mod Seating
 pub mod Delivering
 pub mod Trying
+pub mod Meaning
+pub mod Ordering
 mod Serving

@@ -1,6 +1,7 @@
 pub mod Lines
 pub mod Seats
 pub mod Machine
+pub mod Meant
 pub mod Keeping
 pub mod Pipes
 pub mod Shows

@@ -10,5 +10,5 @@ mod pipe;
 mod reply;
 mod seats;
 
-pub use laws::sent_is_held;
+pub use laws::{sent_is_held, sent_is_meant};
 pub use pipe::PipeMachine;
