@@ -7,3 +7,4 @@ pub mod Judging
 pub mod Journals
 pub mod Outcomes
 pub mod Loaded
+pub mod Trails

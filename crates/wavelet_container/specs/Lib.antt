@@ -4,3 +4,4 @@ pub mod Loads
 pub mod Passing
 pub mod Records
 pub mod Stores
+pub mod Trails

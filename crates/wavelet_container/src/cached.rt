@@ -1,5 +1,6 @@
 // A history with kept states of its past.
 ghost use Rattle.std.specs.Prelude.{◌≡◌, ◌≤◌, ◌<◌, List, length, Some, IsSome, IfSome, IfOk, IfErr, OnOk, OnErr};
+ghost use Rattle.wavelet_op.specs.Acts.{meanings};
 ghost use Rattle.wavelet_op.specs.Deltas.{DeltaOf};
 ghost use Rattle.wavelet_op.specs.States.{empty_state};
 ghost use Rattle.delta_history.specs.Histories.{IsSameHistory, IsGrown};
@@ -7,20 +8,24 @@ ghost use Rattle.delta_history.specs.Legal.{IsLegal};
 ghost use Rattle.delta_history.specs.Pushes.{IsReady, IsRefused};
 ghost use Rattle.delta_history.specs.Points.{run_all};
 ghost use Rattle.state_cache.specs.States.{state_behind, IsBegun, IsCacheOf};
+ghost use Rattle.wavelet_container.specs.Decisions.{IsInvalidAt};
+ghost use Rattle.wavelet_container.specs.Trails.{IsTrail, IsReached, place_of};
 
+use crate::trail::{Trail, Tried, reach};
 use delta_history::{History, HistoryFault, Prepared};
 use doc_items::Memory;
 use state_cache::{StateCache, Steps};
 use std::alloc::Global;
 use std::marker::{Brand, Model};
 use std::sync::ledger::{Blank, Ledger};
-use wavelet_op::AppliedDelta;
+use wavelet_op::{AppliedDelta, Ops};
 use wavelet_state::WaveletState;
 
 /// The history of a wavelet, with states of its past that are kept once one of them was asked for.
 pub(crate) struct CachedHistory {
     history: History,
     cache: Option<StateCache>,
+    trail: Option<Trail>,
 }
 
 impl Drop for CachedHistory {
@@ -28,6 +33,7 @@ impl Drop for CachedHistory {
         let CachedHistory {
             history: _history,
             cache: _cache,
+            trail: _trail,
         } = self;
     }
 }
@@ -37,6 +43,7 @@ impl Model for CachedHistory {
     ghost use Rattle.delta_history.specs.Histories.{HistoryOf};
     ghost use Rattle.delta_history.specs.contracts.history.History as history_row;
     ghost use Rattle.state_cache.specs.States.{IsBegun};
+    ghost use Rattle.wavelet_container.specs.Trails.{IsTrail};
 
     ghost Value = { HistoryOf };
 
@@ -44,7 +51,7 @@ impl Model for CachedHistory {
 
     ghost view = { λ c. c.history };
 
-    ghost invariant = { λ c. IfSome c.cache (λ states. IsBegun c.history.deltas states) };
+    ghost invariant = { λ c. IfSome c.cache (λ states. IsBegun c.history.deltas states) × IfSome c.trail (IsTrail c.history.deltas) };
 }
 
 impl CachedHistory {
@@ -55,6 +62,7 @@ impl CachedHistory {
         CachedHistory {
             history,
             cache: None,
+            trail: None,
         }
     }
 
@@ -78,6 +86,52 @@ impl CachedHistory {
         let found = look_up(alloc, &self.history, &mut cache, place);
         self.cache = Some(cache);
         found
+    }
+
+    // The state that goes with the submissions, at this place; None where it isn't kept, or is too far from there.
+    fn reached(&mut self, alloc: Global, place: usize) -> Result<Option<Trail>, Memory>
+        requires { place ≤ length self.old.deltas }
+        ensures reached { IfOk result (IsReached self.old.deltas place) }
+        ensures same { self.new ≡ self.old }
+    {
+        match self.trail.take() {
+            Some(trail) => reach(alloc, trail, self.history.deltas(), place),
+            None => Ok(None),
+        }
+    }
+
+    // The same, made anew where it isn't there.
+    fn trail_at(&mut self, alloc: Global, place: usize) -> Result<Trail, Memory>
+        requires { place ≤ length self.old.deltas }
+        ensures trail { IfOk result (λ t. IsTrail self.old.deltas t × (place_of t ≡ place)) }
+        ensures same { self.new ≡ self.old }
+    {
+        match self.reached(alloc, place)? {
+            Some(trail) => Ok(trail),
+            None => {
+                let state = self.state_behind(alloc, place)?;
+                Ok(Trail::at(alloc, state, place))
+            }
+        }
+    }
+
+    /// The index of the first operation that isn't valid behind the first `place` deltas; None where all are. The error is want of
+    /// memory.
+    pub fn invalid_at(
+        &mut self,
+        alloc: Global,
+        ops: &Ops,
+        place: usize,
+    ) -> Result<Option<u32>, Memory>
+        requires { place ≤ length self.old.deltas }
+        ensures invalid { IfOk result (λ o. IsInvalidAt self.old place (meanings ops.now) o) }
+        ensures same { self.new ≡ self.old }
+    {
+        let trail = self.trail_at(alloc, place)?;
+        let tried = trail.try_at(alloc, ops)?;
+        let Tried { invalid, trail } = tried;
+        self.trail = trail;
+        Ok(invalid)
     }
 }
 

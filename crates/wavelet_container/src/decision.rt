@@ -10,9 +10,9 @@ use crate::early::{Tested, test};
 use crate::passing::passed;
 use delta_history::History;
 use doc_items::{MAX_COUNT, Memory};
-use std::alloc::{AllocError, Global};
-use wavelet_op::{AppliedDelta, Ops, Submission, Verdict, WaveletFault, WaveletOp};
-use wavelet_state::{MAX_INSERTED, WaveletState, apply_delta};
+use std::alloc::Global;
+use wavelet_op::{AppliedDelta, Ops, Submission, Verdict, WaveletOp};
+use wavelet_state::MAX_INSERTED;
 
 /// What is decided about a submission.
 #[derive(Drop)]
@@ -118,29 +118,6 @@ impl CachedHistory {
             Some(index) => Ok(Verdict::Invalid { index }),
             None => Ok(Verdict::Full { head }),
         }
-    }
-
-    // The index of the first operation that isn't valid behind the first `place` deltas; None where all are.
-    fn invalid_at(&mut self, alloc: Global, ops: &Ops, place: usize) -> Result<Option<u32>, Memory>
-        requires { place ≤ length self.old.deltas }
-        ensures invalid { IfOk result (λ o. IsInvalidAt self.old place (meanings ops.now) o) }
-        ensures same { self.new ≡ self.old }
-    {
-        let state = self.state_behind(alloc, place)?;
-        first_invalid(alloc, state, ops)
-    }
-}
-
-// The index of the first operation that isn't valid at the state; None where all are.
-fn first_invalid(alloc: Global, state: WaveletState, ops: &Ops) -> Result<Option<u32>, Memory>
-    ensures { IfOk result (λ o. MatchOption o (IsSome (run state (meanings ops.now))) (λ k. (k ≡ first_invalid state (meanings ops.now)) × (run state (meanings ops.now) ≡ None))) }
-{
-    let mut state = state;
-    match apply_delta(alloc, &mut state, ops) {
-        Ok(()) => Ok(None),
-        Err(WaveletFault::OpInvalid(index)) => Ok(Some(index)),
-        Err(WaveletFault::Memory) => Err(AllocError),
-        Err(_) => unreachable!(),
     }
 }
 

@@ -13,6 +13,7 @@ mod load;
 mod passing;
 mod plain;
 mod stored;
+mod trail;
 
 pub use container::Container;
 pub use fault::{LoadFault, SubmitFault};
