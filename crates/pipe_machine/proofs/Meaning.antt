@@ -137,7 +137,7 @@ judged_acks hs name s t place to up e = ap (kept s.id (start name)) (added_in hs
 abbrev IsHarmless : Message → Type 0
 IsHarmless m = (hs : List Hosted) (p : Party) → IsMeantFor hs p m
 
-bad_to_all : (reason : BadReason) → IsHarmless (message.Bad reason)
+pub bad_to_all : (reason : BadReason) → IsHarmless (message.Bad reason)
 bad_to_all reason hs Nobody = record { access = tt; acknowledged = tt }
 bad_to_all reason hs (User u) = record { access = tt; acknowledged = tt }
 bad_to_all reason hs (Domain d) = record { access = tt; acknowledged = tt }
@@ -190,7 +190,7 @@ closed_for : (s : Session) (name : Key) (o : Option ℕ) → IsTakenFor s (close
 closed_for s name None = refused_for s bad.NotOpen
 closed_for s name (Some i) = record { for = closed_to_all name; still = refl }
 
-taken_for : (s : Session) (m : Message) → IsTakenFor s (taken s m)
+pub taken_for : (s : Session) (m : Message) → IsTakenFor s (taken s m)
 taken_for s (message.Hello user) = choice_for s (is_new s && is_user s (encode_utf8_all user)) (with_party s (User (encode_utf8_all user)), ask.Reply (message.Welcome user)) (refused s bad.BadUser)
     (record { for = welcome_to_all user; still = refl }) (refused_for s bad.BadUser)
 taken_for s (message.OpenWavelet name from) = user_for s _ s.party refl (λ u is. choice_for s (is_reached s name) (s, ask.Attach name from) (refused s bad.NoHost) (record { for = tt; still = refl }) (refused_for s bad.NoHost))

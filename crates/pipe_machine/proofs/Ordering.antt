@@ -16,6 +16,7 @@ use Rattle.wavelet_json.specs.declared.reason.BadReason.TheVariants as bad
 use Rattle.message_json.specs.declared.message.Message.{Message}
 use Rattle.message_json.specs.declared.message.Message.TheVariants.{Bad}
 use Rattle.wave_messages.specs.Read.{Refused, line_read}
+use Rattle.session_core.specs.declared.session.Party.TheVariants.{Nobody}
 use Rattle.session_core.specs.declared.session.Session.{Session}
 use Rattle.session_core.specs.declared.request.Request.{Request}
 use Rattle.session_core.specs.declared.request.Request.TheVariants as ask
@@ -95,7 +96,7 @@ seat_from m n (s ∷ ss) less a = go (is_gt (slice_cmp nat_cmp n s.name)) refl (
         → AscendFrom m (seat_names (cond b (s ∷ with_seat n ss) (cond c (s ∷ ss) (begun n ∷ s ∷ ss))))
     go true e c f rest = (a.0, rest (turned n s.name ∙ ap ordering_reverse (above n s.name e)))
     go false e true f rest = a
-    go false e false f rest = (less, below n s.name e f, a.1)
+    go false e false f rest = (less, (below n s.name e f, a.1))
 
 seat_ascends : (n : Key) (ss : List Seat) → AreAscending (seat_names ss) → AreAscending (seat_names (with_seat n ss))
 seat_ascends n [] a = tt
@@ -121,7 +122,7 @@ after_names c (s ∷ ss) = ap (λ l. s.name ∷ l) (after_names c ss)
 -- ---- who a session is
 
 party_set : (n : Key) (x : Session) (ss : List Seat) → party_in (slice_set (with_seat n ss) (place_in n 0 ss) (record { name = n; session = x })) n ≡ x.party
-party_set n x [] = ap (λ b. cond b x.party _) (own n)
+party_set n x [] = ap (λ b. cond b x.party Nobody) (own n)
 party_set n x (s ∷ ss) = go (is_gt (slice_cmp nat_cmp n s.name)) refl (same_text n s.name) (party_set n x ss)
   where
     go : (b : Bool) → is_gt (slice_cmp nat_cmp n s.name) ≡ b → (c : Bool) → party_in (slice_set (with_seat n ss) (place_in n 0 ss) (record { name = n; session = x })) n ≡ x.party
@@ -214,20 +215,22 @@ read_well p t (Ok line) o =
         seats = subst AreAscending (sym (set_names (seat_in i ss).name r.session i ss refl)) (seated_ascends n p.seats o.seats);
         idle = set_idle i (record { name = (seat_in i ss).name; session = r.session }) ss w.idle all_idle;
       };
-      sent = All-cons _ (sent_to n r.message) [] (subst (λ q. IsMeantFor r.hosted q r.message) (sym (party_at n r.session p.seats)) w.meant) (All-nil _);
+      sent =
+          let P : Sent → Type 0 = IsMeant (record { hosted = r.hosted; seats = with_session i r.session ss }) in
+          All-cons P (sent_to n r.message) [] (subst (λ q. IsMeantFor r.hosted q r.message) (sym (party_at n r.session p.seats)) w.meant) (All-nil P);
     }
 read_well p t (Err r) o = record {
   ordered = o;
-  sent = All-cons _ (sent_to (named r.0) (Bad (reason_of r.1))) [] (bad_to_all (reason_of r.1) p.hosted (party_in p.seats (named r.0))) (All-nil _);
+  sent = All-cons (IsMeant p) (sent_to (named r.0) (Bad (reason_of r.1))) [] (bad_to_all (reason_of r.1) p.hosted (party_in p.seats (named r.0))) (All-nil (IsMeant p));
 }
 
 -- ---- deliveries
 
 seats_meant : (hs : List Hosted) (all ss : List Seat) → KnowsEach all ss → AllByRecursion IsIdle ss → All (λ s. IsMeantFor hs (party_in all s.session) s.message) (seats_sent (shown_in hs) ss)
-seats_meant hs all [] k idle = All-nil _
+seats_meant hs all [] k idle = All-nil (λ s. IsMeantFor hs (party_in all s.session) s.message)
 seats_meant hs all (s ∷ ss) k idle =
     let ms = delivered (shown_in hs) s.session in
-    All-append _ (map (sent_to s.name) ms) (seats_sent (shown_in hs) ss)
+    All-append (λ s. IsMeantFor hs (party_in all s.session) s.message) (map (sent_to s.name) ms) (seats_sent (shown_in hs) ss)
     (All-map (λ m. IsMeantFor hs (party_in all m.session) m.message) (sent_to s.name) ms (subst (λ p. All (IsMeantFor hs p) ms) (sym k.0) (delivered_for hs s.session idle.0)))
     (seats_meant hs all ss k.1 idle.1)
 
@@ -243,7 +246,7 @@ turn_well p t line o =
         seats = subst AreAscending (sym (after_names c ss)) well.ordered.seats;
         idle = all_idle_after c ss well.ordered.idle;
       };
-      sent = All-append _ a.sent (seats_sent c ss)
+      sent = All-append (λ s. IsMeantFor a.pipe.hosted (party_in (seats_after c ss) s.session) s.message) a.sent (seats_sent c ss)
           (All-weaker (IsMeant a.pipe) (λ s. IsMeantFor a.pipe.hosted (party_in (seats_after c ss) s.session) s.message) (λ s m. subst (λ q. IsMeantFor a.pipe.hosted q s.message) (sym (party_kept c ss s.session)) m) a.sent well.sent)
           (seats_meant a.pipe.hosted (seats_after c ss) ss (known_after c ss ss (each_known ss well.ordered.seats)) well.ordered.idle);
     }

@@ -4,7 +4,7 @@
 --     tried_done        the step was done, and what follows failed
 --     tried_refused     a submission was refused for a fault
 --     tried_as          the step leads to the same histories
---     ended_*           what became of a step, by its result
+--     ended_memory      a step that there was no memory for
 use Rattle.std.proofs.Common.{◌≡◌, ◌≢◌, ◌⊎◌, inl, inr, ⊎_elim, ℕ, List, [], ◌∷◌, ◌++◌, Option, Some, None, IsSome, IfSome, Result, Ok, Err, OnErr, refl, sym, ap, subst, ◌∙◌, option_map}
 use Rattle.std.specs.Map.{lookup}
 use Rattle.std.specs.Option.{option_map_or}
@@ -30,7 +30,16 @@ use Rattle.wavelet_shelf.proofs.Growing.{grows_alone}
 use Rattle.wavelet_shelf.proofs.Names.{same_or_not}
 use Rattle.wavelet_shelf.proofs.Placing.{all_found, deltas_hosting}
 use Rattle.wavelet_shelf.proofs.Shelving.{deltas_of}
-use Rattle.pipe_machine.specs.Keeping.{IsFileOfEither, IsTriedTo}
+use Rattle.line_loop.specs.declared.line_machine.TurnFault.{TurnFault}
+use Rattle.line_loop.specs.declared.line_machine.TurnFault.TheVariants.{Memory}
+use Rattle.pipe_machine.specs.Keeping.{IsEnded, IsFileOfEither, IsTriedTo}
+
+more_or_not : (n : Key) (ds es : List DeltaOf) (added : Option DeltaOf) → ((d : DeltaOf) → added ≡ Some d → es ≡ ds ++ d ∷ []) → (bytes : List ℕ) → StandsForOneMore n ds (λ d. added ≡ Some d) bytes → StandsForHistory n ds bytes ⊎ StandsForHistory n es bytes
+more_or_not n ds es added grown bytes (inl stands) = inl stands
+more_or_not n ds es added grown bytes (inr one) = inr (subst (λ l. StandsForHistory n l bytes) (sym (grown one.0 one.1)) one.2)
+
+grown_to : (hs : List Hosted) (name : Key) (added : Option DeltaOf) → AreAscending (names_of hs) → (d : DeltaOf) → added ≡ Some d → deltas_in (with_added hs name added) name ≡ deltas_in hs name ++ d ∷ []
+grown_to hs name added up d e = ap (λ o. deltas_in (with_added hs name o) name) e ∙ grows_alone.there hs name d up
 
 module _ {K : Type 0} {disk : disk_of.Ghosts K} where
   -- the container's file stands for the history
@@ -51,10 +60,6 @@ module _ {K : Type 0} {disk : disk_of.Ghosts K} where
 
   of_second : (c : Container K disk) (n : Key) (ds es : List DeltaOf) → IsFileOf n es c → IsFileOfEither n ds es c
   of_second c n ds es h = either_by (StandsForHistory n es) (λ bytes. StandsForHistory n ds bytes ⊎ StandsForHistory n es bytes) (journal_of c) (λ bytes stands. inr stands) h
-
-  more_or_not : (n : Key) (ds es : List DeltaOf) (added : Option DeltaOf) → ((d : DeltaOf) → added ≡ Some d → es ≡ ds ++ d ∷ []) → (bytes : List ℕ) → StandsForOneMore n ds (λ d. added ≡ Some d) bytes → StandsForHistory n ds bytes ⊎ StandsForHistory n es bytes
-  more_or_not n ds es added grown bytes (inl stands) = inl stands
-  more_or_not n ds es added grown bytes (inr one) = inr (subst (λ l. StandsForHistory n l bytes) (sym (grown one.0 one.1)) one.2)
 
   of_within : (c : Container K disk) (n : Key) (ds es : List DeltaOf) (added : Option DeltaOf) → ((d : DeltaOf) → added ≡ Some d → es ≡ ds ++ d ∷ []) → IsFileWithin n ds added c → IsFileOfEither n ds es c
   of_within c n ds es added grown h = either_by (StandsForOneMore n ds (λ d. added ≡ Some d)) (λ bytes. StandsForHistory n ds bytes ⊎ StandsForHistory n es bytes) (journal_of c) (more_or_not n ds es added grown) h
@@ -90,9 +95,6 @@ module _ {F D : Type 0} {folder : folder_of.Ghosts F D} {disk : disk_of.Ghosts D
   pub tried_as : (a b : Shelf F D folder disk) (after also : List Hosted) → after ≡ also → IsTriedTo a b after → IsTriedTo a b also
   tried_as a b after also e t = subst (λ hs. IsTriedTo a b hs) e t
 
-  grown_to : (hs : List Hosted) (name : Key) (added : Option DeltaOf) → AreAscending (names_of hs) → (d : DeltaOf) → added ≡ Some d → deltas_in (with_added hs name added) name ≡ deltas_in hs name ++ d ∷ []
-  grown_to hs name added up d e = ap (λ o. deltas_in (with_added hs name o) name) e ∙ grows_alone.there hs name d up
-
   pub tried_refused : (a b : Shelf F D folder disk) (name : Key) (s : Submission) (t : ℕ) → AreAscending (names_of (hosted_of a)) → ((m : Key) → m ≢ name → container_in b m ≡ container_in a m) → hosted_of b ≡ hosted_of a
       → (IsKept a → IsSettled a → IfSome (container_in b name) (IsFileWithin name (deltas_in (hosted_of a) name) (judged_in (hosted_of a) name s t).1)) → IsTriedTo a b (after_submission (hosted_of a) name s t)
   tried_refused a b name s t up others is within = record {
@@ -106,3 +108,7 @@ module _ {F D : Type 0} {folder : folder_of.Ghosts F D} {disk : disk_of.Ghosts D
         (λ c h. of_first c n (deltas_in (hosted_of a) n) (deltas_in (after_submission (hosted_of a) name s t) n) h) (settled_files a settled n)))
         (same_or_not n name);
   }
+
+  pub ended_memory : {A : Type 0} (a b : Shelf F D folder disk) (after : List Hosted) (r : Result A TurnFault) (e : TurnFault) → r ≡ Err e → e ≡ Memory → IsTriedTo a b after → IsEnded a b after r
+  ended_memory a b after r e is memory tried =
+      subst (λ (x : Result _ TurnFault). IsEnded a b after x) (sym (is ∙ ap (λ y. Err y) memory)) (record { settled = tt; failed = λ store. absurd (cc); store = λ store. absurd (cc); tried = tried })

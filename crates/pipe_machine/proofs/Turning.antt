@@ -9,7 +9,7 @@ use Rattle.std.specs.List.{list_any}
 use Rattle.doc_items.specs.Maps.{Key}
 use Rattle.disk_model.specs.declared.disk.Disk as disk_of
 use Rattle.wave_outside.specs.declared.folder.Folder as folder_of
-use Rattle.wavelet_shelf.specs.Hosting.{deltas_in}
+use Rattle.wavelet_shelf.specs.Hosting.{Hosted, deltas_in}
 use Rattle.wave_outside.specs.Counts.{Rose}
 use Rattle.wavelet_shelf.specs.Shelves.{hosted_of, in_folder, fault_count}
 use Rattle.wavelet_shelf.specs.declared.shelf.Shelf.{Shelf}
@@ -91,5 +91,5 @@ module _ {F D : Type 0} {folder : folder_of.Ghosts F D} {disk : disk_of.Ghosts D
   pub faults_later : (a b : Shelf F D folder disk) (may : Key → Bool) → IsMoved may a b → store_faults a ≤ store_faults b
   faults_later a b may m = where_later (in_folder a) (in_folder b) (fault_count a) (fault_count b) (used_there folder (IsFileAmong may) (in_folder a) (in_folder b) m.used) m.later
 
-  pub faults_rose : {A : Type 0} (a b : Shelf F D folder disk) (may : Key → Bool) (r : Result A TurnFault) → IsMoved may a b → IsEnded a b r → IsErrOf r Store → Rose (store_faults a) (store_faults b)
-  faults_rose a b may r m e store = where_rose (in_folder a) (in_folder b) (fault_count a) (fault_count b) (e.store store) (used_there folder (IsFileAmong may) (in_folder a) (in_folder b) m.used) (e.failed store)
+  pub faults_rose : {A : Type 0} (a b : Shelf F D folder disk) (may : Key → Bool) (after : List Hosted) (r : Result A TurnFault) → IsMoved may a b → IsEnded a b after r → IsErrOf r Store → Rose (store_faults a) (store_faults b)
+  faults_rose a b may after r m e store = where_rose (in_folder a) (in_folder b) (fault_count a) (fault_count b) (e.store store) (used_there folder (IsFileAmong may) (in_folder a) (in_folder b) m.used) (e.failed store)

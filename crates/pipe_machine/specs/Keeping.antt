@@ -79,6 +79,10 @@ submitted_in ts n = list_any (λ t. submits_to t.line n) ts
 abbrev pub IsFileAmong : (Key → Bool) → List ℕ → Type 0
 IsFileAmong may m = (n : Key) × (may n ≡ true) × (m ≡ file_name_of n)
 
+module _ {D : Type 0} {disk : disk_of.Ghosts D} where
+  abbrev pub IsFileOfEither : Key → List DeltaOf → List DeltaOf → Container D disk → Type 0
+  IsFileOfEither n ds es c = IfSome (journal_of c) (λ j. Kept (on_disk j) (λ bytes. StandsForHistory n ds bytes ⊎ StandsForHistory n es bytes))
+
 module _ {F D : Type 0} {folder : folder_of.Ghosts F D} {disk : disk_of.Ghosts D} where
   pub record IsMoved (may : Key → Bool) (a b : Shelf F D folder disk) : Type 0 where
     pub grown : (n : Key) → Begins (deltas_in (hosted_of a) n) (deltas_in (hosted_of b) n)
@@ -86,9 +90,6 @@ module _ {F D : Type 0} {folder : folder_of.Ghosts F D} {disk : disk_of.Ghosts D
     pub kept : IsKept a → IsKept b
     pub used : IsUsedIn folder (IsFileAmong may) (in_folder a) (in_folder b)
     pub later : fault_count a ≤ fault_count b
-
-  abbrev pub IsFileOfEither : Key → List DeltaOf → List DeltaOf → Container D disk → Type 0
-  IsFileOfEither n ds es c = IfSome (journal_of c) (λ j. Kept (on_disk j) (λ bytes. StandsForHistory n ds bytes ⊎ StandsForHistory n es bytes))
 
   pub record IsTriedTo (a b : Shelf F D folder disk) (after : List Hosted) : Type 0 where
     pub hosted : (hosted_of b ≡ hosted_of a) ⊎ (hosted_of b ≡ after)
