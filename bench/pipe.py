@@ -4,7 +4,8 @@
 PROGRAM is crates/wave/out/wave unless it is given (`rt run` in crates/wave builds it). Sessions take turns: each inserts a letter at the
 front of a document of its wavelet, made on the last version that was told. Every
 session has its wavelet open, so it is sent each delta of it. For 1, 4, 16 and 64 sessions on one wavelet and 64 sessions on 64, with
-and without a store, a line has the microseconds of processor time for one submission. What it costs to start the program and to open
+and without a store, a line has the microseconds of processor time for one submission. Then so many sessions on one wavelet type at
+once: each submission of a round is made on the head before the round, so all but the first are late. What it costs to start the program and to open
 the wavelets is measured by a run without submissions and taken off. The client waits for each answer.
 """
 
@@ -17,6 +18,7 @@ from pathlib import Path
 
 PROGRAM = sys.argv[1] if len(sys.argv) > 1 else Path(__file__).resolve().parent.parent / "crates" / "wave" / "out" / "wave"
 RUNS = [(1, 1), (4, 1), (16, 1), (64, 1), (64, 64)]
+TOGETHER = [4, 16]
 SUBMISSIONS = 2_000
 
 
@@ -38,8 +40,8 @@ class Pipe:
             elif told["type"] not in ("welcome", "snapshot", "update"):
                 sys.exit(f"unexpected: {told}")
 
-    def submit(self, session, wavelet, client, number, operations, answers):
-        version, host_hash = self.heads[wavelet]
+    def submit(self, session, wavelet, client, number, operations, answers, base=None):
+        version, host_hash = base or self.heads[wavelet]
         self.say(session, {"type": "submit", "wavelet": wavelet, "client": client, "number": number, "version": version, "hash": host_hash, "operations": operations}, answers)
 
     def end(self):
@@ -65,8 +67,8 @@ def zero_hash(wavelet):
     return told["hash"]
 
 
-def measured(sessions, wavelets, submissions, words):
-    """The cost of a run of so many submissions."""
+def begun(sessions, wavelets, words):
+    """A program with its sessions, and the names of their wavelets, which they have open."""
     pipe = Pipe(words)
     names = [f"a.com/w{number}/a.com/conv+root" for number in range(wavelets)]
     for number in range(sessions):
@@ -78,14 +80,33 @@ def measured(sessions, wavelets, submissions, words):
         pipe.submit(f"s{users[0]}", name, 1_000_000, 1, add, 1)
         for number in users:
             pipe.say(f"s{number}", {"type": "open", "wavelet": name})
+    return pipe, names
+
+
+def typed(letters):
+    """A letter in front of a document of so many."""
+    rest = [{"retain_item_count": letters}] if letters else []
+    return [{"type": "mutate", "document": "b+1", "operation": [{"characters": "x"}, *rest]}]
+
+
+def measured(sessions, wavelets, submissions, words):
+    """The cost of a run of so many submissions."""
+    pipe, names = begun(sessions, wavelets, words)
     told = 1 + sessions // wavelets
     for number in range(submissions):
         session = number % sessions
-        letters = number // wavelets
-        name = names[session % wavelets]
-        rest = [{"retain_item_count": letters}] if letters else []
-        change = {"type": "mutate", "document": "b+1", "operation": [{"characters": "x"}, *rest]}
-        pipe.submit(f"s{session}", name, session, number + 1, [change], told)
+        pipe.submit(f"s{session}", names[session % wavelets], session, number + 1, typed(number // wavelets), told)
+    return pipe.end()
+
+
+def measured_together(sessions, submissions):
+    """The cost of a run of so many submissions, of which those of a round are made on one head."""
+    pipe, (name,) = begun(sessions, 1, ["pipe"])
+    for number in range(submissions):
+        session = number % sessions
+        if session == 0:
+            base = pipe.heads[name]
+        pipe.submit(f"s{session}", name, session, number + 1, typed(number - session), 1 + sessions, base)
     return pipe.end()
 
 
@@ -99,3 +120,6 @@ for stored in (False, True):
             busy = measured(sessions, wavelets, SUBMISSIONS, words)
         cost = (busy - idle) * 1e6 / SUBMISSIONS
         print(f"{sessions} sessions on {wavelets} wavelets{' with a store' if stored else ''}: {cost:.0f} microseconds a submission")
+for sessions in TOGETHER:
+    cost = (measured_together(sessions, SUBMISSIONS) - measured_together(sessions, 0)) * 1e6 / SUBMISSIONS
+    print(f"{sessions} sessions that type at once: {cost:.0f} microseconds a submission")

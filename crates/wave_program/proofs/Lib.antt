@@ -1,4 +1,5 @@
 pub mod Completing
 pub mod LoadWords
 pub mod Piping
+pub mod Leaving
 pub mod Storing

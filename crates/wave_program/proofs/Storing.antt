@@ -40,10 +40,10 @@ use Rattle.wavelet_shelf.proofs.Sharing.{found_named}
 use Rattle.wavelet_shelf.proofs.Shelving.{deltas_of}
 use Rattle.wavelet_shelf.proofs.Still.{still_in_on, still_on, used_still}
 use Rattle.pipe_machine.specs.Held as Held
-use Rattle.pipe_machine.specs.Keeping.{Begins, submitted_in, IsFileAmong, IsMoved}
+use Rattle.pipe_machine.specs.Keeping.{Begins, submitted_in, IsFileAmong, IsFileOfEither, IsMoved}
 use Rattle.pipe_machine.specs.Machine.{start, sent}
 use Rattle.wave_program.specs.Pipe.{hosted_after}
-use Rattle.wave_program.specs.Store.{GoesOn, IsFileOf, IsStoredFrom, AreStored, AreStoredFrom, AreApartIn, IsLoaded, IsClosed, IsShelfRun, IsShelfUnloaded, IsStoredRun, IsUnloaded}
+use Rattle.wave_program.specs.Store.{GoesOn, IsFileOf, IsFileEither, IsStoredFrom, AreStored, AreStoredFrom, AreApartIn, IsLoaded, IsClosed, IsShelfRun, IsShelfUnloaded, IsStoredRun, IsUnloaded}
 
 pub damage_told : (o : Option (List ℕ × ℕ)) (P Q : List ℕ → ℕ → Type 0) → IsSome o → IfSome o (λ d. P d.0 d.1) → IfSome o (λ d. Q d.0 d.1) → (file : List ℕ) × (offset : ℕ) × P file offset × Q file offset
 damage_told None P Q e p q = absurd (cc)
@@ -74,6 +74,10 @@ either_goes_on h left bytes l s (inr one) (inr stands) = (
 put_back_from : {D : Type 0} (view : D → DiskView) (n : Key) (ds : List DeltaOf) (v : DiskView) (o : Option D) → Kept v (GoesOn n ds) → IsPutBack view v o → IsStoredFrom view o n ds
 put_back_from view n ds v None k back = absurd back
 put_back_from view n ds v (Some f) k back = record { seen = rw (back.seen) k.now; images = λ c left. k.left c (back.crash c left) }
+
+put_back_either : {D : Type 0} (view : D → DiskView) (o : Option D) (n : Key) (ds es : List DeltaOf) (v : DiskView) → Kept v (λ bytes. StandsForHistory n ds bytes ⊎ StandsForHistory n es bytes) → IsPutBack view v o → IsFileEither view o n ds es
+put_back_either view None n ds es v k back = absurd back
+put_back_either view (Some f) n ds es v k back = record { now = rw (back.seen) k.now; left = λ c left. k.left c (back.crash c left) }
 
 module _ {D : Type 0} {disk : disk_of.Ghosts D} where
   stored_goes_on : (h : HistoryOf) (j : Journal D disk) → IsStored h j → Kept (on_disk j) (GoesOn h.name h.deltas)
@@ -178,6 +182,16 @@ module _ {F D K : Type 0} (folder : folder_of.Ghosts F D) (disk : disk_of.Ghosts
       })
       back
 
+  -- a file that stands for the one history or the other before it is put back
+  left_either : (b : Shelf F D folder disk) (g : F) (n : Key) (ds es : List DeltaOf) → IsTrue disk.tells → IsKept b → AreApart b → IsClosed b g → deltas_in (hosted_of b) n ≢ [] → IfSome (container_in b n) (IsFileOfEither n ds es)
+      → IsFileEither disk.view (folder.files g (file_name_of n)) n ds es
+  left_either b g n ds es tells kept apart closed some either =
+      let x = has_container (entries_of b) n b.containers.in_order some in
+      let here = found_is (entries_of b) n x.filed x.is in
+      let held : IsHeld x.filed.container = all_found deltas_of (λ e. IsHeld e.1.container) (entries_of b) n x.filed kept.held x.is in
+      let back = if_some_at _ _ held.0 held.1 (if_some_at _ _ x.filed.container here (closed.back tells apart n)) in
+      put_back_either disk.view (folder.files g (file_name_of n)) n ds es (on_disk held.0) (if_some_at _ _ held.0 held.1 (if_some_at _ _ x.filed.container here either)) back
+
   stored_whole : (b : Shelf F D folder disk) (g : F) (hs : List Hosted) → IsKept b → IsSettled b → AreApart b → IsClosed b g → hosted_of b ≡ hs → AreStored disk.view (folder.files g) hs
   stored_whole b g hs kept settled apart closed is n some =
       let x = has_container (entries_of b) n b.containers.in_order (rw (is) some) in
@@ -227,6 +241,10 @@ module _ {F D K : Type 0} (folder : folder_of.Ghosts F D) (disk : disk_of.Ghosts
         stored = λ apart. stored_from b g (hosted_after (hosted_of m) o.run.turns) tells (o.moved.kept kept.0) (apart_at_end m b (o.run.turns ++ o.tried) o.moved apart) closed o.grown;
         whole = λ s apart.
             stored_whole b g (hosted_after (hosted_of m) o.run.turns) (o.moved.kept kept.0) ((o.whole s).1 kept.0 kept.1) (apart_at_end m b (o.run.turns ++ o.tried) o.moved apart) closed (o.whole s).0;
+        one = o.left.one;
+        left = λ apart n some.
+            left_either b g n (deltas_in (hosted_after (hosted_of m) o.run.turns) n) (deltas_in (hosted_after (hosted_of m) (o.run.turns ++ o.tried)) n) tells (o.moved.kept kept.0) (apart_at_end m b (o.run.turns ++ o.tried) o.moved apart) closed
+            (λ none. some (nothing_before (deltas_in (hosted_after (hosted_of m) o.run.turns) n) (deltas_in (hosted_of b) n) (o.grown n) none)) (o.left.files kept.0 kept.1 n);
         others = λ l none. others_at_end m b f g (o.run.turns ++ o.tried) folder_tells kept.0.filed o.moved (if_some_at _ _ f is (r.loaded.as_before tells)) (closed.others tells) l none;
       }
 
@@ -296,6 +314,8 @@ module _ {F D K : Type 0} (folder : folder_of.Ghosts F D) (disk : disk_of.Ghosts
     held = r.held;
     stored = r.stored;
     whole = r.whole;
+    one = r.one;
+    left = r.left;
     others = λ m none. subst (λ (o : Option D). IsAsBefore disk.view o (folder.files g m)) (same m) (r.others m none);
   }
 

@@ -1,8 +1,11 @@
 -- The command `pipe`.
 --     answers_over hs ts      what the machine that begins with these histories writes for these turns
 --     hosted_after hs ts      its histories then
+--     IsOneAtMost ts          there is one turn at most
+--     IsLeftOf a b ts us      a run over the shelf a answered the turns ts, and tried us: the histories are those of before that or those
+--                             it leads to, and each file stands for one of the two
 --     IsOver                  a run over a shelf: what it read and wrote, and the shelf before and behind it
-use Rattle.std.specs.Prelude.{◌≡◌, ℕ, List, ◌++◌, Option, true}
+use Rattle.std.specs.Prelude.{◌≡◌, ◌⊎◌, ℕ, List, [], ◌∷◌, ◌++◌, Option, IfSome, true}
 use Rattle.doc_items.specs.Maps.{Key}
 use Rattle.disk_model.specs.declared.disk.Disk as disk_of
 use Rattle.wave_outside.specs.declared.clock.Clock as clock_of
@@ -11,9 +14,9 @@ use Rattle.line_loop.specs.Lines.{turned, IsPrefix}
 use Rattle.line_loop.specs.Told.{IsRun}
 use Rattle.line_loop.specs.Turns.{Turn, lines_in}
 use Rattle.wavelet_shelf.specs.Hosting.{Hosted, deltas_in}
-use Rattle.wavelet_shelf.specs.Shelves.{hosted_of, IsKept, IsSettled}
+use Rattle.wavelet_shelf.specs.Shelves.{hosted_of, container_in, IsKept, IsSettled}
 use Rattle.wavelet_shelf.specs.declared.shelf.Shelf.{Shelf}
-use Rattle.pipe_machine.specs.Keeping.{Begins, IsMoved, submitted_in}
+use Rattle.pipe_machine.specs.Keeping.{Begins, IsFileOfEither, IsMoved, submitted_in}
 use Rattle.pipe_machine.specs.Lines.{lines_of}
 use Rattle.pipe_machine.specs.Machine.{start, sent, after}
 use Rattle.wave_program.specs.Run.{IsServing, IsWhole}
@@ -24,6 +27,15 @@ answers_over hs ts = lines_of (sent (start hs) ts)
 abbrev pub hosted_after : List Hosted → List Turn → List Hosted
 hosted_after hs ts = (after (start hs) ts).hosted
 
+abbrev pub IsOneAtMost : List Turn → Type 0
+IsOneAtMost ts = (ts ≡ []) ⊎ ((t : Turn) × (ts ≡ t ∷ []))
+
+module _ {F D : Type 0} {folder : folder_of.Ghosts F D} {disk : disk_of.Ghosts D} where
+  pub record IsLeftOf (a b : Shelf F D folder disk) (turns tried : List Turn) : Type 0 where
+    pub one : IsOneAtMost tried
+    pub hosted : (hosted_of b ≡ hosted_after (hosted_of a) turns) ⊎ (hosted_of b ≡ hosted_after (hosted_of a) (turns ++ tried))
+    pub files : IsKept a → IsSettled a → (n : Key) → IfSome (container_in b n) (IsFileOfEither n (deltas_in (hosted_after (hosted_of a) turns) n) (deltas_in (hosted_after (hosted_of a) (turns ++ tried)) n))
+
 module _ {F D K : Type 0} {folder : folder_of.Ghosts F D} {disk : disk_of.Ghosts D} (clock : clock_of.Ghosts K) where
   pub record IsOver (a b : Shelf F D folder disk) (was : K) (left0 left1 held0 held1 : Option (List ℕ)) (status : ℕ) : Type 0 where
     pub known : IsServing status
@@ -33,5 +45,6 @@ module _ {F D K : Type 0} {folder : folder_of.Ghosts F D} {disk : disk_of.Ghosts
     pub lines : IsPrefix (lines_in run.turns ++ lines_in tried) (turned true run.read)
     -- the shelf behind them
     pub moved : IsMoved (submitted_in (run.turns ++ tried)) a b
+    pub left : IsLeftOf a b run.turns tried
     pub grown : (n : Key) → Begins (deltas_in (hosted_after (hosted_of a) run.turns) n) (deltas_in (hosted_of b) n)
     pub whole : IsWhole status → (hosted_of b ≡ hosted_after (hosted_of a) run.turns) × (IsKept a → IsSettled a → IsSettled b)

@@ -4,6 +4,7 @@
 --     IsStoredFrom o n ds       so does the file, as it reads and in each image
 --     AreStored files hs        the file of each name that has a delta stands for its history, as it reads and in each image
 --     AreStoredFrom files hs    so it does for a history that begins with that
+--     IsFileEither o n ds es    as it reads, and in each image, the file stands for the one history of the name or the other
 --     AreApartIn P              no two names with P have one file
 --     IsBeforeIn a b            the files of no container read as before, and a crash leaves no more of them, or what they read
 --     IsLoaded a m              the shelf m is a with its files loaded
@@ -16,7 +17,7 @@ use Rattle.std.specs.Prelude.{◌≡◌, ◌≢◌, ◌⊎◌, ◌≤◌, ◌-�
 use Rattle.std.specs.List.{All}
 use Rattle.doc_items.specs.Maps.{Key}
 use Rattle.wavelet_op.specs.Deltas.{DeltaOf}
-use Rattle.disk_model.specs.Disk.{DiskView}
+use Rattle.disk_model.specs.Disk.{DiskView, Kept}
 use Rattle.disk_model.specs.declared.disk.Disk as disk_of
 use Rattle.wave_outside.specs.declared.clock.Clock as clock_of
 use Rattle.wave_outside.specs.declared.folder.Folder as folder_of
@@ -39,7 +40,7 @@ use Rattle.pipe_machine.specs.Keeping.{Begins, submitted_in}
 use Rattle.pipe_machine.specs.Machine.{start, sent}
 use Rattle.wave_program.specs.Damage.{damage_line}
 use Rattle.wave_program.specs.Run.{IsServing, IsWhole}
-use Rattle.wave_program.specs.Pipe.{answers_over, hosted_after, IsOver}
+use Rattle.wave_program.specs.Pipe.{answers_over, hosted_after, IsOneAtMost, IsOver}
 
 -- ---- files
 
@@ -64,6 +65,10 @@ module _ {D : Type 0} (view : D → DiskView) where
 
   abbrev pub AreStoredFrom : (List ℕ → Option D) → List Hosted → Type 0
   AreStoredFrom files hs = (n : Key) → deltas_in hs n ≢ [] → IsStoredFrom (files (file_name_of n)) n (deltas_in hs n)
+
+abbrev pub IsFileEither : {D : Type 0} → (D → DiskView) → Option D → Key → List DeltaOf → List DeltaOf → Type 0
+IsFileEither view None n ds es = ⊥
+IsFileEither view (Some f) n ds es = Kept (view f) (λ bytes. StandsForHistory n ds bytes ⊎ StandsForHistory n es bytes)
 
 abbrev pub AreApartIn : (Key → Type 0) → Type 0
 AreApartIn P = (n m : Key) → P n → P m → file_name_of n ≡ file_name_of m → n ≡ m
@@ -144,5 +149,9 @@ module _ {F D : Type 0} (folder : folder_of.Ghosts F D) (disk : disk_of.Ghosts D
     pub held : All (λ s. IsHeld (hosted_after hosted run.turns) s.message) (sent (start hosted) run.turns)
     pub stored : AreApartIn (λ n. (loaded n ≡ true) ⊎ (submitted_in (run.turns ++ tried) n ≡ true)) → AreStoredFrom disk.view (folder.files g) (hosted_after hosted run.turns)
     pub whole : IsWhole status → AreApartIn (λ n. (loaded n ≡ true) ⊎ (submitted_in (run.turns ++ tried) n ≡ true)) → AreStored disk.view (folder.files g) (hosted_after hosted run.turns)
+    -- one turn at most was tried; each file stands for its history before that, or for the one that it leads to
+    pub one : IsOneAtMost tried
+    pub left : AreApartIn (λ n. (loaded n ≡ true) ⊎ (submitted_in (run.turns ++ tried) n ≡ true)) → (n : Key) → deltas_in (hosted_after hosted run.turns) n ≢ []
+        → IsFileEither disk.view (folder.files g (file_name_of n)) n (deltas_in (hosted_after hosted run.turns) n) (deltas_in (hosted_after hosted (run.turns ++ tried)) n)
     -- the files of other names are as they were, but for what a sync settles
     pub others : (m : List ℕ) → ((n : Key) → (loaded n ≡ true) ⊎ (submitted_in (run.turns ++ tried) n ≡ true) → m ≢ file_name_of n) → IsAsBefore disk.view (folder.files f m) (folder.files g m)

@@ -1,10 +1,13 @@
 use Rattle.std.proofs.Common.{◌≡◌, ◌<◌, length, sym, ap, ◌∙◌, subst, inl, inr, refl}
 use Rattle.line_loop.specs.Lines.{IsPrefix}
 use Rattle.line_loop.specs.Turns.{lines_in}
-use Rattle.wavelet_shelf.specs.Shelves.{hosted_of}
+use Rattle.wavelet_shelf.specs.Shelves.{hosted_of, IsKept, IsSettled}
 use Rattle.pipe_machine.specs.Lines.{lines_of}
-use Rattle.pipe_machine.specs.Machine.{Pipe, start, sent, after}
+use Rattle.pipe_machine.specs.Machine.{Pipe, start, sent, turn, after}
 use Rattle.pipe_machine.specs.Pipes.{pipe_of}
+use Rattle.pipe_machine.proofs.Turning.{after_more}
+use Rattle.wave_program.specs.Pipe.{IsLeftOf}
+use Rattle.wave_program.proofs.Leaving.{left_of, left_still, left_tried}
 use Rattle.wave_program.proofs.Piping.{front_of, of_source, of_sink, of_store, serving}
 use Rattle.wave_program.proofs.pipe.serve_over.Goals as goal
 
@@ -36,6 +39,14 @@ returns-clause-over g c =
       tried = s.tried;
       lines = s.lines;
       moved = rw (← c.new-machine.ensures.shelf, c.into_shelf.ensures) s.moved;
+      left =
+          let reached : after (start (hosted_of c.args.shelf)) s.turns ≡ pipe_of s.mid = ap (λ (p : Pipe). after p s.turns) (sym is) ∙ s.reached in
+          let calm : IsKept c.args.shelf → IsSettled c.args.shelf → IsKept s.mid.shelf × IsSettled s.mid.shelf = λ kept settled. s.calm (rw (c.new-machine.ensures.shelf) kept, rw (c.new-machine.ensures.shelf) settled) in
+          rw (c.into_shelf.ensures)
+          (left_of s (λ us. IsLeftOf c.args.shelf c.run_lines-ending.new.machine.shelf s.turns us)
+          (λ same. left_still c.args.shelf s.mid.shelf c.run_lines-ending.new.machine.shelf s.turns (sym e) calm (λ i. (same i).shelf))
+          (λ t tried. left_tried c.args.shelf s.mid.shelf c.run_lines-ending.new.machine.shelf s.turns (sym e) calm t (turn (pipe_of s.mid) t.time t.line).pipe.hosted
+          (ap (λ (p : Pipe). (turn p t.time t.line).pipe.hosted) (sym reached) ∙ ap (λ (p : Pipe). p.hosted) (sym (after_more (start (hosted_of c.args.shelf)) s.turns t.time t.line))) tried));
       grown = λ n. rw (e, c.into_shelf.ensures) (s.since.grown n);
       whole = λ w.
           let here : c.run_lines-ending.new.machine ≡ s.mid = elim w [

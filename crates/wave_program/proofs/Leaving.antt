@@ -1,0 +1,52 @@
+-- What a run over lines leaves of the turn that it failed at.
+--     left_of         by what was tried
+--     left_still      nothing was
+--     left_tried      one turn was
+use Rattle.std.proofs.Common.{◌≡◌, ◌⊎◌, inl, inr, ⊎_elim, ℕ, List, Option, [], ◌∷◌, ◌++◌, IfSome, refl, sym, ap, subst, ◌∙◌}
+use Rattle.doc_items.specs.Maps.{Key}
+use Rattle.disk_model.specs.declared.disk.Disk as disk_of
+use Rattle.wave_outside.specs.declared.folder.Folder as folder_of
+use Rattle.line_loop.specs.declared.line_machine.LineMachine as machine_of
+use Rattle.wave_outside.specs.declared.clock.Clock as clock_of
+use Rattle.line_loop.specs.Run.{IsServed}
+use Rattle.line_loop.specs.Steps.{IsLeft}
+use Rattle.line_loop.specs.Turns.{Turn}
+use Rattle.wavelet_shelf.specs.Hosting.{Hosted, deltas_in}
+use Rattle.wavelet_shelf.specs.Shelves.{hosted_of, container_in, IsKept, IsSettled}
+use Rattle.wavelet_shelf.specs.declared.shelf.Shelf.{Shelf}
+use Rattle.pipe_machine.specs.Keeping.{IsFileOfEither, IsTriedTo}
+use Rattle.pipe_machine.proofs.Trying.{tried_still}
+use Rattle.wave_program.specs.Pipe.{hosted_after, IsLeftOf}
+
+left_by : {M : Type 0} (machine : machine_of.Ghosts M) (mid now : M) (P : List Turn → Type 0) → (now ≡ mid → P []) → ((t : Turn) → machine.tried mid t now → P (t ∷ [])) → (tried : List Turn) → IsLeft machine mid now tried → P tried
+left_by machine mid now P still one [] left = still left
+left_by machine mid now P still one (t ∷ []) left = one t left
+left_by machine mid now P still one (t ∷ u ∷ ts) left = absurd left
+
+pub left_of : {M K : Type 0} {machine : machine_of.Ghosts M} {clock : clock_of.Ghosts K} {start now : M} {was : K} {left0 left1 held0 held1 : Option (List ℕ)} {status : ℕ} (s : IsServed machine clock start now was left0 left1 held0 held1 status)
+    → (P : List Turn → Type 0) → (now ≡ s.mid → P []) → ((t : Turn) → machine.tried s.mid t now → P (t ∷ [])) → P s.tried
+left_of {machine = machine} {now = now} s P still one = left_by machine s.mid now P still one s.tried s.left
+
+module _ {F D : Type 0} {folder : folder_of.Ghosts F D} {disk : disk_of.Ghosts D} (a mid b : Shelf F D folder disk) (turns : List Turn)
+    (reached : hosted_of mid ≡ hosted_after (hosted_of a) turns) (calm : IsKept a → IsSettled a → IsKept mid × IsSettled mid) where
+  either_as : (after : List Hosted) (us : List Turn) → after ≡ hosted_after (hosted_of a) (turns ++ us) → IsTriedTo mid b after → IsKept a → IsSettled a → (n : Key)
+      → IfSome (container_in b n) (IsFileOfEither n (deltas_in (hosted_after (hosted_of a) turns) n) (deltas_in (hosted_after (hosted_of a) (turns ++ us)) n))
+  either_as after us leads t k s n =
+      subst (λ (hs : List Hosted). IfSome (container_in b n) (IsFileOfEither n (deltas_in hs n) (deltas_in (hosted_after (hosted_of a) (turns ++ us)) n))) reached
+      (subst (λ (hs : List Hosted). IfSome (container_in b n) (IsFileOfEither n (deltas_in (hosted_of mid) n) (deltas_in hs n))) leads (t.files (calm k s).0 (calm k s).1 n))
+
+  pub left_still : b ≡ mid → IsLeftOf a b turns []
+  left_still same =
+      let still : IsTriedTo mid b (hosted_after (hosted_of a) (turns ++ [])) = subst (λ (s : Shelf F D folder disk). IsTriedTo mid s (hosted_after (hosted_of a) (turns ++ []))) (sym same) (tried_still mid (hosted_after (hosted_of a) (turns ++ []))) in
+      record {
+        one = inl refl;
+        hosted = inl (ap hosted_of same ∙ reached);
+        files = either_as (hosted_after (hosted_of a) (turns ++ [])) [] refl still;
+      }
+
+  pub left_tried : (t : Turn) (after : List Hosted) → after ≡ hosted_after (hosted_of a) (turns ++ t ∷ []) → IsTriedTo mid b after → IsLeftOf a b turns (t ∷ [])
+  left_tried t after leads tried = record {
+    one = inr (t, refl);
+    hosted = ⊎_elim (λ before. inl (before ∙ reached)) (λ done. inr (done ∙ leads)) tried.hosted;
+    files = either_as after (t ∷ []) leads tried;
+  }
