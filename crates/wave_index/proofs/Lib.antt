@@ -1,0 +1,6 @@
+mod Changes
+mod Entries
+mod Taken
+mod Titles
+mod Versions
+mod Walks

@@ -1,0 +1,95 @@
+// Where a word stands.
+ghost use Rattle.std.specs.Prelude.{◌≡◌, ◌++◌, ◌∷◌, [], cond, map, nat_lt, IfOk, OnOk};
+ghost use Rattle.std.specs.FinMap.{keys};
+ghost use Rattle.std.specs.List.{filter};
+ghost use Rattle.document_words.specs.Words.{document_words, occurrences};
+ghost use Rattle.wave_index.specs.Inboxes.{is_hit, hit_at};
+
+use crate::answers::Hit;
+use crate::blips::is_manifest;
+use doc_items::Memory;
+use doc_rope::Rope;
+use document_words::{Word, WordCutter, letter};
+use std::alloc::Global;
+use wave_base::{DocumentName, WaveletName};
+use wavelet_state::WaveletState;
+
+// The words of a document, in order.
+fn document_words(alloc: Global, document: &Rope) -> Result<Vec<Word>, Memory>
+    ensures { IfOk result (λ v. v.items ≡ document_words document.now) }
+{
+    let mut cutter = WordCutter::new(alloc);
+    for place in 0..document.len() {
+        let Some(item) = document.item(place) else {
+            return cutter.finish();
+        };
+        cutter.put(letter(&item.content))?;
+    }
+    cutter.finish()
+}
+
+// Whether a document has the word.
+fn has_word(alloc: Global, document: &Rope, word: &Word) -> Result<bool, Memory>
+    ensures { IfOk result (λ b. b ≡ nat_lt 0 (occurrences word.now (document_words document.now))) }
+{
+    for other in document_words(alloc, document)?.as_slice() {
+        if word == other {
+            return Ok(true);
+        }
+    }
+    Ok(false)
+}
+
+// Whether the document has the word, and isn't the manifest.
+fn is_hit(
+    alloc: Global,
+    state: &WaveletState,
+    document: &DocumentName,
+    word: &Word,
+) -> Result<bool, Memory>
+    ensures { IfOk result (λ b. b ≡ is_hit state.now word.now document.now) }
+{
+    if is_manifest(document) {
+        return Ok(false);
+    }
+    match state.rope(document) {
+        Some(rope) => has_word(alloc, rope, word),
+        None => Ok(false),
+    }
+}
+
+// Puts the document behind the others, if it is a hit.
+fn put_hit(
+    alloc: Global,
+    name: &WaveletName,
+    state: &WaveletState,
+    document: &DocumentName,
+    word: &Word,
+    hits: &mut Vec<Hit>,
+) -> Result<(), Memory>
+    ensures { OnOk result (hits.new.items ≡ hits.old.items ++ cond (is_hit state.now word.now document.now) (hit_at name.now document.now ∷ []) []) }
+{
+    if is_hit(alloc, state, document, word)? {
+        let name = name.copy(alloc)?;
+        let document = document.copy(alloc)?;
+        hits.push(Hit { name, document })?;
+    }
+    Ok(())
+}
+
+/// Puts the documents of a state, but for the manifest, that have the word behind the others. The error is want of memory.
+pub(crate) fn put_hits(
+    alloc: Global,
+    name: &WaveletName,
+    state: &WaveletState,
+    word: &Word,
+    hits: &mut Vec<Hit>,
+) -> Result<(), Memory>
+    ensures { OnOk result (hits.new.items ≡ hits.old.items ++ map (hit_at name.now) (filter (is_hit state.now word.now) (keys state.now.documents))) }
+{
+    let documents = state.document_names(alloc)?;
+    for document in documents.as_slice() {
+        put_hit(alloc, name, state, document, word, hits)?;
+    }
+    Ok(())
+}

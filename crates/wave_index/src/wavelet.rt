@@ -1,0 +1,180 @@
+// A wavelet of an index.
+ghost use Rattle.std.specs.Prelude.{◌≡◌, ◌++◌, ◌∷◌, [], IfOk, IfErr, OnOk, OnErr};
+ghost use Rattle.delta_history.specs.Pushes.{IsRefused};
+ghost use Rattle.wave_index.specs.Blips.{named_version, is_unread, unread};
+ghost use Rattle.wave_index.specs.Changes.{end_of_delta};
+ghost use Rattle.wave_index.specs.Inboxes.{sees, line, line_for, hits_for};
+ghost use Rattle.wave_index.specs.Taken.{history_of};
+
+use crate::answers::{Hit, InboxLine};
+use crate::blips::{is_live, threads, title_of};
+use crate::changed::ChangedVersions;
+use crate::hits::put_hits;
+use conversation::{Id, Node};
+use delta_history::{History, HistoryFault};
+use doc_items::Memory;
+use document_words::Word;
+use std::alloc::{AllocError, Global};
+use std::marker::Model;
+use wave_base::{Address, BaseFault, DocumentName, WaveletName};
+use wavelet_op::AppliedDelta;
+
+/// A history, with the changed versions of its documents.
+pub(crate) struct Wavelet {
+    history: History,
+    changed: ChangedVersions,
+}
+
+impl Drop for Wavelet {
+    fn drop(self) {
+        let Wavelet {
+            history: _history,
+            changed: _changed,
+        } = self;
+    }
+}
+
+impl Model for Wavelet {
+    ghost use Rattle.wavelet_op.specs.contracts.delta.AppliedDelta as delta_row;
+    ghost use Rattle.wave_index.specs.Taken.{TakenOf, taken_code};
+    ghost use Rattle.wave_index.specs.Versions.{KeepsVersions};
+
+    ghost Value = { TakenOf };
+
+    ghost coded = { taken_code delta_row.the_row.coded };
+
+    ghost view = { λ w. record { name = w.history.name; deltas = w.history.deltas } };
+
+    ghost invariant = { λ w. KeepsVersions w.changed.map w.history.deltas };
+}
+
+// The version behind a delta.
+fn end_of(delta: &AppliedDelta) -> u64
+    ensures { result ≡ end_of_delta delta.now }
+{
+    let at = delta.from;
+    at.version + delta.ops.len()
+}
+
+impl Wavelet {
+    /// The wavelet of this name, without deltas.
+    pub fn new(alloc: Global, name: WaveletName) -> Wavelet
+        ensures { result ≡ record { name = name; deltas = [] } }
+    {
+        Wavelet {
+            history: History::new(alloc, name),
+            changed: ChangedVersions::new(alloc),
+        }
+    }
+
+    /// The delta is behind the others. The refusals are those of `push_applied`; after one, and after want of memory, the wavelet is as
+    /// it was.
+    pub fn take(&mut self, alloc: Global, delta: &AppliedDelta) -> Result<(), HistoryFault>
+        ensures ok { OnOk result (self.new ≡ record { name = self.old.name; deltas = self.old.deltas ++ delta.now ∷ [] }) }
+        ensures refused { IfErr result (IsRefused (history_of self.old) delta.now) }
+        ensures same { OnErr result (self.new ≡ self.old) }
+        ensures named { self.new.name ≡ self.old.name }
+    {
+        let end = end_of(delta);
+        self.changed.reserve_all(alloc, delta.ops.as_slice())?;
+        let copy = delta.copy(alloc)?;
+        match self.history.push_applied(alloc, copy) {
+            Ok(()) => {
+                self.changed.note_all(delta.ops.as_slice(), end);
+                Ok(())
+            }
+            Err(fault) => Err(fault),
+        }
+    }
+
+    // Whether the address is a participant at the head.
+    fn is_seen_by(&self, user: &Address) -> bool
+        ensures { result ≡ sees self.now user.now }
+    {
+        self.history.state().has(user)
+    }
+
+    // The changed version of the document that an id names; 0 where it names none.
+    fn version_of(&self, alloc: Global, id: &Id) -> Result<u64, Memory>
+        ensures { IfOk result (λ v. v ≡ named_version self.now.deltas id.now) }
+    {
+        match DocumentName::parse(alloc, id.as_str()) {
+            Ok(name) => Ok(self.changed.get(&name)),
+            Err(BaseFault::BadName) => Ok(0),
+            Err(BaseFault::BadAddress) => unreachable!(),
+            Err(BaseFault::Memory) => Err(AllocError),
+        }
+    }
+
+    // Whether this is a blip that isn't deleted, and changed behind the mark.
+    fn is_unread(&self, alloc: Global, node: &Node, mark: u64) -> Result<bool, Memory>
+        ensures { IfOk result (λ b. b ≡ is_unread self.now.deltas mark node.now) }
+    {
+        if !is_live(node.part) {
+            return Ok(false);
+        }
+        let version = self.version_of(alloc, &node.id)?;
+        Ok(version > mark)
+    }
+
+    // How many of the blips there are that aren't deleted, and changed behind the mark.
+    fn unread(&self, alloc: Global, nodes: &[Node], mark: u64) -> Result<u64, Memory>
+        ensures { IfOk result (λ n. n ≡ unread self.now.deltas mark nodes.now) }
+    {
+        let mut count = 0u64;
+        for node in nodes {
+            if self.is_unread(alloc, node, mark)? {
+                count += 1;
+            }
+        }
+        Ok(count)
+    }
+
+    // What an inbox shows.
+    fn line(&self, alloc: Global, mark: u64) -> Result<InboxLine, Memory>
+        ensures { IfOk result (λ l. l ≡ line self.now mark) }
+    {
+        let threads = threads(alloc, self.history.state())?;
+        let unread = self.unread(alloc, threads.as_slice(), mark)?;
+        let title = title_of(alloc, self.history.state(), threads.as_slice())?;
+        let name = self.history.name().copy(alloc)?;
+        Ok(InboxLine {
+            name,
+            version: self.history.head().version,
+            unread,
+            title,
+        })
+    }
+
+    /// Puts what the user's inbox shows, if the user is a participant, behind the others. The error is want of memory.
+    pub fn put_line(
+        &self,
+        alloc: Global,
+        user: &Address,
+        mark: u64,
+        lines: &mut Vec<InboxLine>,
+    ) -> Result<(), Memory>
+        ensures { OnOk result (lines.new.items ≡ lines.old.items ++ line_for self.now user.now mark) }
+    {
+        if self.is_seen_by(user) {
+            lines.push(self.line(alloc, mark)?)?;
+        }
+        Ok(())
+    }
+
+    /// Puts the documents that have the word, if the user is a participant, behind the others. The error is want of memory.
+    pub fn put_hits(
+        &self,
+        alloc: Global,
+        user: &Address,
+        word: &Word,
+        hits: &mut Vec<Hit>,
+    ) -> Result<(), Memory>
+        ensures { OnOk result (hits.new.items ≡ hits.old.items ++ hits_for self.now user.now word.now) }
+    {
+        if self.is_seen_by(user) {
+            put_hits(alloc, self.history.name(), self.history.state(), word, hits)?;
+        }
+        Ok(())
+    }
+}
