@@ -1,0 +1,6 @@
+use Rattle.std.proofs.Common.{◌≡◌, ◌++◌, drop, string_bytes}
+use Rattle.inbox_machine.specs.Printed.{lines_text}
+use Rattle.inbox_machine.proofs.printing.put_lines.Given as goal
+
+abbrev pub invariant-loop-line : goal.invariant-loop-line
+invariant-loop-line l = string_bytes l.out ++ lines_text (drop l.line-index l.lines) ≡ string_bytes l.initial.out ++ lines_text l.lines

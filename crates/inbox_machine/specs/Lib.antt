@@ -1,0 +1,4 @@
+pub mod Commands
+pub mod Inboxes
+pub mod Machine
+pub mod Printed
