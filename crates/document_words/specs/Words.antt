@@ -3,11 +3,11 @@
 --     letter_of c          the letter that a content is; None parts words
 --     letters items        the letters of items
 --     ended w ws           an open word in front of others; one without letters is none
---     words_from w ls      the words of letters behind an open word
+--     words_from w ls      the words of letters after an open word
 --     words ls             the words of letters
 --     document_words       those of a document
 --     occurrences w ws     how often a word is among others
---     CutOf, words_with    the words that were cut off, and the open one; with the words of letters behind them
+--     CutOf, words_with    the words that were cut off, and the open one; with the words of letters after them
 use Rattle.std.specs.Prelude.{ℕ, ◌+◌, Bool, cond, ◌||◌, nat_le, List, [], ◌∷◌, ◌++◌, map, Option, Some, None, encode_utf8}
 use Rattle.std.specs.Char.{is_ascii_alphanumeric}
 use Rattle.doc_items.specs.Maps.{Key, same_text}

@@ -82,7 +82,7 @@ impl WordCutter {
     }
 }
 
-// Puts a word behind others, if it has a letter.
+// Puts a word after others, if it has a letter.
 fn end_word(done: &mut Vec<Word>, word: Word) -> Result<(), Memory>
     ensures { OnOk result ((ws : List Key) → done.old.items ++ ended word ws ≡ done.new.items ++ ws) }
 {

@@ -1,6 +1,6 @@
 -- Lines one after the other.
 --     turn_on         a line, and then others
---     after_more      the machine behind one line more
+--     after_more      the machine after one line more
 --     lines_more      the lines of turns with one more
 use Rattle.std.proofs.Common.{◌≡◌, ℕ, List, [], ◌∷◌, ◌++◌, refl, sym, ap, ◌∙◌, append_assoc}
 use Rattle.line_loop.specs.Turns.{Turn, turn_at, lines_in}

@@ -4,7 +4,7 @@
 --     has_space t          there is a space
 --     search_of t          a search for a word, which is any text without a space
 --     read_of t            a wavelet is read up to a version
---     worded_of w t        the command of a first word with a text behind it
+--     worded_of w t        the command of a first word with a text after it
 --     only_of t            the command of a text without a space
 --     text_of t            the command of a text
 --     command_of line      the command of a line; None where it is none, as where the line isn't UTF-8

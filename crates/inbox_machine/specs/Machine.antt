@@ -3,7 +3,7 @@
 --     start hs user      nothing is read yet
 --     with_mark p n v    a wavelet is read up to a version
 --     answered p c       a command, and what it prints; None is a line that is none
---     turn p line        a line, and what it prints; behind the end nothing
+--     turn p line        a line, and what it prints; after the end nothing
 --     printed p ls       what lines print, one after the other
 --     after p ls         the machine then
 use Rattle.std.specs.Prelude.{ℕ, Bool, true, false, cond, List, [], ◌∷◌, ◌++◌, Option, Some, None}

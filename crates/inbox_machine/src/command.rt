@@ -56,7 +56,7 @@ fn number(text: &str) -> Option<u64>
     }
 }
 
-// What stands before and behind the first `separator`, an ASCII character; None where there is none.
+// What stands before and after the first `separator`, an ASCII character; None where there is none.
 fn cut(text: &str, separator: char) -> Option<(&str, &str)>
     requires { separator < 128 }
     ensures { MatchOption result (list_any (λ b. b == separator) text.now ≡ false) (λ p. IsCut separator text.now p.0.now p.1.now) }
@@ -102,7 +102,7 @@ fn read_of(alloc: Global, text: &str) -> Result<Option<Command>, Memory>
     }
 }
 
-// The command of a first word with a text behind it.
+// The command of a first word with a text after it.
 fn worded_of(alloc: Global, first: &str, rest: &str) -> Result<Option<Command>, Memory>
     ensures { IfOk result (λ o. o ≡ worded_of first.now rest.now) }
 {

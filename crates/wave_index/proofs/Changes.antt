@@ -1,4 +1,4 @@
--- Which operations change a document, and the changed versions behind one more delta.
+-- Which operations change a document, and the changed versions after one more delta.
 --     retains_keep       retains change nothing
 --     other_changes      an operation in normal form that has another component does
 --     first_other, all_retain    component by component

@@ -4,7 +4,7 @@
 --     same_taken, grown_taken, same_name     what becomes of a history, without its room
 --     kept_same, kept_on    its changed versions
 --     named_get         a history stands at its own name
---     named_insert, put_itself, with_next, with_first    the histories behind a delta
+--     named_insert, put_itself, with_next, with_first    the histories after a delta
 --     ok_to, err_to     where a call is done, or refused
 use Rattle.std.proofs.Common.{◌≡◌, ◌≢◌, ℕ, Bool, true, false, cond, List, [], ◌∷◌, ◌++◌, refl, sym, ap, subst, ◌∙◌, Option, Some, None, Result, Ok, Err, OnOk, OnErr, IfErr, IfSome, IsSome}
 use Rattle.std.specs.Option.{option_map_or}

@@ -1,7 +1,7 @@
 -- A title, item by item.
 --     one_more      an item that the title goes on with
 --     whole         an item before which it is whole
---     all_read      behind the last item
+--     all_read      after the last item
 --     title_absent, title_refused    there is no document
 use Rattle.std.proofs.Common.{◌≡◌, ◌≤◌, ◌<◌, ◌+◌, ◌-◌, ◌==◌, ◌&&◌, ◌||◌, not, ℕ, suc, zero, Bool, true, false, cond, List, [], ◌∷◌, ◌++◌, length, take, drop, slice_get, Some, None, refl, sym, ap, subst, ◌∙◌, arith, append-nil, append_assoc, true≢false}
 use Rattle.std.proofs.lemmas.Bool.Decides.{Decides-eqb, nat_tests}
@@ -20,7 +20,7 @@ use Rattle.wavelet_op.specs.States.{State, document_of, kept}
 use Rattle.wave_index.specs.Blips.{named_items}
 use Rattle.wave_index.specs.Titles.{ends_at, shown, begun_behind, line_from, max_title, title, is_begun, is_whole}
 
--- what is left of a title behind some of its characters
+-- what is left of a title after some of its characters
 abbrev pub rest_of : List ℕ → List Item → List ℕ
 rest_of t items = take (max_title - length t) (line_from (is_begun t) items)
 

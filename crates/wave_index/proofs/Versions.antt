@@ -27,7 +27,7 @@ there_still : (b : Bool) (v : ℕ) (o : Option ℕ) → IsSome o → IsSome (con
 there_still true v o h = refl
 there_still false v o h = h
 
--- what a map answers behind a change at k
+-- what a map answers after a change at k
 abbrev pub Answers : Versions → Versions → Key → ℕ → Type 0
 Answers m n k v = (q : Key) → tree.get (slice_cmp nat_cmp) n q ≡ cond (is_eq (slice_cmp nat_cmp k q)) (Some v) (tree.get (slice_cmp nat_cmp) m q)
 

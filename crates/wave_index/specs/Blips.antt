@@ -5,7 +5,7 @@
 --     named_items s id       the items of the document that an id names; an id that is no document's name names none
 --     named_version ds id    its changed version
 --     title_of s ns          the title of the first blip that isn't deleted; empty where there is none
---     is_unread ds mark n    a blip that isn't deleted, and whose document changed behind the mark
+--     is_unread ds mark n    a blip that isn't deleted, and whose document changed after the mark
 --     unread ds mark ns      how many there are
 use Rattle.std.specs.Prelude.{ℕ, ◌+◌, Bool, true, false, cond, ◌&&◌, not, nat_lt, codes, List, [], ◌∷◌}
 use Rattle.doc_items.specs.Maps.{Key}

@@ -6,7 +6,7 @@
 --     point_of t            the point at its head
 --     deltas_in m n         the deltas of a name; none where nothing was taken
 --     history_in m n        the history of a name
---     with_delta m n d      the histories, with one delta more behind those of a name
+--     with_delta m n d      the histories, with one delta more after those of a name
 --     AreNamed m            each history stands at its own name
 use Rattle.std.specs.Prelude.{◌≡◌, ℕ, List, [], ◌∷◌, ◌++◌, refl, IfSome}
 use Rattle.std.specs.Coded.{Coded, code_by, coded_list, coded_ℕ, coded×}

@@ -2,7 +2,7 @@
 --     is_line kind          an element of this type begins a line
 --     ends_at begun c       the line ends before this content, where it has a character already
 --     shown c               the characters that a content adds
---     begun_behind begun c  whether the line has a character behind the content
+--     begun_behind begun c  whether the line has a character after the content
 --     line_from begun items the characters of the line that is left of these items
 --     max_title             how many characters a title has at most
 --     title items           the title

@@ -5,7 +5,7 @@
 --     KeepsAll m n           the versions stay, and what is there stays there
 --     HasRoom m o            there is one for the document that an operation is on
 --     is_retain c            the component lets items stay
---     KeepsVersions m ds     they are the changed versions behind deltas
+--     KeepsVersions m ds     they are the changed versions after deltas
 use Rattle.std.specs.Prelude.{◌≡◌, ℕ, Bool, true, false, is_some, IsSome, unwrap_or, List}
 use Rattle.std.specs.BTreeMap as tree
 use Rattle.std.specs.Cmp.Lexicographic.{slice_cmp}

@@ -7,7 +7,7 @@ pub struct InboxLine {
     pub name: WaveletName,
     /// The version at the head.
     pub version: u64,
-    /// The number of blips that changed behind the mark and aren't deleted.
+    /// The number of blips that changed after the mark and aren't deleted.
     pub unread: u64,
     /// The first line of the first blip that isn't deleted, at most 80 characters; empty where there is none.
     pub title: Text,

@@ -13,7 +13,7 @@ use std::collections::BTreeMap;
 use wave_base::DocumentName;
 use wavelet_op::WaveletOp;
 
-/// The versions behind the last deltas that changed documents, by name.
+/// The versions after the last deltas that changed documents, by name.
 pub(crate) struct ChangedVersions {
     pub map: BTreeMap<DocumentName, u64>,
 }

@@ -58,7 +58,7 @@ fn is_hit(
     }
 }
 
-// Puts the document behind the others, if it is a hit.
+// Puts the document after the others, if it is a hit.
 fn put_hit(
     alloc: Global,
     name: &WaveletName,
@@ -77,7 +77,7 @@ fn put_hit(
     Ok(())
 }
 
-/// Puts the documents of a state, but for the manifest, that have the word behind the others. The error is want of memory.
+/// Puts the documents of a state, but for the manifest, that have the word after the others. The error is want of memory.
 pub(crate) fn put_hits(
     alloc: Global,
     name: &WaveletName,

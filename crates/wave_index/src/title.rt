@@ -34,7 +34,7 @@ fn is_whole(text: &[char], content: &Content) -> bool
     text.len() == MAX_TITLE || ends_at(!text.is_empty(), content)
 }
 
-// Puts the character that the content is, if it is one, behind the others.
+// Puts the character that the content is, if it is one, after the others.
 fn put_shown(content: &Content, text: &mut Vec<char>) -> Result<(), Memory>
     ensures { OnOk result (text.new.items ≡ text.old.items ++ shown content.now) }
 {

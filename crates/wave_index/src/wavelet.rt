@@ -48,7 +48,7 @@ impl Model for Wavelet {
     ghost invariant = { λ w. KeepsVersions w.changed.map w.history.deltas };
 }
 
-// The version behind a delta.
+// The version after a delta.
 fn end_of(delta: &AppliedDelta) -> u64
     ensures { result ≡ end_of_delta delta.now }
 {
@@ -67,7 +67,7 @@ impl Wavelet {
         }
     }
 
-    /// The delta is behind the others. The refusals are those of `push_applied`; after one, and after want of memory, the wavelet is as
+    /// The delta is after the others. The refusals are those of `push_applied`; after one, and after want of memory, the wavelet is as
     /// it was.
     pub fn take(&mut self, alloc: Global, delta: &AppliedDelta) -> Result<(), HistoryFault>
         ensures ok { OnOk result (self.new ≡ record { name = self.old.name; deltas = self.old.deltas ++ delta.now ∷ [] }) }
@@ -106,7 +106,7 @@ impl Wavelet {
         }
     }
 
-    // Whether this is a blip that isn't deleted, and changed behind the mark.
+    // Whether this is a blip that isn't deleted, and changed after the mark.
     fn is_unread(&self, alloc: Global, node: &Node, mark: u64) -> Result<bool, Memory>
         ensures { IfOk result (λ b. b ≡ is_unread self.now.deltas mark node.now) }
     {
@@ -117,7 +117,7 @@ impl Wavelet {
         Ok(version > mark)
     }
 
-    // How many of the blips there are that aren't deleted, and changed behind the mark.
+    // How many of the blips there are that aren't deleted, and changed after the mark.
     fn unread(&self, alloc: Global, nodes: &[Node], mark: u64) -> Result<u64, Memory>
         ensures { IfOk result (λ n. n ≡ unread self.now.deltas mark nodes.now) }
     {
@@ -146,7 +146,7 @@ impl Wavelet {
         })
     }
 
-    /// Puts what the user's inbox shows, if the user is a participant, behind the others. The error is want of memory.
+    /// Puts what the user's inbox shows, if the user is a participant, after the others. The error is want of memory.
     pub fn put_line(
         &self,
         alloc: Global,
@@ -162,7 +162,7 @@ impl Wavelet {
         Ok(())
     }
 
-    /// Puts the documents that have the word, if the user is a participant, behind the others. The error is want of memory.
+    /// Puts the documents that have the word, if the user is a participant, after the others. The error is want of memory.
     pub fn put_hits(
         &self,
         alloc: Global,

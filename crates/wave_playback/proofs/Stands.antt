@@ -1,10 +1,10 @@
 -- Where a playback stands.
 --     ends_at              a delta of a legal history ends where the next one starts, or at the head
---     count_is, is_place   how many deltas lead up to the version behind the first k: k
+--     count_is, is_place   how many deltas lead up to the version after the first k: k
 --     there_shown          what is shown there
 --     end_shown            a version is a delta end exactly where so many deltas lead up to it
---     start_shown, counted what is shown behind the first k deltas; the version that so many deltas lead up to
---     goes_on, next_at     a delta on: it applies, and leads to the state behind it
+--     start_shown, counted what is shown after the first k deltas; the version that so many deltas lead up to
+--     goes_on, next_at     a delta on: it applies, and leads to the state after it
 --     back_at, kept_more   a delta back: its inverse leads to the state before it; one more that is kept
 --     at_the_start         where a playback begins
 --     IsOn, IsOff, IsSought     what a move answers, and where the playback is then
@@ -67,7 +67,7 @@ some_at [] k h = absurd (omega (arith, h))
 some_at (x ∷ xs) zero h = (x, refl)
 some_at (x ∷ xs) (suc k) h = some_at xs k (omega (arith, h))
 
--- at least k deltas start below the version behind the first k, and not one more
+-- at least k deltas start below the version after the first k, and not one more
 least : (h : HistoryOf) (k : ℕ) → IsLegal h.name h.deltas → k ≤ length h.deltas → k ≤ started_below (version_at h k) h.deltas
 least h zero l w = omega arith
 least h (suc k) l w =
@@ -142,7 +142,7 @@ next_state ds k s d e at =
 
 -- ---- a delta back
 
--- the state before a delta leads to the one behind it, to which the kept inverse applies
+-- the state before a delta leads to the one after it, to which the kept inverse applies
 pub before_some : (h : HistoryOf) (k : ℕ) → IsLegal h.name h.deltas → (s : State) × (state_behind h.deltas k ≡ Some s)
 before_some h k l = go (state_behind h.deltas k) refl (front_runs h.name h.deltas k l)
   where

@@ -1,8 +1,8 @@
 -- The law of playing backwards.
 --     inverses s ds      what takes deltas back that apply in turn from a state: the inverse of the last one first, each at the state
 --                        before its delta
---     run_each s lists   the state behind lists of acts, one list after the other
---     LeadBack           the inverses of the deltas behind a point of a legal history lead from its head to the state there
+--     run_each s lists   the state after lists of acts, one list after the other
+--     LeadBack           the inverses of the deltas after a point of a legal history lead from its head to the state there
 use Rattle.std.specs.Prelude.{◌≡◌, ℕ, List, [], ◌∷◌, ◌++◌, Option, Some, option_and_then}
 use Rattle.std.specs.Option.{option_map_or}
 use Rattle.wavelet_op.specs.Acts.{Act}

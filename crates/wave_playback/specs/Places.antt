@@ -1,7 +1,7 @@
 -- Where a playback stands in the list of deltas.
---     version_at h k       the version behind the first k deltas
---     IsThere h k v s      the version and the state behind them, in a history that is legal
---     IsBack ds k o        what takes back the delta at a place leads from the state behind it to the one before; None where it isn't kept
+--     version_at h k       the version after the first k deltas
+--     IsThere h k v s      the version and the state after them, in a history that is legal
+--     IsBack ds k o        what takes back the delta at a place leads from the state after it to the one before; None where it isn't kept
 --     AreBacks ds backs    so it is for each of the first deltas
 use Rattle.std.specs.Prelude.{◌≡◌, ℕ, suc, ◌≤◌, List, length, slice_get, Option, Some, IfSome}
 use Rattle.wavelet_op.specs.Acts.{meanings}

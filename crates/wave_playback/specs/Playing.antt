@@ -1,7 +1,7 @@
 -- What a playback shows, and where it goes.
 --     PlaybackOf         the history, and the version that is shown
 --     shown_at h v       the state of the history at a version; None where the version is no delta end
---     next_end h v       the version behind the delta that was applied at a version; None where none was
+--     next_end h v       the version after the delta that was applied at a version; None where none was
 --     last_start h v     the version at which the delta was applied that leads to a version; None where none does
 --     moved p o          whether there is a version to go to, and the playback there; without one it stays
 --     forward, back, sought      a delta on, a delta back, and to a version

@@ -7,7 +7,7 @@ ghost use Rattle.wave_playback.specs.Places.{version_at};
 use delta_history::History;
 use wavelet_op::AppliedDelta;
 
-/// The version behind the first `place` deltas.
+/// The version after the first `place` deltas.
 pub(crate) fn version_at(history: &History, place: usize) -> u64
     ensures { result ≡ version_at history.now place }
 {

@@ -13,11 +13,11 @@ use std::alloc::{AllocError, Global};
 use wavelet_op::{Ops, WaveletFault};
 use wavelet_state::{WaveletState, apply_delta, apply_inverting};
 
-/// What takes the first deltas of a history back, each from the state behind it to the one before; None where that has more
+/// What takes the first deltas of a history back, each from the state after it to the one before; None where that has more
 /// operations than a delta may have.
 pub(crate) type Backs = Vec<Option<Ops>>;
 
-// The state is behind the operations, which are valid there.
+// The state is after the operations, which are valid there.
 fn lead_on(alloc: Global, state: &mut WaveletState, ops: &Ops) -> Result<(), Memory>
     requires { IsSome (run state.old (meanings ops.now)) }
     ensures ok { OnOk result (run state.old (meanings ops.now) ≡ Some state.new) }
@@ -59,7 +59,7 @@ fn keep(backs: &mut Backs, back: Option<Ops>)
     }
 }
 
-// The state is behind the delta at the place, whose inverse is the next to be kept.
+// The state is after the delta at the place, whose inverse is the next to be kept.
 fn step_first(
     alloc: Global,
     history: &History,
@@ -84,7 +84,7 @@ fn step_first(
     Ok(())
 }
 
-// The state is behind the delta at the place, whose inverse is kept.
+// The state is after the delta at the place, whose inverse is kept.
 fn step_again(
     alloc: Global,
     history: &History,
@@ -101,7 +101,7 @@ fn step_again(
     Ok(())
 }
 
-/// The state is behind the delta at the place, and what takes it back is kept. After want of memory the state is as it was.
+/// The state is after the delta at the place, and what takes it back is kept. After want of memory the state is as it was.
 pub(crate) fn step_on(
     alloc: Global,
     history: &History,
@@ -125,7 +125,7 @@ pub(crate) fn step_on(
     step_first(alloc, history, place, state, backs)
 }
 
-/// The state behind the first `place` deltas, which are applied for it.
+/// The state after the first `place` deltas, which are applied for it.
 pub(crate) fn replayed(
     alloc: Global,
     history: &History,

@@ -9,7 +9,7 @@ use doc_items::Memory;
 use std::alloc::Global;
 use wavelet_state::WaveletState;
 
-// The state behind the first `from` deltas is led on to the one behind the first `to`. After want of memory it is one between them.
+// The state after the first `from` deltas is led on to the one after the first `to`. After want of memory it is one between them.
 fn walk_on(
     alloc: Global,
     history: &History,
@@ -34,7 +34,7 @@ fn walk_on(
     Ok(())
 }
 
-// The state behind the first `from` deltas is led back to the one behind the first `to`. After want of memory it is one between them.
+// The state after the first `from` deltas is led back to the one after the first `to`. After want of memory it is one between them.
 fn walk_back(
     alloc: Global,
     history: &History,
@@ -58,7 +58,7 @@ fn walk_back(
     Ok(())
 }
 
-// The state behind the first `to` deltas, from a copy of the one behind the first `from`.
+// The state after the first `to` deltas, from a copy of the one after the first `from`.
 fn from_here(
     alloc: Global,
     history: &History,
@@ -87,7 +87,7 @@ fn from_here(
     }
 }
 
-// The state behind the first `to` deltas, from a copy of the history's own.
+// The state after the first `to` deltas, from a copy of the history's own.
 fn from_head(
     alloc: Global,
     history: &History,
@@ -105,8 +105,8 @@ fn from_head(
     Ok(state)
 }
 
-// The state behind the first `to` deltas, from the nearest state that is there: the empty one, the history's own where all inverses are
-// kept, or the one behind the first `from`.
+// The state after the first `to` deltas, from the nearest state that is there: the empty one, the history's own where all inverses are
+// kept, or the one after the first `from`.
 fn reach(
     alloc: Global,
     history: &History,
@@ -136,7 +136,7 @@ fn reach(
     from_here(alloc, history, from, to, shown, backs)
 }
 
-/// The state behind the first `from` deltas becomes the one behind the first `to`. A single delta is taken in place; for more of them a
+/// The state after the first `from` deltas becomes the one after the first `to`. A single delta is taken in place; for more of them a
 /// state of its own is led there, since after want of memory the state is as it was.
 pub(crate) fn go(
     alloc: Global,

@@ -16,7 +16,7 @@ use wavelet_state::{Back, WaveletState, apply_delta, apply_inverting};
 // So many deltas a state goes forward at most: a kept one is nearer than those that are farther.
 const FAR: usize = 64;
 
-/// A state behind some deltas of a history, with what takes the last of them back.
+/// A state after some deltas of a history, with what takes the last of them back.
 pub(crate) struct Trail {
     pub state: WaveletState,
     /// How many deltas come before those that can be taken back.
@@ -45,7 +45,7 @@ pub(crate) struct Tried {
 }
 
 impl Trail {
-    /// The state behind so many deltas, none of which can be taken back.
+    /// The state after so many deltas, none of which can be taken back.
     pub fn at(alloc: Global, state: WaveletState, place: usize) -> Trail
         ensures { (ds : List DeltaOf) → place ≤ length ds → state_behind ds place ≡ Some state → IsTrail ds result × (place_of result ≡ place) }
     {
@@ -168,7 +168,7 @@ impl Trail {
     }
 }
 
-// Goes back to the state behind so many deltas, where it is behind more.
+// Goes back to the state after so many deltas, where it is after more.
 fn go_back(
     alloc: Global,
     trail: &mut Trail,
@@ -187,7 +187,7 @@ fn go_back(
     Ok(())
 }
 
-// Goes forward to the state behind so many deltas.
+// Goes forward to the state after so many deltas.
 fn go_forward(
     alloc: Global,
     trail: &mut Trail,
@@ -208,7 +208,7 @@ fn go_forward(
     Ok(())
 }
 
-/// Goes to the state behind so many deltas; None where it can't go back so far, or would go far.
+/// Goes to the state after so many deltas; None where it can't go back so far, or would go far.
 pub(crate) fn reach(
     alloc: Global,
     trail: Trail,
@@ -229,7 +229,7 @@ pub(crate) fn reach(
     Ok(Some(trail))
 }
 
-// Whether the place is many deltas farther.
+// Whether the place is more than `FAR` deltas farther.
 fn is_far(trail: &Trail, place: usize) -> bool {
-    place / FAR > trail.first.saturating_add(trail.backs.len()) / FAR + 1
+    place.saturating_sub(FAR) > trail.first.saturating_add(trail.backs.len())
 }
