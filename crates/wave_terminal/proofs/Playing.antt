@@ -4,9 +4,10 @@
 --     out_front                    what a read printed begins what is printed for all
 --     cut_unread, cut_unwritten, cut_short  a read at which the run ended
 --     IsUnderWay                   what holds between two reads
+--     last_read                    a read of a run that no line had ended
 --     started, gone_on             at first, and after one read more
 --     at_the_end, at_quit, at_cut, at_limit  what is known where the run ends
-use Rattle.std.proofs.Common.{◌≡◌, ℕ, ◌+◌, ◌<◌, ◌≤◌, ◌⊎◌, inl, inr, true, cond, List, [], ◌∷◌, ◌++◌, length, take, drop, Option, Result, Ok, Err, refl, sym, ap, ◌∙◌, arith, append_assoc, append-nil, length-append}
+use Rattle.std.proofs.Common.{◌≡◌, ℕ, ◌+◌, ◌<◌, ◌≤◌, ◌⊎◌, inl, inr, true, false, cond, List, [], ◌∷◌, ◌++◌, length, take, drop, Option, Result, Ok, Err, refl, sym, ap, subst, ◌∙◌, arith, append_assoc, append-nil, length-append}
 use Rattle.std.proofs.lemmas.List.{take-append-drop, length-take}
 use Rattle.std.specs.Prelude.{⊤}
 use Rattle.std.specs.Result.{IsErrAnd}
@@ -16,7 +17,7 @@ use Rattle.line_loop.specs.Lines.{IsPrefix}
 use Rattle.line_loop.specs.Run.{byte_limit}
 use Rattle.line_loop.proofs.Telling.{Keeps-consumes, Consumes-none, Consumes-then, Appends-none, Appends-then}
 use Rattle.wave_terminal.specs.Play.{Play, begun, said, step, after, text, last_text, open_text, whole_text}
-use Rattle.wave_terminal.specs.Runs.{stop_status, status_of, IsPlayStatus, IsPlayed, IsPumped, IsCut}
+use Rattle.wave_terminal.specs.Runs.{stop_status, status_of, max_read, IsPlayStatus, IsAwake, IsPlayed, IsPumped, IsCut}
 use Rattle.wave_terminal.specs.declared.play.Stop.{Stop}
 use Rattle.wave_terminal.specs.declared.play.Stop.TheVariants.{Source, Sink, Memory, Limit}
 
@@ -118,6 +119,9 @@ module _ (h : HistoryOf) where
     after_is : (ys : List ℕ) → after h q ys ≡ after h (begun v) (u.read ++ ys)
     after_is ys = ap (λ (p : Play). after h p ys) u.goes ∙ sym (after_more (begun v) u.read ys)
 
+    pub last_read : q.quit ≡ false → (ys : List ℕ) → length ys ≤ max_read → IsAwake h v (u.read ++ ys)
+    last_read awake ys small = record { before = u.read; last = ys; parts = refl; awake = ap (λ (p : Play). p.quit) (sym u.goes) ∙ awake; small = small }
+
     pub gone_on : (r : Play) (c k : Option (List ℕ)) (got : ℕ) → 0 < got → IsPumped h q r b c j k got → IsUnderWay v r a c i k (taken + got)
     gone_on r c k got some p = record {
       read = u.read ++ p.read;
@@ -129,8 +133,8 @@ module _ (h : HistoryOf) where
       told = ap (λ z. u.written ++ z) (p.told some) ∙ told_more p.read;
     }
 
-    pub at_the_end : (r : Play) (c k : Option (List ℕ)) (got : ℕ) → got ≡ 0 → taken < byte_limit → IsPumped h q r b c j k got → IsPlayed h v a c i k 0
-    at_the_end r c k got none low p =
+    pub at_the_end : (r : Play) (c k : Option (List ℕ)) (got : ℕ) → got ≡ 0 → taken < byte_limit → q.quit ≡ false → IsPumped h q r b c j k got → IsPlayed h v a c i k 0
+    at_the_end r c k got none low awake p =
         let nothing : p.read ≡ [] = empty p.read (p.len ∙ none) in
         let all : u.written ++ p.written ≡ whole_text h (begun v) (u.read ++ p.read) =
         ap (λ z. u.written ++ z) (p.last none) ∙ ap (λ z. u.written ++ whole_text h q z) (sym nothing) ∙ whole_is p.read in
@@ -140,6 +144,7 @@ module _ (h : HistoryOf) where
           consumed = Consumes-then a b c u.read p.read u.consumed p.consumed;
           appended = Appends-then i j k u.written p.written u.appended p.appended;
           bound = omega (arith, length-append u.read p.read, u.len, p.len, none, low);
+          awake = last_read awake p.read (omega (arith, p.len, none));
           front = ([], append-nil (u.written ++ p.written) ∙ all);
           known = inl refl;
           done = λ e. (inl (p.end none), all);
@@ -153,8 +158,8 @@ module _ (h : HistoryOf) where
         empty [] e = refl
         empty (x ∷ xs) e = absurd (omega (arith, e))
 
-    pub at_quit : taken ≤ byte_limit → q.quit ≡ true → IsPlayed h v a b i j 0
-    at_quit low quit =
+    quit_here : taken ≤ byte_limit → IsAwake h v u.read → q.quit ≡ true → IsPlayed h v a b i j 0
+    quit_here low awake quit =
         let ended : (after h (begun v) u.read).quit ≡ true = ap (λ (p : Play). p.quit) (sym u.goes) ∙ quit in
         let all : u.written ≡ whole_text h (begun v) u.read = u.told ∙ sym (ap (λ z. text h (begun v) u.read ++ z) (quit_last (after h (begun v) u.read) ended) ∙ append-nil (text h (begun v) u.read)) in
         record {
@@ -163,6 +168,7 @@ module _ (h : HistoryOf) where
           consumed = u.consumed;
           appended = u.appended;
           bound = omega (arith, u.len, low);
+          awake = awake;
           front = ([], append-nil u.written ∙ all);
           known = inl refl;
           done = λ e. (inr ended, all);
@@ -172,13 +178,14 @@ module _ (h : HistoryOf) where
           at_limit = λ e. inl ended;
         }
 
-    pub at_the_limit : taken ≡ byte_limit → IsPlayed h v a b i j 10
-    at_the_limit full = record {
+    pub at_the_limit : taken ≡ byte_limit → q.quit ≡ false → IsPlayed h v a b i j 10
+    at_the_limit full awake = record {
       read = u.read;
       written = u.written;
       consumed = u.consumed;
       appended = u.appended;
       bound = omega (arith, u.len, full);
+      awake = subst (IsAwake h v) (append-nil u.read) (last_read awake [] (omega arith));
       front = (last_text h (after h (begun v) u.read), ap (λ z. z ++ last_text h (after h (begun v) u.read)) u.told);
       known = inr (inr (inr (inr refl)));
       done = λ e. absurd (omega (arith, e));
@@ -194,8 +201,8 @@ module _ (h : HistoryOf) where
     status_known Memory = inr (inr (inr (inl refl)))
     status_known Limit = inr (inr (inr (inr refl)))
 
-    pub at_cut : (c k : Option (List ℕ)) (room : ℕ) (e : Stop) → taken < byte_limit → taken + room ≤ byte_limit → IsCut h q room b c j k e → IsPlayed h v a c i k (stop_status e)
-    at_cut c k room e low fits p =
+    pub at_cut : (c k : Option (List ℕ)) (room : ℕ) (e : Stop) → taken < byte_limit → taken + room ≤ byte_limit → room ≤ max_read → q.quit ≡ false → IsCut h q room b c j k e → IsPlayed h v a c i k (stop_status e)
+    at_cut c k room e low fits chunk awake p =
         let whole = whole_is p.read in
         record {
           read = u.read ++ p.read;
@@ -203,6 +210,7 @@ module _ (h : HistoryOf) where
           consumed = Consumes-then a b c u.read p.read u.consumed p.consumed;
           appended = Appends-then i j k u.written p.written u.appended p.appended;
           bound = (let small = p.small in omega (arith, length-append u.read p.read, u.len, small, fits));
+          awake = last_read awake p.read (let small = p.small in omega (arith, small, chunk));
           front = (p.front.0, append_assoc u.written p.written p.front.0 ∙ ap (λ z. u.written ++ z) p.front.1 ∙ whole);
           known = status_known e;
           done = never_done _ e;
@@ -246,3 +254,9 @@ module _ (h : HistoryOf) where
         late Sink p x = inr (inr (inl refl))
         late Memory p x = inr (inr (inr refl))
         late Limit p x = absurd (p.never refl)
+
+  module _ (v : ℕ) (q : Play) (a b i j : Option (List ℕ)) (taken : ℕ) (u : IsUnderWay v q a b i j taken) where
+    pub at_quit : (r : Play) (c k : Option (List ℕ)) (got : ℕ) → 0 < got → got ≤ max_read → taken + got ≤ byte_limit → q.quit ≡ false → r.quit ≡ true → IsPumped h q r b c j k got → IsPlayed h v a c i k 0
+    unfolding gone_on
+    at_quit r c k got some chunk low awake quit p =
+        quit_here v r a c i k (taken + got) (gone_on v q a b i j taken u r c k got some p) low (last_read v q a b i j taken u awake p.read (let len = p.len in omega (arith, len, chunk))) quit

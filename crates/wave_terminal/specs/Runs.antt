@@ -1,10 +1,12 @@
 -- A run of commands over a playback.
 --     status_of r         the exit status of a run with this result
 --     IsPlayStatus s      the exit statuses: done; the source failed; the sink failed; out of memory; the byte limit
+--     max_read            the most bytes of one read
 --     play_of p b         a playback with the line that has begun
+--     IsAwake             no line had ended the run before its last read
 --     IsPlayed            what a run that ended with a status read and printed
 --     IsPumped, IsCut     one read of it, and one at which it ended
-use Rattle.std.specs.Prelude.{◌≡◌, ℕ, ◌<◌, ◌≤◌, ◌⊎◌, true, List, [], length, Option, Result, Ok, Err, ⊤}
+use Rattle.std.specs.Prelude.{◌≡◌, ℕ, ◌<◌, ◌≤◌, ◌⊎◌, true, false, List, [], ◌++◌, length, Option, Result, Ok, Err, ⊤}
 use Rattle.std.specs.Io.KnownBytes.{Appends, Consumes, IsAtEnd}
 use Rattle.delta_history.specs.Histories.{HistoryOf}
 use Rattle.line_loop.specs.Lines.{IsPrefix}
@@ -31,6 +33,17 @@ status_of (Err e) = stop_status e
 abbrev pub play_of : PlaybackOf → Begun → Play
 play_of p b = record { version = p.version; line = b.line.items; quit = b.quit }
 
+abbrev pub max_read : ℕ
+max_read = 65536
+
+-- bytes that were read from a version of a history on
+pub record IsAwake (h : HistoryOf) (v : ℕ) (read : List ℕ) : Type 0 where
+  pub before : List ℕ
+  pub last : List ℕ
+  pub parts : read ≡ before ++ last
+  pub awake : (after h (begun v) before).quit ≡ false
+  pub small : length last ≤ max_read
+
 -- from a version of a history on; the bytes that the source has left and that the sink holds, where they tell them: before and after
 pub record IsPlayed (h : HistoryOf) (v : ℕ) (left0 left1 held0 held1 : Option (List ℕ)) (status : ℕ) : Type 0 where
   pub read : List ℕ
@@ -38,6 +51,7 @@ pub record IsPlayed (h : HistoryOf) (v : ℕ) (left0 left1 held0 held1 : Option 
   pub consumed : Consumes left0 left1 read
   pub appended : Appends held0 held1 written
   pub bound : length read ≤ byte_limit
+  pub awake : IsAwake h v read
   pub front : IsPrefix written (whole_text h (begun v) read)
   -- what each status says
   pub known : IsPlayStatus status

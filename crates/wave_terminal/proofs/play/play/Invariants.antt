@@ -1,4 +1,4 @@
-use Rattle.std.proofs.Common.{◌≡◌, ◌≤◌, ◌-◌, ◌^◌}
+use Rattle.std.proofs.Common.{◌≡◌, false, ◌≤◌, ◌-◌, ◌^◌}
 use Rattle.wave_terminal.specs.Runs.{play_of}
 use Rattle.wave_terminal.proofs.Playing.{IsUnderWay}
 use Rattle.wave_terminal.proofs.play.play.Given as goal
@@ -7,6 +7,7 @@ abbrev pub invariant-loop-taken : goal.invariant-loop-taken
 invariant-loop-taken g l = record {
   history : l.playback.history ≡ l.fn.playback.history;
   under_way : IsUnderWay l.fn.playback.history l.fn.playback.version (play_of l.playback l.begun) (g.S.Source.left l.fn.source) (g.S.Source.left l.source) (g.W.Sink.written l.fn.sink) (g.W.Sink.written l.sink) l.taken;
+  awake : l.begun.quit ≡ false;
   small : l.taken ≤ 2 ^ 62;
   source_later : g.S.Source.faults l.fn.source ≤ g.S.Source.faults l.source;
   sink_later : g.W.Sink.faults l.fn.sink ≤ g.W.Sink.faults l.sink;
