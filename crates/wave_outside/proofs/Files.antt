@@ -12,7 +12,7 @@ use Rattle.std.proofs.lemmas.List.{append_assoc, append-nil, drop_all, drop_more
 use Rattle.disk_model.specs.Disk.{LeavesJust}
 use Rattle.disk_model.specs.Memory.{disk_view}
 use Rattle.disk_model.specs.declared.memory.MemoryDisk.{MemoryDisk}
-use Rattle.wave_outside.specs.Folders.{IsEmptyFile, IsHanded, IsAsBefore}
+use Rattle.wave_outside.specs.Folders.{IsEmptyFile, IsHanded, IsReadAlike}
 use Rattle.wave_outside.specs.MemoryFolders.{file_in, file_names, has_file, IsMade, IsFork, AreForks}
 use Rattle.wave_outside.specs.declared.memory_folder.StoredFile.{StoredFile}
 
@@ -102,13 +102,13 @@ same_names fs gs n e = by_name gs n ∙ ap (λ z. is_named z n) e ∙ sym (by_na
 
 -- ---- files that were forked
 
-pub alike_at : (fs gs : List StoredFile) → AreForks fs gs → (m : List ℕ) → IsAsBefore disk_view (file_in fs m) (file_in gs m)
+pub alike_at : (fs gs : List StoredFile) → AreForks fs gs → (m : List ℕ) → IsReadAlike disk_view (file_in fs m) (file_in gs m)
 alike_at [] [] forks m = tt
 alike_at [] (g ∷ gs) forks m = absurd forks
 alike_at (f ∷ fs) [] forks m = absurd forks
-alike_at (f ∷ fs) (g ∷ gs) forks m = subst (λ n. IsAsBefore disk_view (here f fs (test (string_bytes f.name) m) m) (here g gs (test n m) m)) (sym forks.0.named) (go (alike_at fs gs forks.1 m) (test (string_bytes f.name) m))
+alike_at (f ∷ fs) (g ∷ gs) forks m = subst (λ n. IsReadAlike disk_view (here f fs (test (string_bytes f.name) m) m) (here g gs (test n m) m)) (sym forks.0.named) (go (alike_at fs gs forks.1 m) (test (string_bytes f.name) m))
   where
-    go : IsAsBefore disk_view (file_in fs m) (file_in gs m) → (t : Bool) → IsAsBefore disk_view (here f fs t m) (here g gs t m)
+    go : IsReadAlike disk_view (file_in fs m) (file_in gs m) → (t : Bool) → IsReadAlike disk_view (here f fs t m) (here g gs t m)
     go rest true = forks.0.reads
     go rest false = rest
 

@@ -8,7 +8,7 @@ use Rattle.wave_outside.specs.declared.calls.Calls.{Calls}
 use Rattle.wave_outside.specs.declared.memory_folder.Entered.{Entered}
 use Rattle.wave_outside.specs.declared.memory_folder.StoredFile.{StoredFile}
 use Rattle.wave_outside.specs.declared.memory_folder.MemoryFolder.{MemoryFolder}
-use Rattle.wave_outside.specs.Folders.{IsHanded, ReadsAsBefore, Entry, FolderLog}
+use Rattle.wave_outside.specs.Folders.{IsHanded, ReadsAlike, Entry, FolderLog}
 use Rattle.disk_model.specs.Memory.{disk_view}
 
 abbrev pub file_in : List StoredFile → List ℕ → Option MemoryDisk
@@ -51,7 +51,7 @@ pub record IsExchanged (n : List ℕ) (d : MemoryDisk) (before after : List Stor
 -- a file of its own that has the same name and reads the same
 pub record IsFork (f g : StoredFile) : Type 0 where
   pub named : string_bytes g.name ≡ string_bytes f.name
-  pub reads : ReadsAsBefore (disk_view f.disk) (disk_view g.disk)
+  pub reads : ReadsAlike (disk_view f.disk) (disk_view g.disk)
 
 abbrev pub AreForks : List StoredFile → List StoredFile → Type 0
 AreForks [] [] = Unit {0}

@@ -1,6 +1,6 @@
 ghost use Rattle.std.specs.Prelude.{◌≡◌, ◌≢◌, ◌≤◌, ◌+◌, ◌-◌, ◌^◌, ℕ, min, Bool, true, List, Option, string_bytes, map, IsTrue, IfOk, IfErr, OnOk, OnErr};
 ghost use Rattle.wave_outside.specs.Counts.{Rose};
-ghost use Rattle.wave_outside.specs.Folders.{IsEmptyFile, IsHanded, IsPutBack, IsElsewhere, IsSame, IsAsBefore, AreNames, FolderLog, entered, used_log};
+ghost use Rattle.wave_outside.specs.Folders.{IsEmptyFile, IsHanded, IsPutBack, IsElsewhere, IsSame, IsReadAlike, AreNames, FolderLog, entered, used_log};
 ghost use Rattle.wave_outside.specs.declared.folder.FolderFault.TheVariants.{Failed};
 
 use disk_model::Disk;
@@ -119,7 +119,7 @@ pub trait Folder {
     where
         Self: Sized,
         ensures log { IfOk result (λ f. IsTrue tells → log f ≡ log self.now) }
-        ensures files { IfOk result (λ f. IsTrue tells → (m : List ℕ) → IsAsBefore Self.Disk.view (files self.now m) (files f m)) }
+        ensures files { IfOk result (λ f. IsTrue tells → (m : List ℕ) → IsReadAlike Self.Disk.view (files self.now m) (files f m)) }
         ensures room { IfOk result (λ f. IsSame (room self.now) (room f)) }
         ensures uncounted { IfOk result (λ f. faults f ≡ 0) }
         ensures failed { IfErr result (λ e. e ≢ Failed) };

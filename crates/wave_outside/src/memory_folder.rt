@@ -202,6 +202,22 @@ impl MemoryFolder {
         }
         Ok(push_empty(alloc, &mut self.list, name)?)
     }
+
+    // The disk of a file that is there. An empty one stands in its place.
+    fn take(&mut self, name: &str) -> MemoryDisk
+        requires there { has_file (folder_files self.old) name.now ≡ true }
+        ensures value { file_in (folder_files self.old) name.now ≡ Some result }
+        ensures others { IsElsewhere name.now (file_in (folder_files self.old)) (file_in (folder_files self.new)) }
+        ensures names { IsSame (has_file (folder_files self.old)) (has_file (folder_files self.new)) }
+        ensures log { folder_log self.new ≡ folder_log self.old }
+        ensures calls { folder_calls self.new ≡ folder_calls self.old }
+    {
+        let empty = empty(self.alloc);
+        match exchange(self.list.as_mut_slice(), name, empty) {
+            Some(disk) => disk,
+            None => unreachable!(),
+        }
+    }
 }
 
 impl Folder for MemoryFolder {
@@ -237,11 +253,8 @@ impl Folder for MemoryFolder {
         self.used = true;
         self.calls.make()?;
         self.make(alloc, name)?;
-        let empty = empty(self.alloc);
-        match exchange(self.list.as_mut_slice(), name, empty) {
-            Some(disk) => Ok(uncounted(disk)),
-            None => unreachable!(),
-        }
+        let (disk, _faults) = uncounted(self.take(name));
+        Ok(disk)
     }
 
     fn fresh(&mut self, alloc: Global, name: &str) -> Result<MemoryDisk, FolderFault> {
@@ -253,8 +266,7 @@ impl Folder for MemoryFolder {
 
     fn put(&mut self, name: &str, disk: MemoryDisk) {
         self.used = true;
-        let mut disk = disk;
-        let faults = disk.take_faults();
+        let (disk, faults) = uncounted(disk);
         let _before = exchange(self.list.as_mut_slice(), name, disk);
         self.calls.faults.add(faults);
     }
@@ -274,12 +286,13 @@ impl Folder for MemoryFolder {
     }
 }
 
-// The disk, with no fault counted.
-fn uncounted(disk: MemoryDisk) -> MemoryDisk
-    ensures same { IsSameFile (disk_view disk) (disk_view result) }
-    ensures uncounted { (disk_view result).faults ≡ 0 }
+// The disk, with no fault counted, and how many were.
+fn uncounted(disk: MemoryDisk) -> (MemoryDisk, u64)
+    ensures same { IsSameFile (disk_view disk) (disk_view result.0) }
+    ensures uncounted { (disk_view result.0).faults ≡ 0 }
+    ensures faults { result.1 ≡ (disk_view disk).faults }
 {
     let mut disk = disk;
-    let _faults = disk.take_faults();
-    disk
+    let faults = disk.take_faults();
+    (disk, faults)
 }

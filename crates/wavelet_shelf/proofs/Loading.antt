@@ -12,8 +12,9 @@ use Rattle.wavelet_op.specs.Deltas.{DeltaOf}
 use Rattle.disk_model.specs.Disk.{DiskView}
 use Rattle.disk_model.specs.declared.disk.Disk as disk_of
 use Rattle.delta_journal.specs.File.{HasName, HasNoHeader, NamedOnce}
-use Rattle.wave_outside.specs.Folders.{IsElsewhere, IsAsBefore}
+use Rattle.wave_outside.specs.Folders.{IsElsewhere, IsOld, IsAsBefore}
 use Rattle.wave_outside.specs.declared.folder.Folder as folder_of
+use Rattle.wave_outside.proofs.Handing.{adds_nothing}
 use Rattle.wavelet_container.specs.Containers.{IsHeld}
 use Rattle.wavelet_container.specs.Records.{records_of, StandsForHistory, IsDamagedHistory}
 use Rattle.wavelet_container.proofs.Loaded.{history_is_one, history_is_whole}
@@ -40,7 +41,7 @@ same_Some e = cc
 
 pub as_it_is : {K : Type 0} (view : K → DiskView) (o : Option K) → IsAsBefore view o o
 as_it_is view None = tt
-as_it_is view (Some f) = record { seen = refl; images = λ c left. inl left }
+as_it_is view (Some f) = record { seen = refl; images = λ c left. inl left; moments = adds_nothing (view f) (IsOld (view f)) }
 
 -- ---- what a file stands for
 

@@ -9,8 +9,9 @@ use Rattle.delta_journal.specs.File.{HasName, HasNoHeader}
 use Rattle.delta_journal.specs.Journal.{on_disk, needs_repair}
 use Rattle.delta_journal.specs.declared.journal.Journal.{Journal}
 use Rattle.wave_outside.specs.Counts.{Rose}
-use Rattle.wave_outside.specs.Folders.{IsSameFile, IsHanded, IsPutBack, IsElsewhere, IsSame, ReadsAsBefore, IsAsBefore}
+use Rattle.wave_outside.specs.Folders.{AddsOnly, IsSameFile, IsHanded, IsPutBack, IsElsewhere, IsSame, IsOld, ReadsAsBefore, IsAsBefore}
 use Rattle.wave_outside.specs.declared.folder.Folder as folder_of
+use Rattle.wave_outside.proofs.Handing.{adds_run, adds_more, adds_both, adds_handed, adds_back}
 use Rattle.wavelet_container.specs.Containers.{history_of, journal_of, IsHeld}
 use Rattle.wavelet_container.specs.Records.{StandsForHistory, IsDamagedHistory}
 use Rattle.wavelet_container.specs.declared.container.Container.{Container}
@@ -47,11 +48,15 @@ kept_rose f g s m rose = omega (arith, rose)
 kept_later : (f g s m : ℕ) → f ≤ g → min (f + s) m ≤ min (g + s) m
 kept_later f g s m le = omega (arith, le)
 
+old_handed : (x d : DiskView) → IsSameFile x d → (c : List ℕ) → IsOld d c → IsOld x c
+old_handed x d handed c old = ⊎_elim (λ was. inl (handed.crash c was)) (λ is. inr (is ∙ handed.seen)) old
+
 -- of the file that is there, of the disk that was handed out for it, and of the one that was put back
 put_back : (x d k y : DiskView) → IsSameFile x d → ReadsAsBefore d k → IsSameFile k y → ReadsAsBefore x y
 put_back x d k y handed read put = record {
   seen = put.seen ∙ read.seen ∙ handed.seen;
-  images = λ c left. ⊎_elim (λ old. inl (handed.crash c old)) (λ is. inr (is ∙ handed.seen)) (read.images c (put.crash c left));
+  images = λ c left. old_handed x d handed c (read.images c (put.crash c left));
+  moments = adds_back x k y (IsOld x) (adds_handed x d k (IsOld x) handed (adds_more d k (IsOld d) (IsOld x) (old_handed x d handed) read.moments)) put;
 }
 
 module _ {F D : Type 0} (folder : folder_of.Ghosts F D) {disk : disk_of.Ghosts D} (f : F) (m : List ℕ) (es : List (Key × Filed D disk)) where
@@ -72,6 +77,7 @@ module _ {F D : Type 0} (folder : folder_of.Ghosts F D) {disk : disk_of.Ghosts D
     is = read.is;
     read = read.read ∙ handed.seen;
     images = λ b left. read.images b left ∙ handed.seen;
+    moments = adds_handed (disk.view x) d (on_disk read.journal) (IsOld (disk.view x)) handed (adds_more d (on_disk read.journal) (IsOld d) (IsOld (disk.view x)) (old_handed (disk.view x) d handed) read.moments);
   }
 
   refused_from : (o : Option D) (d : DiskView) (offset : ℕ) → IsSome o → IsHanded disk.view o d → IsRefused m offset d.seen → IsRefusedFile disk.view o m offset
@@ -175,10 +181,17 @@ damage_as o a b P is damage = subst (λ l. IfSome o (λ x. (x.0 ≡ l) × P x.1)
 
 -- ---- what was only read before
 
+old_read : (x y : DiskView) → OnlyRead x y → (c : List ℕ) → IsOld y c → IsOld x c
+old_read x y first c old = ⊎_elim (λ was. first.images c was) (λ is. inr (is ∙ first.seen)) old
+
+adds_read : (x y z : DiskView) → OnlyRead x y → AddsOnly y z (IsOld y) → AddsOnly x z (IsOld x)
+adds_read x y z first second = adds_both x y z (IsOld x) (adds_run x y (IsOld x) first.moments) (adds_more y z (IsOld y) (IsOld x) (old_read x y first) second)
+
 then_read : (x y z : DiskView) → OnlyRead x y → ReadsAsBefore y z → ReadsAsBefore x z
 then_read x y z first second = record {
   seen = second.seen ∙ first.seen;
-  images = λ c left. ⊎_elim (λ old. first.images c old) (λ is. inr (is ∙ first.seen)) (second.images c left);
+  images = λ c left. old_read x y first c (second.images c left);
+  moments = adds_read x y z first second.moments;
 }
 
 risen_before : (a b c m : ℕ) → a ≤ b → min (b + 1) m ≤ c → min (a + 1) m ≤ c
@@ -205,6 +218,7 @@ module _ {K : Type 0} {disk : disk_of.Ghosts K} (m : List ℕ) (x y : DiskView) 
         is = read.is;
         read = read.read ∙ first.seen;
         images = λ b left. read.images b left ∙ first.seen;
+        moments = adds_read x y (on_disk read.journal) first read.moments;
       }
   opened_before (Passed k) opened = record {
     none = λ told. subst HasNoHeader first.seen (opened.none told);
@@ -243,6 +257,7 @@ module _ {K : Type 0} {disk : disk_of.Ghosts K} (m : List ℕ) (x : DiskView) (n
       is = h.1;
       read = (journal_at (journal_of c) (λ j. OnlyRead x (on_disk j)) read h.0 h.1).seen;
       images = journal_at (journal_of c) (λ j. LeavesJust x.seen (on_disk j)) synced h.0 h.1;
+      moments = adds_run x (on_disk h.0) (IsOld x) (journal_at (journal_of c) (λ j. OnlyRead x (on_disk j)) read h.0 h.1).moments;
     };
     held = held;
     safe = λ told. let h = held told in safe_file c h.0 h.1 h.2 (journal_at (journal_of c) (λ j. needs_repair j ≡ false) whole h.0 h.1);
@@ -251,7 +266,7 @@ module _ {K : Type 0} {disk : disk_of.Ghosts K} (m : List ℕ) (x : DiskView) (n
   pub unopened_of : (r : LoadRefused K) → ((offset : ℕ) → r.fault ≡ Damaged offset → IsTrue disk.tells → IsDamagedHistory name offset x.seen) → OnlyRead x (disk.view r.disk) → (r.fault ≡ DiskFault → HasRisen x (disk.view r.disk)) → IsOwnName name m → (IsTrue disk.tells → HasName (Some name) x.seen) → IsUnopened disk m x r
   unopened_of r damaged read failed own header = record {
     damaged = λ offset is told. inr (name, header told, inl (own, damaged offset is told));
-    as_before = record { seen = read.seen; images = read.images };
+    as_before = record { seen = read.seen; images = read.images; moments = adds_run x (disk.view r.disk) (IsOld x) read.moments };
     faults = read.faults;
     failed = failed;
   }

@@ -7,7 +7,7 @@
 --     is_part                    a part with those of its shard
 --     alike_as, alike_another    a folder is like itself, and another of it is like it
 --     none_more, with_last       counts of shelves, where one more comes; sums_set, where one is another
-use Rattle.std.proofs.Common.{◌≡◌, ◌≢◌, ℕ, zero, suc, ◌+◌, ◌≤◌, ◌<◌, Bool, true, false, cond, List, [], ◌∷◌, ◌++◌, length, insert, take, drop, map, filter, set, slice_get, slice_index_or, slice_set, is_some, Option, Some, None, IsSome, IfSome, IsTrue, refl, sym, ap, subst, ◌∙◌, true≢false, arith, append-nil}
+use Rattle.std.proofs.Common.{◌≡◌, ◌≢◌, inl, ℕ, zero, suc, ◌+◌, ◌≤◌, ◌<◌, Bool, true, false, cond, List, [], ◌∷◌, ◌++◌, length, insert, take, drop, map, filter, set, slice_get, slice_index_or, slice_set, is_some, Option, Some, None, IsSome, IfSome, IsTrue, refl, sym, ap, subst, ◌∙◌, true≢false, arith, append-nil}
 use Rattle.std.specs.Cmp.Lexicographic.{bytes_decides}
 use Rattle.std.specs.List.{AllByRecursion}
 use Rattle.std.specs.Map.{lookup, keys_of}
@@ -21,8 +21,9 @@ use Rattle.doc_items.specs.Maps.{Key, same_text}
 use Rattle.wave_hash.specs.Chain.{zero_hash_of}
 use Rattle.wavelet_op.specs.Deltas.{DeltaOf}
 use Rattle.delta_history.specs.Copying.{AscendFrom, AreAscending}
+use Rattle.disk_model.specs.Disk.{DiskView}
 use Rattle.disk_model.specs.declared.disk.Disk as disk_of
-use Rattle.wave_outside.specs.Folders.{IsSame, IsAsBefore, FolderLog}
+use Rattle.wave_outside.specs.Folders.{IsSame, IsReadAlike, FolderLog}
 use Rattle.wave_outside.specs.declared.folder.Folder as folder_of
 use Rattle.wavelet_container.specs.Containers.{history_of, IsHeld}
 use Rattle.wavelet_shelf.specs.Entries.{found, hosting, history_at, shown_by, faults_of, faults_in, IsPlace, IsPut, IsNamed, AreInOrder, FitsFolder, FitFolder, IsSafe}
@@ -32,7 +33,6 @@ use Rattle.wavelet_shelf.specs.Parts.{is_in, entries_in, fault_sums, IsPart, IsA
 use Rattle.wavelet_shelf.specs.Shelves.{entries_of, in_folder, container_in, folder_faults, fault_sum}
 use Rattle.wavelet_shelf.specs.declared.filed.Filed.{Filed}
 use Rattle.wavelet_shelf.specs.declared.shelf.Shelf.{Shelf}
-use Rattle.wavelet_shelf.proofs.Loading.{as_it_is}
 use Rattle.wavelet_shelf.proofs.Names.{below_none, lower, any}
 use Rattle.wavelet_shelf.proofs.Placing.{found_above, all_last, all_front, length_keys}
 use Rattle.wavelet_shelf.proofs.Shelving.{deltas_of, count_of, faults_total}
@@ -205,12 +205,16 @@ map_cond : {X Y : Type 0} (f : X → Y) (t : Bool) (o : Option X) → option_map
 map_cond f true o = refl
 map_cond f false o = refl
 
+alike_itself : {K : Type 0} (view : K → DiskView) (o : Option K) → IsReadAlike view o o
+alike_itself view None = tt
+alike_itself view (Some f) = record { seen = refl; images = λ c left. inl left }
+
 module _ {F D : Type 0} (folder : folder_of.Ghosts F D) (disk : disk_of.Ghosts D) where
   pub alike_as : (o : Option F) → AreAlike folder disk o o
   alike_as None = tt
-  alike_as (Some f) = record { room = λ m. refl; still = still_as folder f; files = λ told m. as_it_is disk.view (folder.files f m) }
+  alike_as (Some f) = record { room = λ m. refl; still = still_as folder f; files = λ told m. alike_itself disk.view (folder.files f m) }
 
-  pub alike_another : (f g : F) → IsSame (folder.room f) (folder.room g) → (IsTrue folder.tells → folder.log g ≡ folder.log f) → (IsTrue folder.tells → (m : List ℕ) → IsAsBefore disk.view (folder.files f m) (folder.files g m)) → IsAlike folder disk f g
+  pub alike_another : (f g : F) → IsSame (folder.room f) (folder.room g) → (IsTrue folder.tells → folder.log g ≡ folder.log f) → (IsTrue folder.tells → (m : List ℕ) → IsReadAlike disk.view (folder.files f m) (folder.files g m)) → IsAlike folder disk f g
   alike_another f g room log files = record { room = room; still = λ told. ap (λ (l : FolderLog). l.entries) (log told); files = files }
 
   fits_like : (o p : Option F) (es : List (Key × Filed D disk)) → AreAlike folder disk o p → FitFolder folder.room o es → FitFolder folder.room p es

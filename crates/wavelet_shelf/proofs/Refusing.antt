@@ -11,8 +11,9 @@ use Rattle.doc_items.specs.Maps.{Key, same_text}
 use Rattle.delta_history.specs.Copying.{AreAscending}
 use Rattle.disk_model.specs.declared.disk.Disk as disk_of
 use Rattle.delta_journal.specs.Journal.{on_disk}
-use Rattle.wave_outside.specs.Folders.{IsPutBack, IsAsBefore}
+use Rattle.wave_outside.specs.Folders.{IsOld, IsPutBack, IsAsBefore}
 use Rattle.wave_outside.specs.declared.folder.Folder as folder_of
+use Rattle.wave_outside.proofs.Handing.{adds_back}
 use Rattle.wavelet_container.specs.Containers.{journal_of}
 use Rattle.wavelet_container.specs.declared.container.Container.{Container}
 use Rattle.wavelet_shelf.specs.Entries.{found}
@@ -48,7 +49,11 @@ module _ {F D : Type 0} (folder : folder_of.Ghosts F D) {disk : disk_of.Ghosts D
     where
       there : (p : Option D) → IsPutBack disk.view (on_disk read.journal) p → IsAsBefore disk.view (Some d) p
       there None put = absurd put
-      there (Some e) put = record { seen = put.seen ∙ read.read; images = λ x left. inr (read.images x (put.crash x left)) }
+      there (Some e) put = record {
+        seen = put.seen ∙ read.read;
+        images = λ x left. inr (read.images x (put.crash x left));
+        moments = adds_back (disk.view d) (on_disk read.journal) (disk.view e) (IsOld (disk.view d)) read.moments put;
+      }
 
   one_by_one : (f h : F) (m : List ℕ) (es : List (Key × Filed D disk)) → AllByRecursion (λ e. IsReadFrom (folder.files f (file_name_of e.0)) e.1.container) es → AllByRecursion (IsBack folder h) es
       → (AllByRecursion (λ e. m ≢ file_name_of e.0) es → IsAsBefore disk.view (folder.files f m) (folder.files h m)) → IsAsBefore disk.view (folder.files f m) (folder.files h m)

@@ -2,7 +2,6 @@
 --     after_answer        the container of the name answered
 --     after_first         the name's first container did, and came to the others
 --     after_nothing       nothing was accepted where the name isn't there
---     after_fault         nothing was answered, and the folder may have failed
 --     looks_here          in the empty history the operations decide, and so at a shelf without the name
 --     after_first_tests   there the verdict was given before they were looked at
 --     apart_after         where no name has the file of the new one, no two names have one file
@@ -25,26 +24,28 @@ use Rattle.wavelet_op.specs.declared.verdict.Verdict.{Verdict}
 use Rattle.delta_history.specs.Copying.{AreAscending}
 use Rattle.delta_history.specs.Verdicts.{Judged, judge}
 use Rattle.disk_model.specs.declared.disk.Disk as disk_of
+use Rattle.delta_journal.specs.Journal.{on_disk}
 use Rattle.wave_outside.specs.Counts.{Rose}
+use Rattle.wave_outside.specs.Folders.{IsEmptyFile}
 use Rattle.wave_outside.specs.declared.folder.Folder as folder_of
 use Rattle.wavelet_container.specs.Containers.{history_of, journal_of, IsHeld}
 use Rattle.wavelet_container.specs.Decisions.{judged, LooksAtOps}
-use Rattle.wavelet_container.specs.Stores.{IsGrownBy}
+use Rattle.wavelet_container.specs.Stores.{IsGrownBy, StandsForOneMore}
 use Rattle.wavelet_container.specs.declared.container.Container.{Container}
 use Rattle.wavelet_container.specs.declared.fault.SubmitFault.{SubmitFault}
 use Rattle.wavelet_container.specs.declared.fault.SubmitFault.TheVariants.{DiskFault}
-use Rattle.wavelet_shelf.specs.Entries.{found, shown, hosting, IsNamed, AreInOrder, IsPut, faults_of, faults_in, AreHeld, AreSafe, IsFileWithin, IsSafe, HaveRoom, FitsFolder, FitFolder}
+use Rattle.wavelet_shelf.specs.Entries.{found, shown, hosting, IsNamed, AreInOrder, IsPut, faults_of, faults_in, AreHeld, AreSafe, IsFileWithin, IsWrittenOn, IsSafe, HaveRoom, FitsFolder, FitFolder}
 use Rattle.wavelet_shelf.specs.FileNames.{file_name_of}
 use Rattle.wavelet_shelf.specs.Folders.{IsUsedIn}
 use Rattle.wavelet_shelf.specs.Hosting.{deltas_in, with_added, judged_in}
-use Rattle.wavelet_shelf.specs.Shelves.{entries_of, in_folder, container_in, hosted_of, folder_faults, fault_count, IsKept, AreApart}
+use Rattle.wavelet_shelf.specs.Shelves.{entries_of, in_folder, container_in, hosted_of, folder_faults, fault_count, IsKept, AreApart, IsNewFile, IsOneMoreOf}
 use Rattle.wavelet_shelf.specs.Steps.{IsTaken, IsAnswered, IsHosted}
 use Rattle.wavelet_shelf.specs.declared.filed.Filed.{Filed}
 use Rattle.wavelet_shelf.specs.declared.shelf.Shelf.{Shelf}
-use Rattle.wavelet_shelf.proofs.Answering.{name_after}
+use Rattle.wavelet_shelf.proofs.Answering.{name_after, began_empty}
 use Rattle.wavelet_shelf.proofs.Names.{same_or_not}
 use Rattle.wavelet_shelf.proofs.Placing.{deltas_hosting, after_set, same_set, after_put, none_put, all_set, all_put, all_found, found_set, others_set, found_put, others_put, length_keys, keys_ascend, front_ascends, all_front, place, put_at}
-use Rattle.wavelet_shelf.proofs.Still.{used_as, used_there}
+use Rattle.wavelet_shelf.proofs.Still.{used_as, used_more, used_there}
 use Rattle.wavelet_shelf.proofs.Sums.{total, sum_set, sum_has, sum_put, sum_later, sum_rose}
 
 no_cons : {X T : Type 0} {x : X} {xs : List X} → [] ≡ x ∷ xs → T
@@ -90,6 +91,10 @@ module _ {K : Type 0} {disk : disk_of.Ghosts K} where
   within_as : (es : List (Key × Filed K disk)) (n : Key) (s : Submission) (t : ℕ) (c after : Container K disk) → (history_of c).name ≡ n → deltas_in (hosting es) n ≡ (history_of c).deltas
       → IsFileWithin (history_of c).name (history_of c).deltas (judged (history_of c) s t).1 after → IsFileWithin n (deltas_in (hosting es) n) (judged_in (hosting es) n s t).1 after
   within_as es n s t c after name deltas w = subst (λ (x : Key × List DeltaOf). IsFileWithin x.0 x.1 (judge x.0 x.1 s t).1 after) (λ i. (name i, sym deltas i)) w
+
+  written_as : (es : List (Key × Filed K disk)) (n : Key) (s : Submission) (t : ℕ) (c : Container K disk) (Q : (List ℕ → Type 0) → Type 0) → (history_of c).name ≡ n → deltas_in (hosting es) n ≡ (history_of c).deltas
+      → Q (StandsForOneMore (history_of c).name (history_of c).deltas (λ d. (judged (history_of c) s t).1 ≡ Some d)) → Q (StandsForOneMore n (deltas_in (hosting es) n) (λ d. (judged_in (hosting es) n s t).1 ≡ Some d))
+  written_as es n s t c Q name deltas w = subst (λ (x : Key × List DeltaOf). Q (StandsForOneMore x.0 x.1 (λ d. (judge x.0 x.1 s t).1 ≡ Some d))) (λ i. (name i, sym deltas i)) w
 
   -- without a container there is nothing to say of its file
   within_none : (es : List (Key × Filed K disk)) (n : Key) (P : Container K disk → Type 0) → lookup (same_text n) es ≡ None → IfSome (found es n) P
@@ -188,7 +193,12 @@ module _ {F D : Type 0} {folder : folder_of.Ghosts F D} {disk : disk_of.Ghosts D
         failed = λ e. subst (λ o. Rose (fault_count a) (min (folder_faults folder.faults o + faults_in (entries_of b)) (2 ^ 64 - 1))) (sym same)
             (sum_rose (folder_faults folder.faults (in_folder a)) (faults_of c) (faults_of x.new.container) (faults_in es) (faults_in (entries_of b)) (2 ^ 64 - 1) sums (subst (λ m. faults_of c ≤ m) (sym (faults_total es)) (sum_has count_of es n x.old x.was)) (x.taken.failed e));
         disk_there = λ e. folder_there folder.room (in_folder a) es n x.old x.was fit (x.taken.filed e);
-        used = subst (λ o. IsUsedIn folder (λ m. m ≡ file_name_of n) (in_folder a) o) (sym same) (used_as folder (λ m. m ≡ file_name_of n) (in_folder a));
+        moments = λ k settled.
+            let written = x.taken.moments (all_found deltas_of (λ e. IsHeld e.1.container) es n x.old k.held x.was) (all_found deltas_of (λ e. IsSafe e.1.container) es n x.old settled x.was) in
+            subst (λ o. IfSome o (λ d. IsWrittenOn (container_in a n) d (IsOneMoreOf a n s t))) (sym (ap (λ l. found l n) x.is ∙ ap (λ o. option_map (λ f. f.container) o) (found_set es n x.old x.new x.was)))
+            (subst (λ o. IsWrittenOn o x.new.container (IsOneMoreOf a n s t)) (sym (ap (λ o. option_map (λ (f : Filed D disk). f.container) o) x.was))
+            (written_as es n s t c (λ P. IsWrittenOn (Some c) x.new.container P) (old_name es n x.old x.new order x.was) (old_deltas es n x.old x.new order x.was) written));
+        used = subst (λ o. IsUsedIn folder (IsNewFile a n) (in_folder a) o) (sym same) (used_as folder (IsNewFile a n) (in_folder a));
       }
 
   -- what is known of the first container of a name
@@ -197,6 +207,7 @@ module _ {F D : Type 0} {folder : folder_of.Ghosts F D} {disk : disk_of.Ghosts D
     pub empty : (history_of c).deltas ≡ []
     pub held : IsKept a → IsHeld c
     pub safe : IsKept a → IsSafe c
+    pub fresh : IsKept a → IfSome (journal_of c) (λ j. IsEmptyFile (on_disk j))
     pub unfailed : faults_of c ≡ 0
 
   put_grown : (filed : Filed D disk) (c : Container D disk) → AreInOrder (entries_of a) → IsPut n filed (entries_of a) (entries_of b) → (history_of c).deltas ≡ [] → (added : Option DeltaOf) → IsGrownBy (history_of c) added (history_of filed.container) → hosted_of b ≡ with_added (hosted_of a) n added
@@ -210,6 +221,7 @@ module _ {F D : Type 0} {folder : folder_of.Ghosts F D} {disk : disk_of.Ghosts D
       let inside = subst (λ k. put.at ≤ k) (length_keys es) put.place.inside in
       let none = deltas_hosting deltas_of es n order.0 ∙ ap (λ o. option_map_or deltas_of o []) put.absent in
       let judges = judged_same es n s t c first.name (none ∙ sym first.empty) in
+      let not_there : container_in a n ≡ None = ap (λ o. option_map (λ (f : Filed D disk). f.container) o) put.absent in
       let sums : faults_in (entries_of b) ≡ faults_in es + faults_of filed.container = ap faults_in put.is ∙ faults_total (insert es put.at (n, filed)) ∙ sum_put count_of es put.at (n, filed) inside ∙ ap (λ m. m + faults_of filed.container) (sym (faults_total es)) in
       record {
         verdict = told_by c judges r taken.verdict;
@@ -236,27 +248,14 @@ module _ {F D : Type 0} {folder : folder_of.Ghosts F D} {disk : disk_of.Ghosts D
             (within_as es n s t c filed.container first.name (none ∙ sym first.empty) (taken.within (first.held k) (first.safe k)));
         later = first_later (folder_faults folder.faults (in_folder a)) (folder_faults folder.faults (in_folder b)) (faults_of filed.container) (faults_in es) (faults_in (entries_of b)) (2 ^ 64 - 1) sums counts;
         failed = λ e. first_rose (folder_faults folder.faults (in_folder a)) (folder_faults folder.faults (in_folder b)) (faults_of c) (faults_of filed.container) (faults_in es) (faults_in (entries_of b)) (2 ^ 64 - 1) sums counts first.unfailed (taken.failed e);
+        moments = λ k settled.
+            let written = began_empty c filed.container (StandsForOneMore (history_of c).name (history_of c).deltas (λ d. (judged (history_of c) s t).1 ≡ Some d)) (taken.moments (first.held k) (first.safe k)) (first.fresh k) in
+            subst (λ o. IfSome o (λ d. IsWrittenOn (container_in a n) d (IsOneMoreOf a n s t))) (sym (ap (λ l. found l n) put.is ∙ ap (λ o. option_map (λ f. f.container) o) (found_put es n filed put.at inside put.absent)))
+            (subst (λ o. IsWrittenOn o filed.container (IsOneMoreOf a n s t)) (sym not_there)
+            (written_as es n s t c (λ P. IsWrittenOn None filed.container P) first.name (none ∙ sym first.empty) written));
         disk_there = there;
-        used = same;
+        used = used_more folder (λ m. m ≡ file_name_of n) (IsNewFile a n) (λ m is. (not_there, is)) (in_folder a) (in_folder b) same;
       }
-
-  pub after_fault : (e : SubmitFault) → LooksAtOps (judged_in (hosted_of a) n s t) → lookup (same_text n) (entries_of a) ≡ None → entries_of b ≡ entries_of a → (e ≡ DiskFault → IsSome (in_folder a)) → IsUsedIn folder (λ m. m ≡ file_name_of n) (in_folder a) (in_folder b) → folder_faults folder.faults (in_folder a) ≤ folder_faults folder.faults (in_folder b) → (e ≡ DiskFault → Rose (folder_faults folder.faults (in_folder a)) (folder_faults folder.faults (in_folder b))) → IsHosted n s t a b (Err e)
-  after_fault e looks absent is there same counts rose = record {
-    verdict = tt;
-    grown = tt;
-    same = ap hosting is;
-    others = λ m other. ap (λ l. found l m) is;
-    kept = λ k. record { told = k.told; filed = (used_there folder (λ m. m ≡ file_name_of n) (in_folder a) (in_folder b) same).0 k.filed; held = subst AreHeld (sym is) k.held };
-    safe = tt;
-    settled = tt;
-    late = λ r. looks;
-    untouched = λ r k settled. subst AreSafe (sym is) settled;
-    within = λ k settled. within_none (entries_of b) n _ (ap (lookup (same_text n)) is ∙ absent);
-    later = same_later (folder_faults folder.faults (in_folder a)) (folder_faults folder.faults (in_folder b)) (faults_in (entries_of a)) (faults_in (entries_of b)) (2 ^ 64 - 1) (ap faults_in is) counts;
-    failed = λ r. same_rose (folder_faults folder.faults (in_folder a)) (folder_faults folder.faults (in_folder b)) (faults_in (entries_of a)) (faults_in (entries_of b)) (2 ^ 64 - 1) (ap faults_in is) (rose (same_Err r));
-    disk_there = λ r. there (same_Err r);
-    used = same;
-  }
 
   abbrev NoneShares : Type 0
   NoneShares = (m : Key) → IsSome (container_in a m) → file_name_of m ≡ file_name_of n → m ≡ n
@@ -298,10 +297,11 @@ module _ {F D : Type 0} {folder : folder_of.Ghosts F D} {disk : disk_of.Ghosts D
         late = λ r. absurd (ok_err r);
         untouched = λ r. absurd (ok_err r);
         within = λ k settled. within_none (entries_of a) n _ absent;
+        moments = λ k settled. within_none (entries_of a) n _ absent;
         later = le_refl _;
         failed = λ r. absurd (ok_err r);
         disk_there = λ r. absurd (ok_err r);
-        used = used_as folder (λ m. m ≡ file_name_of n) (in_folder a);
+        used = used_as folder (IsNewFile a n) (in_folder a);
       }
 
   nowhere : AreInOrder (entries_of a) → lookup (same_text n) (entries_of a) ≡ None → judge n [] s t ≡ judged_in (hosted_of a) n s t
@@ -326,10 +326,11 @@ module _ {F D : Type 0} {folder : folder_of.Ghosts F D} {disk : disk_of.Ghosts D
         late = λ r. absurd (ok_err r);
         untouched = λ r. absurd (ok_err r);
         within = λ k settled. within_none (entries_of a) n _ absent;
+        moments = λ k settled. within_none (entries_of a) n _ absent;
         later = le_refl _;
         failed = λ r. absurd (ok_err r);
         disk_there = λ r. absurd (ok_err r);
-        used = used_as folder (λ m. m ≡ file_name_of n) (in_folder a);
+        used = used_as folder (IsNewFile a n) (in_folder a);
       }
 
 -- ---- their order

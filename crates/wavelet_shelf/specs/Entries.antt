@@ -9,6 +9,9 @@
 --     AreHeld es             over disks that tell their bytes, each history stands in a journal
 --     IsSafe c               the history stands in its file as that reads, and in each image of it, and no repair is pending
 --     AreSafe es             so it is for each
+--     BeganEmpty view v P    a disk that was empty is at v now, and a crash since then left it as it was or with what has P
+--     IsWrittenOn o d P      the file of the container o, or an empty one where there was none, was written until it was that of d, and a
+--                            crash since then left what it might have left before, or what has P
 --     IsFileWithin n ds o c  where it has a file: as it reads, and in each image, that stands for this history, or for it and the delta
 --     HaveRoom room es       there is room for the disk of each
 --     FitsFolder room folder e     there is room for its disk in the folder; without one, it stands in no journal
@@ -24,10 +27,12 @@ use Rattle.std.specs.declared.cmp.Ordering.TheVariants.{Less, Greater}
 use Rattle.doc_items.specs.Maps.{Key}
 use Rattle.wavelet_op.specs.Deltas.{DeltaOf}
 use Rattle.delta_history.specs.Copying.{AscendFrom, AreAscending}
+use Rattle.disk_model.specs.Disk.{DiskView}
 use Rattle.disk_model.specs.declared.disk.Disk.{Ghosts}
+use Rattle.wave_outside.specs.Folders.{AddsOnly, IsEmptyFile}
 use Rattle.delta_journal.specs.Journal.{on_disk, needs_repair, EachImage}
 use Rattle.delta_journal.specs.declared.journal.Journal.{Journal}
-use Rattle.wavelet_container.specs.Containers.{history_of, journal_of, IsHeld}
+use Rattle.wavelet_container.specs.Containers.{history_of, journal_of, OfBoth, IsHeld}
 use Rattle.wavelet_container.specs.Records.{StandsForHistory}
 use Rattle.wavelet_container.specs.Stores.{IsWithin}
 use Rattle.wavelet_container.specs.declared.container.Container.{Container}
@@ -60,6 +65,11 @@ AscendFrom-prop n (m ∷ ns) = ×_prop (Ordering-set _ _) (AscendFrom-prop m ns)
 AreAscending-prop : (ns : List Key) → IsProp (AreAscending ns)
 AreAscending-prop [] = Unit-prop
 AreAscending-prop (n ∷ ns) = AscendFrom-prop n ns
+
+pub record BeganEmpty {K : Type 0} (view : K → DiskView) (v : DiskView) (P : List ℕ → Type 0) : Type 0 where
+  pub made : K
+  pub empty : IsEmptyFile (view made)
+  pub moments : AddsOnly (view made) v P
 
 module _ {K : Type 0} {disk : Ghosts K} where
   abbrev pub found : List (Key × Filed K disk) → Key → Option (Container K disk)
@@ -115,6 +125,10 @@ module _ {K : Type 0} {disk : Ghosts K} where
 
   abbrev pub IsFileWithin : Key → List DeltaOf → Option DeltaOf → Container K disk → Type 0
   IsFileWithin n ds added c = IfSome (journal_of c) (IsWithin n ds (λ d. added ≡ Some d))
+
+  abbrev pub IsWrittenOn : Option (Container K disk) → Container K disk → (List ℕ → Type 0) → Type 0
+  IsWrittenOn None d P = IfSome (journal_of d) (λ j. BeganEmpty disk.view (on_disk j) P)
+  IsWrittenOn (Some c) d P = OfBoth (journal_of c) (journal_of d) (λ i j. AddsOnly (on_disk i) (on_disk j) P)
 
   abbrev pub AreSafe : List (Key × Filed K disk) → Type 0
   AreSafe es = AllByRecursion (λ e. IsSafe e.1.container) es

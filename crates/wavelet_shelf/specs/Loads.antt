@@ -1,6 +1,7 @@
 -- What a folder's files stand for.
 --     IsStoredFile view o n ds    the file stands for the history of this name, as it reads and in each image
---     IsReadFrom o c              the file stands for the history of the container, and each image is the file as it was read
+--     IsReadFrom o c              the file stands for the history of the container, and each image is the file as it was read; until
+--                                 then a crash left what it might have left before, or that
 --     HasAll view files hs        each file of a wavelet that stands for a history stands for that of its name
 --     IsRefusedFile view o f k    the file of this name is no journal of a legal history, by what stands at the offset k: its header is
 --                                 no name's; or the name in it is no wavelet's, or that of another file, and k is 0; or it is
@@ -21,7 +22,7 @@ use Rattle.disk_model.specs.declared.disk.Disk.{Ghosts}
 use Rattle.delta_journal.specs.File.{HasName, HasNoHeader, HasBrokenHeader}
 use Rattle.delta_journal.specs.Journal.{on_disk}
 use Rattle.delta_journal.specs.declared.journal.Journal.{Journal}
-use Rattle.wave_outside.specs.Folders.{ReadsAsBefore}
+use Rattle.wave_outside.specs.Folders.{AddsOnly, IsOld, ReadsAsBefore}
 use Rattle.wavelet_container.specs.Containers.{history_of, journal_of, IsHeld}
 use Rattle.wavelet_container.specs.Records.{StandsForHistory, IsDamagedHistory}
 use Rattle.wavelet_container.specs.declared.container.Container.{Container}
@@ -74,6 +75,7 @@ pub record IsReadAs {K : Type 0} {disk : Ghosts K} (file : DiskView) (c : Contai
   pub is : journal_of c ≡ Some journal
   pub read : (on_disk journal).seen ≡ file.seen
   pub images : LeavesJust file.seen (on_disk journal)
+  pub moments : AddsOnly file (on_disk journal) (IsOld file)
 
 abbrev pub IsReadFrom : {K : Type 0} {disk : Ghosts K} → Option K → Container K disk → Type 0
 IsReadFrom None c = ⊥

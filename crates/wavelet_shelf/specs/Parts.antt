@@ -10,7 +10,7 @@
 use Rattle.std.specs.Prelude.{◌≡◌, ◌+◌, ℕ, List, [], ◌∷◌, Bool, nat_eq, cond, map, filter, set, slice_get, Option, Some, None, IsTrue, IfSome}
 use Rattle.doc_items.specs.Maps.{Key}
 use Rattle.disk_model.specs.declared.disk.Disk as disk_of
-use Rattle.wave_outside.specs.Folders.{IsSame, IsAsBefore}
+use Rattle.wave_outside.specs.Folders.{IsSame, IsReadAlike}
 use Rattle.wave_outside.specs.declared.folder.Folder as folder_of
 use Rattle.wavelet_shelf.specs.Entries.{faults_in, IsPut}
 use Rattle.wavelet_shelf.specs.FileNames.{shard_of}
@@ -29,7 +29,7 @@ module _ {F D : Type 0} (folder : folder_of.Ghosts F D) (disk : disk_of.Ghosts D
   pub record IsAlike (f g : F) : Type 0 where
     pub room : IsSame (folder.room f) (folder.room g)
     pub still : IsStill folder f g
-    pub files : IsTrue folder.tells → (m : List ℕ) → IsAsBefore disk.view (folder.files f m) (folder.files g m)
+    pub files : IsTrue folder.tells → (m : List ℕ) → IsReadAlike disk.view (folder.files f m) (folder.files g m)
 
   abbrev pub AreAlike : Option F → Option F → Type 0
   AreAlike None None = Unit {0}

@@ -9,6 +9,8 @@
 --     IsSettled s            so it does, in its file as that reads and in each image of it, and no repair is pending
 --     AreApart s             no two names have one file
 --     HasFile s m            this is the file of one of its names
+--     IsNewFile s n m        this is the file of a name that isn't there
+--     IsOneMoreOf s n x t f  the file stands for the history of the name, or for it and the delta of a submission that is accepted
 --     copies_of s n          the history of the name, where it has a delta
 --     outcome_of s n i       the acknowledgement that it keeps for the id
 use Rattle.std.specs.Prelude.{◌≡◌, ℕ, ◌+◌, ◌-◌, ◌^◌, min, List, [], ◌∷◌, Option, Some, None, IsSome, IsTrue}
@@ -16,6 +18,7 @@ use Rattle.std.specs.Option.{option_and_then, option_map}
 use Rattle.doc_items.specs.Maps.{Key}
 use Rattle.wave_base.specs.Versions.{IdOf}
 use Rattle.wavelet_op.specs.Deltas.{DeltaOf}
+use Rattle.wavelet_op.specs.declared.delta.Submission.{Submission}
 use Rattle.wavelet_op.specs.declared.verdict.Verdict.{Verdict}
 use Rattle.wavelet_op.specs.declared.verdict.Verdict.TheVariants.{Ack}
 use Rattle.delta_history.specs.declared.kept.Kept.{Kept}
@@ -24,10 +27,11 @@ use Rattle.delta_history.specs.Histories.{HistoryOf}
 use Rattle.disk_model.specs.declared.disk.Disk as disk_of
 use Rattle.wave_outside.specs.declared.folder.Folder as folder_of
 use Rattle.wavelet_container.specs.Containers.{history_of}
+use Rattle.wavelet_container.specs.Stores.{StandsForOneMore}
 use Rattle.wavelet_container.specs.declared.container.Container.{Container}
 use Rattle.wavelet_shelf.specs.Entries.{found, hosting, faults_in, AreHeld, AreSafe}
 use Rattle.wavelet_shelf.specs.FileNames.{file_name_of}
-use Rattle.wavelet_shelf.specs.Hosting.{Hosted}
+use Rattle.wavelet_shelf.specs.Hosting.{Hosted, deltas_in, judged_in}
 use Rattle.wavelet_shelf.specs.declared.filed.Filed.{Filed}
 use Rattle.wavelet_shelf.specs.declared.shelf.Shelf.{Shelf}
 
@@ -78,6 +82,12 @@ module _ {F D : Type 0} {folder : folder_of.Ghosts F D} {disk : disk_of.Ghosts D
 
   abbrev pub HasFile : Shelf F D folder disk → List ℕ → Type 0
   HasFile s m = (n : Key) × IsSome (container_in s n) × (file_name_of n ≡ m)
+
+  abbrev pub IsNewFile : Shelf F D folder disk → Key → List ℕ → Type 0
+  IsNewFile s n m = (container_in s n ≡ None) × (m ≡ file_name_of n)
+
+  abbrev pub IsOneMoreOf : Shelf F D folder disk → Key → Submission → ℕ → List ℕ → Type 0
+  IsOneMoreOf s n x t = StandsForOneMore n (deltas_in (hosted_of s) n) (λ d. (judged_in (hosted_of s) n x t).1 ≡ Some d)
 
   abbrev pub copies_of : Shelf F D folder disk → Key → Option HistoryOf
   copies_of s n = option_and_then (λ c. shown_copy (history_of c)) (container_in s n)

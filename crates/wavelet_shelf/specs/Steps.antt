@@ -13,19 +13,19 @@ use Rattle.wavelet_op.specs.declared.verdict.Verdict.{Verdict}
 use Rattle.delta_history.specs.Histories.{IsSameHistory}
 use Rattle.disk_model.specs.declared.disk.Disk as disk_of
 use Rattle.wave_outside.specs.Counts.{Rose}
+use Rattle.wave_outside.specs.Folders.{IsEmptyFile}
 use Rattle.wave_outside.specs.declared.folder.Folder as folder_of
-use Rattle.delta_journal.specs.Journal.{needs_repair}
+use Rattle.delta_journal.specs.Journal.{on_disk, needs_repair}
 use Rattle.wavelet_container.specs.Containers.{history_of, journal_of, IsHeld}
 use Rattle.wavelet_container.specs.Decisions.{judged, LooksAtOps}
-use Rattle.wavelet_container.specs.Stores.{IsGrownBy}
+use Rattle.wavelet_container.specs.Stores.{IsGrownBy, StandsForOneMore}
 use Rattle.wavelet_container.specs.declared.container.Container.{Container}
 use Rattle.wavelet_container.specs.declared.fault.SubmitFault.{SubmitFault}
 use Rattle.wavelet_container.specs.declared.fault.SubmitFault.TheVariants.{DiskFault, Memory}
-use Rattle.wavelet_shelf.specs.Entries.{faults_of, IsFileWithin, IsSafe}
-use Rattle.wavelet_shelf.specs.FileNames.{file_name_of}
+use Rattle.wavelet_shelf.specs.Entries.{faults_of, IsFileWithin, IsWrittenOn, IsSafe}
 use Rattle.wavelet_shelf.specs.Folders.{IsUsedIn}
 use Rattle.wavelet_shelf.specs.Hosting.{deltas_in, judged_in, after_submission}
-use Rattle.wavelet_shelf.specs.Shelves.{in_folder, hosted_of, container_in, fault_count, IsKept, IsSettled}
+use Rattle.wavelet_shelf.specs.Shelves.{in_folder, hosted_of, container_in, fault_count, IsKept, IsSettled, IsNewFile, IsOneMoreOf}
 use Rattle.wavelet_shelf.specs.declared.filed.Filed.{Filed}
 use Rattle.wavelet_shelf.specs.declared.shelf.Shelf.{Shelf}
 
@@ -39,6 +39,7 @@ module _ {K : Type 0} {disk : disk_of.Ghosts K} where
     pub late : IsErrOf r Memory → LooksAtOps (judged (history_of c) s t)
     pub untouched : IsErrOf r Memory → IsHeld c → IsSafe after
     pub within : IsHeld c → IsSafe c → IsFileWithin (history_of c).name (history_of c).deltas (judged (history_of c) s t).1 after
+    pub moments : IsHeld c → IsSafe c → IsWrittenOn (Some c) after (StandsForOneMore (history_of c).name (history_of c).deltas (λ d. (judged (history_of c) s t).1 ≡ Some d))
     pub later : faults_of c ≤ faults_of after
     pub failed : IsErrOf r DiskFault → Rose (faults_of c) (faults_of after)
     pub filed : IsErrOf r DiskFault → IsSome (journal_of c)
@@ -50,6 +51,7 @@ module _ {K : Type 0} {disk : disk_of.Ghosts K} where
     pub empty : (history_of c).deltas ≡ []
     pub held : IsTrue disk.tells → IsHeld c
     pub sure : IfSome (journal_of c) (λ j. needs_repair j ≡ false)
+    pub fresh : IsTrue disk.tells → IfSome (journal_of c) (λ j. IsEmptyFile (on_disk j))
     pub unfailed : faults_of c ≡ 0
 
   -- one without a journal, once it has answered
@@ -80,7 +82,8 @@ module _ {F D : Type 0} {folder : folder_of.Ghosts F D} {disk : disk_of.Ghosts D
     pub late : IsErrOf r Memory → LooksAtOps (judged_in (hosted_of a) n s t)
     pub untouched : IsErrOf r Memory → IsKept a → IsSettled a → IsSettled b
     pub within : IsKept a → IsSettled a → IfSome (container_in b n) (IsFileWithin n (deltas_in (hosted_of a) n) (judged_in (hosted_of a) n s t).1)
+    pub moments : IsKept a → IsSettled a → IfSome (container_in b n) (λ d. IsWrittenOn (container_in a n) d (IsOneMoreOf a n s t))
     pub later : fault_count a ≤ fault_count b
     pub failed : IsErrOf r DiskFault → Rose (fault_count a) (fault_count b)
     pub disk_there : IsErrOf r DiskFault → IsSome (in_folder a)
-    pub used : IsUsedIn folder (λ m. m ≡ file_name_of n) (in_folder a) (in_folder b)
+    pub used : IsUsedIn folder (IsNewFile a n) (in_folder a) (in_folder b)

@@ -7,11 +7,11 @@ ghost use Rattle.indexmap.specs.IndexMap.{spare};
 ghost use Rattle.wave_outside.specs.Counts.{Rose};
 ghost use Rattle.wavelet_container.specs.Containers.{history_of, journal_of};
 ghost use Rattle.wavelet_container.specs.Decisions.{LooksAtOps};
-ghost use Rattle.wavelet_shelf.specs.Entries.{IsFileWithin, IsSafe};
+ghost use Rattle.wavelet_shelf.specs.Entries.{IsFileWithin, IsWrittenOn, IsSafe};
 ghost use Rattle.wavelet_shelf.specs.FileNames.{file_name_of};
 ghost use Rattle.wavelet_shelf.specs.Folders.{IsUsed, IsUsedIn};
 ghost use Rattle.wavelet_shelf.specs.Hosting.{deltas_in, judged_in, after_submission};
-ghost use Rattle.wavelet_shelf.specs.Shelves.{entries_of, in_folder, folder_faults, hosted_of, container_in, fault_count, IsKept, IsSettled, AreApart};
+ghost use Rattle.wavelet_shelf.specs.Shelves.{entries_of, in_folder, folder_faults, hosted_of, container_in, fault_count, IsKept, IsSettled, AreApart, IsNewFile, IsOneMoreOf};
 ghost use Rattle.wavelet_shelf.specs.Steps.{IsHosted, IsStarted, IsTakenFirst};
 
 use crate::Shelf;
@@ -52,7 +52,9 @@ impl<F: Folder + Drop> Shelf<F> {
         ensures late { IsErrOf result SubmitFault.Memory → LooksAtOps (judged_in (hosted_of self.old) name.now submission.now time) }
         ensures apart { AreApart self.old → ((m : Key) → IsSome (container_in self.old m) → file_name_of m ≡ file_name_of name.now → m ≡ name.now) → AreApart self.new }
 
-        ensures folder { IsUsedIn F.Folder (λ m. m ≡ file_name_of name.now) (in_folder self.old) (in_folder self.new) }
+        ensures moments { IsKept self.old → IsSettled self.old
+            → IfSome (container_in self.new name.now) (λ d. IsWrittenOn (container_in self.old name.now) d (IsOneMoreOf self.old name.now submission.now time)) }
+        ensures folder { IsUsedIn F.Folder (IsNewFile self.old name.now) (in_folder self.old) (in_folder self.new) }
         ensures later { fault_count self.old ≤ fault_count self.new }
         ensures failed { IsErrOf result SubmitFault.DiskFault → Rose (fault_count self.old) (fault_count self.new) }
         ensures disk { IsErrOf result SubmitFault.DiskFault → IsSome (in_folder self.old) }

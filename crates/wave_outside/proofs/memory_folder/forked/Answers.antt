@@ -1,4 +1,4 @@
-use Rattle.std.proofs.Common.{◌+◌, ◌++◌, ◌∷◌, [], List, drop, length, sym, subst, ap, ◌∙◌}
+use Rattle.std.proofs.Common.{◌+◌, ◌++◌, List, drop, sym, subst, ◌∙◌}
 use Rattle.wave_outside.specs.MemoryFolders.{AreForks}
 use Rattle.wave_outside.specs.declared.memory_folder.StoredFile.{StoredFile}
 use Rattle.wave_outside.proofs.Files.{fork_of, one_fork, all_forked}

@@ -1,5 +1,5 @@
 use Rattle.std.proofs.lemmas.Result.{on_ok_weaker}
-use Rattle.wavelet_shelf.proofs.Answering.{held_after, plain_after, safe_after, within_after, faults_later, faults_rose}
+use Rattle.wavelet_shelf.proofs.Answering.{held_after, plain_after, safe_after, within_after, moments_after, faults_later, faults_rose}
 use Rattle.wavelet_shelf.proofs.taking.taken.Goals as goal
 
 pub returns : goal.returns
@@ -15,6 +15,7 @@ returns g c =
       late = c.submit.ensures.late;
       untouched = λ e. safe_after old new c.submit.ensures.stored (c.submit.ensures.untouched e);
       within = within_after old new _ c.submit.ensures.within;
+      moments = moments_after old new _ c.submit.ensures.any_moment;
       later = faults_later _ _ c.submit.ensures.later;
       failed = λ e. faults_rose _ _ (c.submit.ensures.disk e) (c.submit.ensures.failed e);
       filed = c.submit.ensures.disk;

@@ -1,4 +1,4 @@
-use Rattle.std.proofs.Common.{Option, IfSome, sym, subst}
+use Rattle.std.proofs.Common.{IfSome, sym, subst}
 use Rattle.wavelet_shelf.specs.Folders.{IsStill}
 use Rattle.wavelet_shelf.proofs.Returning.{apart_in, back_of, stored_of, others_of}
 use Rattle.wavelet_shelf.proofs.shelf.Shelf.close.Goals as goal

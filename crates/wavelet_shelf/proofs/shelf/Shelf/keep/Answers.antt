@@ -29,6 +29,6 @@ returns g c =
     (λ e. absurd (ok_err e))
     (subst (λ o. IsUsedIn g.F.Folder (λ m. m ≡ file_name_of c.args.name.now) a.folder o) (sym place.folder) (used_as g.F.Folder (λ m. m ≡ file_name_of c.args.name.now) a.folder))
     (subst (λ o. folder_faults g.F.Folder.faults a.folder ≤ folder_faults g.F.Folder.faults o) (sym place.folder) (le_refl _))
-    (record { name = first.name; empty = first.empty; held = λ kept. absurd (true≢false (sym kept.filed ∙ ap is_some c.requires.plain)); safe = λ kept. absurd (true≢false (sym kept.filed ∙ ap is_some c.requires.plain)); unfailed = ap faults_on first.plain })
+    (record { name = first.name; empty = first.empty; held = λ kept. absurd (true≢false (sym kept.filed ∙ ap is_some c.requires.plain)); safe = λ kept. absurd (true≢false (sym kept.filed ∙ ap is_some c.requires.plain)); fresh = λ kept. absurd (true≢false (sym kept.filed ∙ ap is_some c.requires.plain)); unfailed = ap faults_on first.plain })
     first.taken
     (put_from a.containers.map.entries c.place.new.self.containers.map.entries c.put.new.self.map.entries c.args.name.now c.in_ok-key.key filed place.same place.key c.put.ensures)

@@ -31,6 +31,6 @@ returns g c =
     (λ e. c.requires.filed)
     (subst (λ o. IsUsedIn g.F.Folder (λ m. m ≡ file_name_of c.args.name.now) o b.folder) place.folder (subst (λ f. IsUsedIn g.F.Folder (λ m. m ≡ f) c.place.new.self.folder b.folder) (c.as_str.ensures.value ∙ place.file) c.start.ensures.used))
     (subst (λ o. folder_faults g.F.Folder.faults o ≤ folder_faults g.F.Folder.faults b.folder) place.folder c.start.ensures.later)
-    (record { name = started.name; empty = started.empty; held = λ kept. started.held kept.told; safe = λ kept. safe_start c.in_ok-container.container (started.held kept.told) started.sure; unfailed = started.unfailed })
+    (record { name = started.name; empty = started.empty; held = λ kept. started.held kept.told; safe = λ kept. safe_start c.in_ok-container.container (started.held kept.told) started.sure; fresh = λ kept. started.fresh kept.told; unfailed = started.unfailed })
     c.taken-answer.ensures
     (put_from a.containers.map.entries b.containers.map.entries c.put.new.self.map.entries c.args.name.now c.in_ok-key.key filed entries place.key c.put.ensures)
