@@ -115,7 +115,7 @@ module _ {K : Type 0} {disk : Ghosts K} where
 
   pub moments_after : (c after : Container K disk) (added : Option DeltaOf)
       → OfBoth (journal_of c) (journal_of after) (λ i j. IsStored (history_of c) i → LeavesOnly (on_disk i) (on_disk j) (StandsForOneMore (history_of c).name (history_of c).deltas (MayFollow (left_over i) added)))
-      → IsHeld c → IsSafe c → IsWrittenOn (Some c) after (StandsForOneMore (history_of c).name (history_of c).deltas (λ d. added ≡ Some d))
+      → IsHeld c → IsSafe c → IsWrittenOn (Some c) (Some after) (StandsForOneMore (history_of c).name (history_of c).deltas (λ d. added ≡ Some d))
   moments_after c after added both held safe = moments_from c (journal_of c) (journal_of after) added refl both held safe
 
   began_from : (o p : Option (Journal K disk)) (P : List ℕ → Type 0) → OfBoth o p (λ i j. AddsOnly (on_disk i) (on_disk j) P) → IfSome o (λ i. IsEmptyFile (on_disk i)) → IfSome p (λ j. BeganEmpty disk.view (on_disk j) P)
@@ -125,7 +125,7 @@ module _ {K : Type 0} {disk : Ghosts K} where
   began_from (Some i) (Some j) P both empty = record { made = i.disk; empty = empty; moments = both }
 
   -- a new file, and then the one call
-  pub began_empty : (c after : Container K disk) (P : List ℕ → Type 0) → IsWrittenOn (Some c) after P → IfSome (journal_of c) (λ i. IsEmptyFile (on_disk i)) → IsWrittenOn None after P
+  pub began_empty : (c after : Container K disk) (P : List ℕ → Type 0) → IsWrittenOn (Some c) (Some after) P → IfSome (journal_of c) (λ i. IsEmptyFile (on_disk i)) → IsWrittenOn None (Some after) P
   began_empty c after P both empty = began_from (journal_of c) (journal_of after) P both empty
 
   pub faults_later : (o p : Option (Journal K disk)) → OfBoth o p (λ i j. (on_disk i).faults ≤ (on_disk j).faults) → faults_on o ≤ faults_on p

@@ -17,3 +17,4 @@ pub mod Opening
 pub mod Reading
 pub mod Parting
 pub mod Still
+pub mod Written

@@ -195,9 +195,9 @@ module _ {F D : Type 0} {folder : folder_of.Ghosts F D} {disk : disk_of.Ghosts D
         disk_there = λ e. folder_there folder.room (in_folder a) es n x.old x.was fit (x.taken.filed e);
         moments = λ k settled.
             let written = x.taken.moments (all_found deltas_of (λ e. IsHeld e.1.container) es n x.old k.held x.was) (all_found deltas_of (λ e. IsSafe e.1.container) es n x.old settled x.was) in
-            subst (λ o. IfSome o (λ d. IsWrittenOn (container_in a n) d (IsOneMoreOf a n s t))) (sym (ap (λ l. found l n) x.is ∙ ap (λ o. option_map (λ f. f.container) o) (found_set es n x.old x.new x.was)))
-            (subst (λ o. IsWrittenOn o x.new.container (IsOneMoreOf a n s t)) (sym (ap (λ o. option_map (λ (f : Filed D disk). f.container) o) x.was))
-            (written_as es n s t c (λ P. IsWrittenOn (Some c) x.new.container P) (old_name es n x.old x.new order x.was) (old_deltas es n x.old x.new order x.was) written));
+            subst (λ o. IsWrittenOn (container_in a n) o (IsOneMoreOf a n s t)) (sym (ap (λ l. found l n) x.is ∙ ap (λ o. option_map (λ f. f.container) o) (found_set es n x.old x.new x.was)))
+            (subst (λ o. IsWrittenOn o (Some x.new.container) (IsOneMoreOf a n s t)) (sym (ap (λ o. option_map (λ (f : Filed D disk). f.container) o) x.was))
+            (written_as es n s t c (λ P. IsWrittenOn (Some c) (Some x.new.container) P) (old_name es n x.old x.new order x.was) (old_deltas es n x.old x.new order x.was) written));
         used = subst (λ o. IsUsedIn folder (IsNewFile a n) (in_folder a) o) (sym same) (used_as folder (IsNewFile a n) (in_folder a));
       }
 
@@ -250,9 +250,9 @@ module _ {F D : Type 0} {folder : folder_of.Ghosts F D} {disk : disk_of.Ghosts D
         failed = λ e. first_rose (folder_faults folder.faults (in_folder a)) (folder_faults folder.faults (in_folder b)) (faults_of c) (faults_of filed.container) (faults_in es) (faults_in (entries_of b)) (2 ^ 64 - 1) sums counts first.unfailed (taken.failed e);
         moments = λ k settled.
             let written = began_empty c filed.container (StandsForOneMore (history_of c).name (history_of c).deltas (λ d. (judged (history_of c) s t).1 ≡ Some d)) (taken.moments (first.held k) (first.safe k)) (first.fresh k) in
-            subst (λ o. IfSome o (λ d. IsWrittenOn (container_in a n) d (IsOneMoreOf a n s t))) (sym (ap (λ l. found l n) put.is ∙ ap (λ o. option_map (λ f. f.container) o) (found_put es n filed put.at inside put.absent)))
-            (subst (λ o. IsWrittenOn o filed.container (IsOneMoreOf a n s t)) (sym not_there)
-            (written_as es n s t c (λ P. IsWrittenOn None filed.container P) first.name (none ∙ sym first.empty) written));
+            subst (λ o. IsWrittenOn (container_in a n) o (IsOneMoreOf a n s t)) (sym (ap (λ l. found l n) put.is ∙ ap (λ o. option_map (λ f. f.container) o) (found_put es n filed put.at inside put.absent)))
+            (subst (λ o. IsWrittenOn o (Some filed.container) (IsOneMoreOf a n s t)) (sym not_there)
+            (written_as es n s t c (λ P. IsWrittenOn None (Some filed.container) P) first.name (none ∙ sym first.empty) written));
         disk_there = there;
         used = used_more folder (λ m. m ≡ file_name_of n) (IsNewFile a n) (λ m is. (not_there, is)) (in_folder a) (in_folder b) same;
       }
@@ -297,7 +297,7 @@ module _ {F D : Type 0} {folder : folder_of.Ghosts F D} {disk : disk_of.Ghosts D
         late = λ r. absurd (ok_err r);
         untouched = λ r. absurd (ok_err r);
         within = λ k settled. within_none (entries_of a) n _ absent;
-        moments = λ k settled. within_none (entries_of a) n _ absent;
+        moments = λ k settled. subst (λ o. IsWrittenOn o o (IsOneMoreOf a n s t)) (sym (ap (λ o. option_map (λ (f : Filed D disk). f.container) o) absent)) tt;
         later = le_refl _;
         failed = λ r. absurd (ok_err r);
         disk_there = λ r. absurd (ok_err r);
@@ -326,7 +326,7 @@ module _ {F D : Type 0} {folder : folder_of.Ghosts F D} {disk : disk_of.Ghosts D
         late = λ r. absurd (ok_err r);
         untouched = λ r. absurd (ok_err r);
         within = λ k settled. within_none (entries_of a) n _ absent;
-        moments = λ k settled. within_none (entries_of a) n _ absent;
+        moments = λ k settled. subst (λ o. IsWrittenOn o o (IsOneMoreOf a n s t)) (sym (ap (λ o. option_map (λ (f : Filed D disk). f.container) o) absent)) tt;
         later = le_refl _;
         failed = λ r. absurd (ok_err r);
         disk_there = λ r. absurd (ok_err r);

@@ -10,8 +10,9 @@
 --     IsSafe c               the history stands in its file as that reads, and in each image of it, and no repair is pending
 --     AreSafe es             so it is for each
 --     BeganEmpty view v P    a disk that was empty is at v now, and a crash since then left it as it was or with what has P
---     IsWrittenOn o d P      the file of the container o, or an empty one where there was none, was written until it was that of d, and a
---                            crash since then left what it might have left before, or what has P
+--     IsWrittenOn o p P      of the container of a name before and after, if any: the file of the first, or an empty one where there was
+--                            none, was written until it was that of the second, and a crash since then left what it might have left
+--                            before, or what has P
 --     IsFileWithin n ds o c  where it has a file: as it reads, and in each image, that stands for this history, or for it and the delta
 --     HaveRoom room es       there is room for the disk of each
 --     FitsFolder room folder e     there is room for its disk in the folder; without one, it stands in no journal
@@ -126,9 +127,11 @@ module _ {K : Type 0} {disk : Ghosts K} where
   abbrev pub IsFileWithin : Key → List DeltaOf → Option DeltaOf → Container K disk → Type 0
   IsFileWithin n ds added c = IfSome (journal_of c) (IsWithin n ds (λ d. added ≡ Some d))
 
-  abbrev pub IsWrittenOn : Option (Container K disk) → Container K disk → (List ℕ → Type 0) → Type 0
-  IsWrittenOn None d P = IfSome (journal_of d) (λ j. BeganEmpty disk.view (on_disk j) P)
-  IsWrittenOn (Some c) d P = OfBoth (journal_of c) (journal_of d) (λ i j. AddsOnly (on_disk i) (on_disk j) P)
+  abbrev pub IsWrittenOn : Option (Container K disk) → Option (Container K disk) → (List ℕ → Type 0) → Type 0
+  IsWrittenOn None None P = Unit {0}
+  IsWrittenOn None (Some d) P = IfSome (journal_of d) (λ j. BeganEmpty disk.view (on_disk j) P)
+  IsWrittenOn (Some c) None P = ⊥
+  IsWrittenOn (Some c) (Some d) P = OfBoth (journal_of c) (journal_of d) (λ i j. AddsOnly (on_disk i) (on_disk j) P)
 
   abbrev pub AreSafe : List (Key × Filed K disk) → Type 0
   AreSafe es = AllByRecursion (λ e. IsSafe e.1.container) es

@@ -53,7 +53,7 @@ impl<F: Folder + Drop> Shelf<F> {
         ensures apart { AreApart self.old → ((m : Key) → IsSome (container_in self.old m) → file_name_of m ≡ file_name_of name.now → m ≡ name.now) → AreApart self.new }
 
         ensures moments { IsKept self.old → IsSettled self.old
-            → IfSome (container_in self.new name.now) (λ d. IsWrittenOn (container_in self.old name.now) d (IsOneMoreOf self.old name.now submission.now time)) }
+            → IsWrittenOn (container_in self.old name.now) (container_in self.new name.now) (IsOneMoreOf self.old name.now submission.now time) }
         ensures folder { IsUsedIn F.Folder (IsNewFile self.old name.now) (in_folder self.old) (in_folder self.new) }
         ensures later { fault_count self.old ≤ fault_count self.new }
         ensures failed { IsErrOf result SubmitFault.DiskFault → Rose (fault_count self.old) (fault_count self.new) }
