@@ -19,7 +19,7 @@ use Rattle.session_core.specs.Access.{shown}
 use Rattle.wavelet_shelf.specs.FileNames.{file_name_of}
 use Rattle.wavelet_shelf.specs.Folders.{IsUsedIn}
 use Rattle.wavelet_shelf.specs.Hosting.{Hosted, names_of, deltas_in, copy_in, IsCopyOf, judged_in, with_added, after_submission}
-use Rattle.wavelet_shelf.specs.Shelves.{acknowledged, in_folder, hosted_of, container_in, copies_of, outcome_of, fault_count, IsKept}
+use Rattle.wavelet_shelf.specs.Shelves.{acknowledged, in_folder, hosted_of, container_in, copies_of, outcome_of, fault_count, IsKept, IsNewFile}
 use Rattle.wavelet_shelf.specs.declared.shelf.Shelf.{Shelf}
 use Rattle.wavelet_shelf.proofs.Growing.{grows_alone}
 use Rattle.wavelet_shelf.proofs.Names.{own, same_or_not}
@@ -89,9 +89,9 @@ module _ {F D : Type 0} {folder : folder_of.Ghosts F D} {disk : disk_of.Ghosts D
   }
 
   module _ (a b : Shelf F D folder disk) (name : Key) (others : (m : Key) → m ≢ name → container_in b m ≡ container_in a m)
-      (kept : IsKept a → IsKept b) (used : IsUsedIn folder (λ m. m ≡ file_name_of name) (in_folder a) (in_folder b)) (later : fault_count a ≤ fault_count b) where
+      (kept : IsKept a → IsKept b) (used : IsUsedIn folder (IsNewFile a name) (in_folder a) (in_folder b)) (later : fault_count a ≤ fault_count b) where
     used_file : IsUsedIn folder (IsFileAmong (same_text name)) (in_folder a) (in_folder b)
-    used_file = used_more folder (λ m. m ≡ file_name_of name) (IsFileAmong (same_text name)) (λ m e. (name, own name, e)) (in_folder a) (in_folder b) used
+    used_file = used_more folder (IsNewFile a name) (IsFileAmong (same_text name)) (λ m e. (name, own name, e.1)) (in_folder a) (in_folder b) used
 
     pub taken_in : (s : Submission) (t : ℕ) → AreAscending (names_of (hosted_of a)) → hosted_of b ≡ after_submission (hosted_of a) name s t → IsMoved (same_text name) a b
     taken_in s t up is = record {

@@ -4,7 +4,10 @@
 --     tried_done        the step was done, and what follows failed
 --     tried_refused     a submission was refused for a fault
 --     tried_as          the step leads to the same histories
+--     stepped_still, stepped_done    each crash meanwhile: nothing happened; a submission did, or was refused
+--     stepped_as        the step leads to the same histories
 --     ended_memory      a step that there was no memory for
+--     ended_still, ended_done    nothing happened; a step was done
 use Rattle.std.proofs.Common.{◌≡◌, ◌≢◌, ◌⊎◌, inl, inr, ⊎_elim, ℕ, List, [], ◌∷◌, ◌++◌, Option, Some, None, IsSome, IfSome, Result, Ok, Err, OnErr, refl, sym, ap, subst, ◌∙◌, option_map}
 use Rattle.std.specs.Map.{lookup}
 use Rattle.std.specs.Option.{option_map_or}
@@ -21,20 +24,21 @@ use Rattle.wavelet_container.specs.Containers.{history_of, journal_of}
 use Rattle.wavelet_container.specs.Records.{StandsForHistory}
 use Rattle.wavelet_container.specs.Stores.{IsWithin, StandsForOneMore}
 use Rattle.wavelet_container.specs.declared.container.Container.{Container}
-use Rattle.wavelet_shelf.specs.Entries.{found, IsFileWithin, IsNamed, IsSafe}
+use Rattle.wavelet_shelf.specs.Entries.{found, IsFileWithin, IsWrittenOn, IsNamed, IsSafe}
 use Rattle.wavelet_shelf.specs.Hosting.{Hosted, names_of, deltas_in, with_added, judged_in, after_submission}
-use Rattle.wavelet_shelf.specs.Shelves.{entries_of, container_in, hosted_of, IsKept, IsSettled}
+use Rattle.wavelet_shelf.specs.Shelves.{entries_of, container_in, hosted_of, IsKept, IsSettled, IsOneMoreOf}
 use Rattle.wavelet_shelf.specs.declared.filed.Filed.{Filed}
 use Rattle.wavelet_shelf.specs.declared.shelf.Shelf.{Shelf}
 use Rattle.wavelet_shelf.proofs.Growing.{grows_alone}
 use Rattle.wavelet_shelf.proofs.Names.{same_or_not}
 use Rattle.wavelet_shelf.proofs.Placing.{all_found, deltas_hosting}
 use Rattle.wavelet_shelf.proofs.Shelving.{deltas_of}
+use Rattle.wavelet_shelf.proofs.Written.{written_itself, written_more}
 use Rattle.line_loop.specs.declared.line_machine.TurnFault.{TurnFault}
 use Rattle.line_loop.specs.declared.line_machine.TurnFault.TheVariants.{Memory}
-use Rattle.pipe_machine.specs.Keeping.{IsEnded, IsFileOfEither, IsTriedTo}
+use Rattle.pipe_machine.specs.Keeping.{IsEnded, StandsForEither, IsFileOfEither, AreStepped, IsTriedTo}
 
-more_or_not : (n : Key) (ds es : List DeltaOf) (added : Option DeltaOf) → ((d : DeltaOf) → added ≡ Some d → es ≡ ds ++ d ∷ []) → (bytes : List ℕ) → StandsForOneMore n ds (λ d. added ≡ Some d) bytes → StandsForHistory n ds bytes ⊎ StandsForHistory n es bytes
+more_or_not : (n : Key) (ds es : List DeltaOf) (added : Option DeltaOf) → ((d : DeltaOf) → added ≡ Some d → es ≡ ds ++ d ∷ []) → (bytes : List ℕ) → StandsForOneMore n ds (λ d. added ≡ Some d) bytes → StandsForEither n ds es bytes
 more_or_not n ds es added grown bytes (inl stands) = inl stands
 more_or_not n ds es added grown bytes (inr one) = inr (subst (λ l. StandsForHistory n l bytes) (sym (grown one.0 one.1)) one.2)
 
@@ -56,13 +60,13 @@ module _ {K : Type 0} {disk : disk_of.Ghosts K} where
   either_by P Q (Some j) f h = record { now = f (on_disk j).seen h.now; left = λ bytes l. f bytes (h.left bytes l) }
 
   of_first : (c : Container K disk) (n : Key) (ds es : List DeltaOf) → IsFileOf n ds c → IsFileOfEither n ds es c
-  of_first c n ds es h = either_by (StandsForHistory n ds) (λ bytes. StandsForHistory n ds bytes ⊎ StandsForHistory n es bytes) (journal_of c) (λ bytes stands. inl stands) h
+  of_first c n ds es h = either_by (StandsForHistory n ds) (StandsForEither n ds es) (journal_of c) (λ bytes stands. inl stands) h
 
   of_second : (c : Container K disk) (n : Key) (ds es : List DeltaOf) → IsFileOf n es c → IsFileOfEither n ds es c
-  of_second c n ds es h = either_by (StandsForHistory n es) (λ bytes. StandsForHistory n ds bytes ⊎ StandsForHistory n es bytes) (journal_of c) (λ bytes stands. inr stands) h
+  of_second c n ds es h = either_by (StandsForHistory n es) (StandsForEither n ds es) (journal_of c) (λ bytes stands. inr stands) h
 
   of_within : (c : Container K disk) (n : Key) (ds es : List DeltaOf) (added : Option DeltaOf) → ((d : DeltaOf) → added ≡ Some d → es ≡ ds ++ d ∷ []) → IsFileWithin n ds added c → IsFileOfEither n ds es c
-  of_within c n ds es added grown h = either_by (StandsForOneMore n ds (λ d. added ≡ Some d)) (λ bytes. StandsForHistory n ds bytes ⊎ StandsForHistory n es bytes) (journal_of c) (more_or_not n ds es added grown) h
+  of_within c n ds es added grown h = either_by (StandsForOneMore n ds (λ d. added ≡ Some d)) (StandsForEither n ds es) (journal_of c) (more_or_not n ds es added grown) h
 
 if_some_by : {X : Type 0} (o : Option X) (P Q : X → Type 0) → ((x : X) → P x → Q x) → IfSome o P → IfSome o Q
 if_some_by None P Q f h = tt
@@ -109,6 +113,35 @@ module _ {F D : Type 0} {folder : folder_of.Ghosts F D} {disk : disk_of.Ghosts D
         (same_or_not n name);
   }
 
-  pub ended_memory : {A : Type 0} (a b : Shelf F D folder disk) (after : List Hosted) (r : Result A TurnFault) (e : TurnFault) → r ≡ Err e → e ≡ Memory → IsTriedTo a b after → IsEnded a b after r
-  ended_memory a b after r e is memory tried =
-      subst (λ (x : Result _ TurnFault). IsEnded a b after x) (sym (is ∙ ap (λ y. Err y) memory)) (record { settled = tt; failed = λ store. absurd (cc); store = λ store. absurd (cc); tried = tried })
+  -- ---- each crash meanwhile
+
+  pub stepped_still : (a : Shelf F D folder disk) (after : List Hosted) → AreStepped a a after
+  stepped_still a after = λ k settled n. written_itself (StandsForEither n (deltas_in (hosted_of a) n) (deltas_in after n)) (container_in a n)
+
+  pub stepped_as : (a b : Shelf F D folder disk) (after also : List Hosted) → after ≡ also → AreStepped a b after → AreStepped a b also
+  stepped_as a b after also e t = subst (λ hs. AreStepped a b hs) e t
+
+  pub stepped_done : (a b : Shelf F D folder disk) (name : Key) (s : Submission) (t : ℕ) → AreAscending (names_of (hosted_of a)) → ((m : Key) → m ≢ name → container_in b m ≡ container_in a m)
+      → (IsKept a → IsSettled a → IsWrittenOn (container_in a name) (container_in b name) (IsOneMoreOf a name s t)) → AreStepped a b (after_submission (hosted_of a) name s t)
+  stepped_done a b name s t up others written k settled n =
+      let hs = hosted_of a in
+      let added = (judged_in hs name s t).1 in
+      let after = after_submission hs name s t in
+      let either : Key → List ℕ → Type 0 = λ m. StandsForEither m (deltas_in hs m) (deltas_in after m) in
+      ⊎_elim
+      (λ same. subst (λ m. IsWrittenOn (container_in a m) (container_in b m) (either m)) (sym same)
+      (written_more (IsOneMoreOf a name s t) (either name) (more_or_not name (deltas_in hs name) (deltas_in after name) added (grown_to hs name added up)) (container_in a name) (container_in b name) (written k settled)))
+      (λ other. subst (λ o. IsWrittenOn (container_in a n) o (either n)) (sym (others n other)) (written_itself (either n) (container_in a n)))
+      (same_or_not n name)
+
+  -- ---- how a step ended
+
+  pub ended_memory : {A : Type 0} (a b : Shelf F D folder disk) (after : List Hosted) (r : Result A TurnFault) (e : TurnFault) → r ≡ Err e → e ≡ Memory → IsTriedTo a b after → AreStepped a b after → IsEnded a b after r
+  ended_memory a b after r e is memory tried moments =
+      subst (λ (x : Result _ TurnFault). IsEnded a b after x) (sym (is ∙ ap (λ y. Err y) memory)) (record { settled = tt; failed = λ store. absurd (cc); store = λ store. absurd (cc); tried = tried; moments = moments })
+
+  pub ended_done : {A : Type 0} (a b : Shelf F D folder disk) (after : List Hosted) (x : A) → (IsKept a → IsSettled a → IsSettled b) → AreStepped a b after → IsEnded a b after (Ok x)
+  ended_done a b after x settled moments = record { settled = settled; failed = λ store. absurd (cc); store = λ store. absurd (cc); tried = tt; moments = moments }
+
+  pub ended_still : {A : Type 0} (a : Shelf F D folder disk) (after : List Hosted) (x : A) → IsEnded a a after (Ok x)
+  ended_still a after x = ended_done a a after x (λ k settled. settled) (stepped_still a after)

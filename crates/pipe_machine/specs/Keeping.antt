@@ -6,7 +6,11 @@
 --     submitted_in ts n   one of the turns is one
 --     IsFileAmong may m   this is the file of a name of which this holds
 --     IsMoved may a b     the shelf before and behind a step that may submit to the names of which this holds
+--     StandsForEither n ds es f   the file stands for the one history of the name, or for the other
 --     IsFileOfEither n ds es c    as it reads, and in each image, the container's file stands for the one history or the other
+--     AreWrittenOn a b P  the files of all containers were written on, and a crash since then left what it might have left before, or what
+--                         has P of the name
+--     AreStepped a b hs   so were they by a step that leads to these histories, and each crash left the history of before, or that
 --     IsTriedTo a b hs    a step was tried that leads to these histories: there are those of before, or these, and so it is with each file
 --     IsEnded a b hs r    no repair waits after it; or why it failed, and that it was tried
 use Rattle.std.specs.Prelude.{◌≡◌, ◌⊎◌, ◌≤◌, ℕ, List, ◌++◌, Bool, true, false, Result, Ok, Err, IsSome, IfSome, OnOk, OnErr, IsErrOf}
@@ -24,6 +28,7 @@ use Rattle.delta_journal.specs.Journal.{on_disk}
 use Rattle.wavelet_container.specs.Containers.{journal_of}
 use Rattle.wavelet_container.specs.Records.{StandsForHistory}
 use Rattle.wavelet_container.specs.declared.container.Container.{Container}
+use Rattle.wavelet_shelf.specs.Entries.{IsWrittenOn}
 use Rattle.wavelet_shelf.specs.FileNames.{file_name_of}
 use Rattle.wavelet_shelf.specs.Folders.{IsUsedIn}
 use Rattle.wavelet_shelf.specs.Hosting.{Hosted, deltas_in}
@@ -79,9 +84,12 @@ submitted_in ts n = list_any (λ t. submits_to t.line n) ts
 abbrev pub IsFileAmong : (Key → Bool) → List ℕ → Type 0
 IsFileAmong may m = (n : Key) × (may n ≡ true) × (m ≡ file_name_of n)
 
+abbrev pub StandsForEither : Key → List DeltaOf → List DeltaOf → List ℕ → Type 0
+StandsForEither n ds es bytes = StandsForHistory n ds bytes ⊎ StandsForHistory n es bytes
+
 module _ {D : Type 0} {disk : disk_of.Ghosts D} where
   abbrev pub IsFileOfEither : Key → List DeltaOf → List DeltaOf → Container D disk → Type 0
-  IsFileOfEither n ds es c = IfSome (journal_of c) (λ j. Kept (on_disk j) (λ bytes. StandsForHistory n ds bytes ⊎ StandsForHistory n es bytes))
+  IsFileOfEither n ds es c = IfSome (journal_of c) (λ j. Kept (on_disk j) (StandsForEither n ds es))
 
 module _ {F D : Type 0} {folder : folder_of.Ghosts F D} {disk : disk_of.Ghosts D} where
   pub record IsMoved (may : Key → Bool) (a b : Shelf F D folder disk) : Type 0 where
@@ -90,6 +98,12 @@ module _ {F D : Type 0} {folder : folder_of.Ghosts F D} {disk : disk_of.Ghosts D
     pub kept : IsKept a → IsKept b
     pub used : IsUsedIn folder (IsFileAmong may) (in_folder a) (in_folder b)
     pub later : fault_count a ≤ fault_count b
+
+  abbrev pub AreWrittenOn : Shelf F D folder disk → Shelf F D folder disk → (Key → List ℕ → Type 0) → Type 0
+  AreWrittenOn a b P = (n : Key) → IsWrittenOn (container_in a n) (container_in b n) (P n)
+
+  abbrev pub AreStepped : Shelf F D folder disk → Shelf F D folder disk → List Hosted → Type 0
+  AreStepped a b after = IsKept a → IsSettled a → AreWrittenOn a b (λ n. StandsForEither n (deltas_in (hosted_of a) n) (deltas_in after n))
 
   pub record IsTriedTo (a b : Shelf F D folder disk) (after : List Hosted) : Type 0 where
     pub hosted : (hosted_of b ≡ hosted_of a) ⊎ (hosted_of b ≡ after)
@@ -100,3 +114,4 @@ module _ {F D : Type 0} {folder : folder_of.Ghosts F D} {disk : disk_of.Ghosts D
     pub failed : IsErrOf r Store → Rose (fault_count a) (fault_count b)
     pub store : IsErrOf r Store → IsSome (in_folder a)
     pub tried : OnErr r (IsTriedTo a b after)
+    pub moments : AreStepped a b after

@@ -118,7 +118,7 @@ impl<F: Folder + Drop> LineMachine for PipeMachine<F> {
     ghost use Rattle.pipe_machine.specs.Lines.{lines_of};
     ghost use Rattle.pipe_machine.specs.Machine.{sent};
     ghost use Rattle.pipe_machine.specs.Pipes.{pipe_of, store_faults, IsReached, IsSince, IsTried, IsCalm};
-    ghost use Rattle.pipe_machine.specs.Laws.{unmoved};
+    ghost use Rattle.pipe_machine.specs.Laws.{at_start, unmoved};
     ghost use Rattle.std.specs.Prelude.{refl};
 
     ghost answers = { λ m ts. lines_of (sent (pipe_of m) ts) };
@@ -135,7 +135,7 @@ impl<F: Folder + Drop> LineMachine for PipeMachine<F> {
 
     ghost silent = { λ m. refl };
 
-    ghost at_start = { λ m. refl };
+    ghost at_start = { λ m. at_start m };
 
     ghost unmoved = { λ m. unmoved m };
 
@@ -143,7 +143,7 @@ impl<F: Folder + Drop> LineMachine for PipeMachine<F> {
         self.shelf.is_stored()
     }
 
-    #[tactic(auto, using(crate::proofs::Turning::after_more, crate::proofs::Turning::faults_later, crate::proofs::Turning::faults_rose))]
+    #[tactic(auto, using(crate::proofs::Turning::faults_later, crate::proofs::Turning::faults_rose))]
     fn turn(
         &mut self,
         alloc: Global,

@@ -16,9 +16,10 @@ use Rattle.line_loop.specs.Turns.{Turn, lines_in}
 use Rattle.wavelet_shelf.specs.Hosting.{Hosted, deltas_in}
 use Rattle.wavelet_shelf.specs.Shelves.{hosted_of, container_in, IsKept, IsSettled}
 use Rattle.wavelet_shelf.specs.declared.shelf.Shelf.{Shelf}
-use Rattle.pipe_machine.specs.Keeping.{Begins, IsFileOfEither, IsMoved, submitted_in}
+use Rattle.pipe_machine.specs.Keeping.{Begins, IsFileOfEither, AreWrittenOn, IsMoved, submitted_in}
 use Rattle.pipe_machine.specs.Lines.{lines_of}
 use Rattle.pipe_machine.specs.Machine.{start, sent, after}
+use Rattle.pipe_machine.specs.Pipes.{StandsAlong}
 use Rattle.wave_program.specs.Run.{IsServing, IsWhole}
 
 abbrev pub answers_over : List Hosted → List Turn → List ℕ
@@ -34,6 +35,8 @@ module _ {F D : Type 0} {folder : folder_of.Ghosts F D} {disk : disk_of.Ghosts D
   pub record IsLeftOf (a b : Shelf F D folder disk) (turns tried : List Turn) : Type 0 where
     pub one : IsOneAtMost tried
     pub hosted : (hosted_of b ≡ hosted_after (hosted_of a) turns) ⊎ (hosted_of b ≡ hosted_after (hosted_of a) (turns ++ tried))
+    -- and whenever the run was cut off, a crash left a history on the way
+    pub moments : IsKept a → IsSettled a → AreWrittenOn a b (λ n. StandsAlong (start (hosted_of a)) n (turns ++ tried))
     pub files : IsKept a → IsSettled a → (n : Key) → IfSome (container_in b n) (IsFileOfEither n (deltas_in (hosted_after (hosted_of a) turns) n) (deltas_in (hosted_after (hosted_of a) (turns ++ tried)) n))
 
 module _ {F D K : Type 0} {folder : folder_of.Ghosts F D} {disk : disk_of.Ghosts D} (clock : clock_of.Ghosts K) where

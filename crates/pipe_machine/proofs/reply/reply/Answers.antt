@@ -4,7 +4,7 @@ use Rattle.pipe_machine.specs.Keeping.{submits}
 use Rattle.pipe_machine.proofs.Moving.{only_if}
 use Rattle.pipe_machine.proofs.Plain.{IsGood, taken_good, plain_after, short_after}
 use Rattle.std.proofs.lemmas.Result.{err_from_is_err_and}
-use Rattle.pipe_machine.proofs.Trying.{ended_memory, tried_still}
+use Rattle.pipe_machine.proofs.Trying.{ended_memory, stepped_still, tried_still}
 use Rattle.pipe_machine.proofs.reply.reply.Goals as goal
 
 pub returns-clause-plain : goal.returns-clause-plain
@@ -25,4 +25,4 @@ returns-clause-moved g c =
 pub returns-in_err-request-clause-ended : goal.returns-in_err-request-clause-ended
 returns-in_err-request-clause-ended g c =
     let p = err_from_is_err_and c.from_residual.result c.from_residual.ensures.1 in
-    ended_memory c.args.shelf.now c.args.shelf.now _ c.from_residual.result p.0 p.1 p.2 (tried_still c.args.shelf.now _)
+    ended_memory c.args.shelf.now c.args.shelf.now _ c.from_residual.result p.0 p.1 p.2 (tried_still c.args.shelf.now _) (stepped_still c.args.shelf.now _)

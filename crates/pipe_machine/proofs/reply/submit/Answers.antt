@@ -4,7 +4,7 @@ use Rattle.std.proofs.lemmas.Result.{err_from_is_err_and}
 use Rattle.line_loop.specs.declared.line_machine.TurnFault.TheVariants.{Memory}
 use Rattle.wavelet_shelf.specs.Hosting.{after_submission}
 use Rattle.wavelet_shelf.specs.Shelves.{hosted_of}
-use Rattle.pipe_machine.proofs.Trying.{ended_memory, tried_done, tried_refused}
+use Rattle.pipe_machine.proofs.Trying.{ended_memory, ended_done, stepped_done, tried_done, tried_refused}
 use Rattle.pipe_machine.proofs.reply.submit.Goals as goal
 
 pub returns-in_err-answer_submit-in-Ok-clause-moved : goal.returns-in_err-answer_submit-in-Ok-clause-moved
@@ -28,6 +28,7 @@ returns-in-Err-DiskFault-clause-ended g c = record {
   failed = λ e. c.in-Err-DiskFault.ensures.failed (ap (λ z. Err z) c.in-Err-DiskFault.field-0-is);
   store = λ e. c.in-Err-DiskFault.ensures.disk (ap (λ z. Err z) c.in-Err-DiskFault.field-0-is);
   tried = tried_refused c.args.shelf.now c.submit.new.self c.args.name.now c.args.submission.now c.args.time c.copies_are_hosted.ensures.ascending c.submit.ensures.others c.in-Err-DiskFault.ensures.same c.submit.ensures.within;
+  moments = stepped_done c.args.shelf.now c.submit.new.self c.args.name.now c.args.submission.now c.args.time c.copies_are_hosted.ensures.ascending c.submit.ensures.others c.submit.ensures.moments;
 }
 
 pub returns-in-Err-Memory-clause-moved : goal.returns-in-Err-Memory-clause-moved
@@ -40,9 +41,15 @@ returns-in_err-answer_submit-in-Ok-clause-ended g c =
     let p = err_from_is_err_and c.from_residual.result c.from_residual.ensures.1 in
     let after = after_submission (hosted_of c.args.shelf.now) c.args.name.now c.args.submission.now c.args.time in
     ended_memory c.args.shelf.now c.submit.new.self after c.from_residual.result p.0 p.1 p.2 (tried_done c.args.shelf.now c.submit.new.self after c.in-Ok.ensures.grown c.in-Ok.ensures.settled)
+    (stepped_done c.args.shelf.now c.submit.new.self c.args.name.now c.args.submission.now c.args.time c.copies_are_hosted.ensures.ascending c.submit.ensures.others c.submit.ensures.moments)
+
+pub returns-in_ok-answer_submit-in-Ok-clause-ended : goal.returns-in_ok-answer_submit-in-Ok-clause-ended
+returns-in_ok-answer_submit-in-Ok-clause-ended g c = ended_done c.args.shelf.now c.submit.new.self _ _ c.in-Ok.ensures.settled
+    (stepped_done c.args.shelf.now c.submit.new.self c.args.name.now c.args.submission.now c.args.time c.copies_are_hosted.ensures.ascending c.submit.ensures.others c.submit.ensures.moments)
 
 pub returns-in-Err-Memory-clause-ended : goal.returns-in-Err-Memory-clause-ended
 returns-in-Err-Memory-clause-ended g c =
     let s = c.submit.ensures in
     ended_memory c.args.shelf.now c.submit.new.self (after_submission (hosted_of c.args.shelf.now) c.args.name.now c.args.submission.now c.args.time) (Err Memory) Memory refl refl
     (tried_refused c.args.shelf.now c.submit.new.self c.args.name.now c.args.submission.now c.args.time c.copies_are_hosted.ensures.ascending s.others c.in-Err-Memory.ensures.same s.within)
+    (stepped_done c.args.shelf.now c.submit.new.self c.args.name.now c.args.submission.now c.args.time c.copies_are_hosted.ensures.ascending s.others s.moments)

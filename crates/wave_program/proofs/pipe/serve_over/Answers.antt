@@ -1,10 +1,12 @@
 use Rattle.std.proofs.Common.{◌≡◌, ◌<◌, length, sym, ap, ◌∙◌, subst, inl, inr, refl}
 use Rattle.line_loop.specs.Lines.{IsPrefix}
 use Rattle.line_loop.specs.Turns.{lines_in}
-use Rattle.wavelet_shelf.specs.Shelves.{hosted_of, IsKept, IsSettled}
+use Rattle.wavelet_shelf.specs.Entries.{IsWrittenOn}
+use Rattle.wavelet_shelf.specs.Shelves.{container_in, hosted_of, IsKept, IsSettled}
+use Rattle.pipe_machine.specs.Keeping.{AreWrittenOn}
 use Rattle.pipe_machine.specs.Lines.{lines_of}
 use Rattle.pipe_machine.specs.Machine.{Pipe, start, sent, turn, after}
-use Rattle.pipe_machine.specs.Pipes.{pipe_of}
+use Rattle.pipe_machine.specs.Pipes.{pipe_of, StandsAlong}
 use Rattle.pipe_machine.proofs.Turning.{after_more}
 use Rattle.wave_program.specs.Pipe.{IsLeftOf}
 use Rattle.wave_program.proofs.Leaving.{left_of, left_still, left_tried}
@@ -16,7 +18,7 @@ returns-clause-over g c =
     let s = c.run_lines-ending.ensures.served in
     let st = sym c.status.ensures in
     let is : pipe_of c.new-machine.result ≡ start (hosted_of c.args.shelf) = c.new-machine.ensures.pipe in
-    let e : (after (start (hosted_of c.args.shelf)) s.turns).hosted ≡ hosted_of s.mid.shelf = ap (λ (p : Pipe). (after p s.turns).hosted) (sym is) ∙ ap (λ (p : Pipe). p.hosted) s.reached in
+    let e : (after (start (hosted_of c.args.shelf)) s.turns).hosted ≡ hosted_of s.mid.shelf = ap (λ (p : Pipe). (after p s.turns).hosted) (sym is) ∙ ap (λ (p : Pipe). p.hosted) s.reached.pipe in
     record {
       known = serving c.run_lines-ending.result c.status.result c.status.ensures;
       run = record {
@@ -40,13 +42,16 @@ returns-clause-over g c =
       lines = s.lines;
       moved = rw (← c.new-machine.ensures.shelf, c.into_shelf.ensures) s.moved;
       left =
-          let reached : after (start (hosted_of c.args.shelf)) s.turns ≡ pipe_of s.mid = ap (λ (p : Pipe). after p s.turns) (sym is) ∙ s.reached in
+          let reached : after (start (hosted_of c.args.shelf)) s.turns ≡ pipe_of s.mid = ap (λ (p : Pipe). after p s.turns) (sym is) ∙ s.reached.pipe in
           let calm : IsKept c.args.shelf → IsSettled c.args.shelf → IsKept s.mid.shelf × IsSettled s.mid.shelf = λ kept settled. s.calm (rw (c.new-machine.ensures.shelf) kept, rw (c.new-machine.ensures.shelf) settled) in
+          let written : IsKept c.args.shelf → IsSettled c.args.shelf → AreWrittenOn c.args.shelf s.mid.shelf (λ n. StandsAlong (start (hosted_of c.args.shelf)) n s.turns) = λ kept settled n.
+              subst (λ (p : Pipe). IsWrittenOn (container_in c.args.shelf n) (container_in s.mid.shelf n) (StandsAlong p n s.turns)) is
+              (subst (λ x. IsWrittenOn (container_in x n) (container_in s.mid.shelf n) (StandsAlong (pipe_of c.new-machine.result) n s.turns)) c.new-machine.ensures.shelf (s.reached.moments (rw (c.new-machine.ensures.shelf) kept, rw (c.new-machine.ensures.shelf) settled) n)) in
           rw (c.into_shelf.ensures)
           (left_of s (λ us. IsLeftOf c.args.shelf c.run_lines-ending.new.machine.shelf s.turns us)
-          (λ same. left_still c.args.shelf s.mid.shelf c.run_lines-ending.new.machine.shelf s.turns (sym e) calm (λ i. (same i).shelf))
-          (λ t tried. left_tried c.args.shelf s.mid.shelf c.run_lines-ending.new.machine.shelf s.turns (sym e) calm t (turn (pipe_of s.mid) t.time t.line).pipe.hosted
-          (ap (λ (p : Pipe). (turn p t.time t.line).pipe.hosted) (sym reached) ∙ ap (λ (p : Pipe). p.hosted) (sym (after_more (start (hosted_of c.args.shelf)) s.turns t.time t.line))) tried));
+          (λ same. left_still c.args.shelf s.mid.shelf c.run_lines-ending.new.machine.shelf s.turns (sym e) calm written (λ i. (same i).shelf))
+          (λ t tried. left_tried c.args.shelf s.mid.shelf c.run_lines-ending.new.machine.shelf s.turns (sym e) calm written t (turn (pipe_of s.mid) t.time t.line).pipe.hosted
+          (ap (λ (p : Pipe). (turn p t.time t.line).pipe.hosted) (sym reached) ∙ ap (λ (p : Pipe). p.hosted) (sym (after_more (start (hosted_of c.args.shelf)) s.turns t.time t.line))) tried.to tried.moments));
       grown = λ n. rw (e, c.into_shelf.ensures) (s.since.grown n);
       whole = λ w.
           let here : c.run_lines-ending.new.machine ≡ s.mid = elim w [

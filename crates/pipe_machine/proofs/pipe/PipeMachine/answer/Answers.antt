@@ -2,7 +2,7 @@ use Rattle.std.proofs.Common.{Ok, Err, refl, sym, ap, subst, ◌∙◌}
 use Rattle.pipe_machine.specs.Keeping.{IsMoved, submits_read}
 use Rattle.std.proofs.lemmas.Result.{err_from_is_err_and}
 use Rattle.line_loop.specs.declared.line_machine.TurnFault.TheVariants.{Memory}
-use Rattle.pipe_machine.proofs.Trying.{ended_memory, tried_still}
+use Rattle.pipe_machine.proofs.Trying.{ended_memory, stepped_still, tried_still}
 use Rattle.pipe_machine.proofs.pipe.PipeMachine.answer.Goals as goal
 
 pub returns-in-Ok-clause-moved : goal.returns-in-Ok-clause-moved
@@ -12,7 +12,7 @@ returns-in-Ok-clause-moved g c =
 pub returns-in_err-refuse-in-Err-Bad-clause-ended : goal.returns-in_err-refuse-in-Err-Bad-clause-ended
 returns-in_err-refuse-in-Err-Bad-clause-ended g c =
     let p = err_from_is_err_and c.from_residual.result c.from_residual.ensures.1 in
-    ended_memory c.args.self.now.shelf c.args.self.now.shelf _ c.from_residual.result p.0 p.1 p.2 (tried_still c.args.self.now.shelf _)
+    ended_memory c.args.self.now.shelf c.args.self.now.shelf _ c.from_residual.result p.0 p.1 p.2 (tried_still c.args.self.now.shelf _) (stepped_still c.args.self.now.shelf _)
 
 pub returns-in-Err-Memory-clause-ended : goal.returns-in-Err-Memory-clause-ended
-returns-in-Err-Memory-clause-ended g c = ended_memory c.args.self.now.shelf c.args.self.now.shelf _ (Err Memory) Memory refl refl (tried_still c.args.self.now.shelf _)
+returns-in-Err-Memory-clause-ended g c = ended_memory c.args.self.now.shelf c.args.self.now.shelf _ (Err Memory) Memory refl refl (tried_still c.args.self.now.shelf _) (stepped_still c.args.self.now.shelf _)

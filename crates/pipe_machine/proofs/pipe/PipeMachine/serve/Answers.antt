@@ -1,12 +1,12 @@
-use Rattle.std.proofs.Common.{[], ap, ◌∙◌}
+use Rattle.std.proofs.Common.{[], sym, ap, ◌∙◌}
 use Rattle.pipe_machine.specs.Seats.{begun}
 use Rattle.wavelet_shelf.specs.Shelves.{hosted_of}
 use Rattle.pipe_machine.specs.Pipes.{pipe_of}
 use Rattle.pipe_machine.proofs.Serving.{any_default, served_pipe, served_sent}
 use Rattle.pipe_machine.proofs.Seating.{plain_either, plain_with}
 use Rattle.std.proofs.lemmas.Result.{err_from_is_err_and}
-use Rattle.pipe_machine.specs.Machine.{Pipe, served}
-use Rattle.pipe_machine.proofs.Trying.{ended_memory, tried_done, tried_still}
+use Rattle.pipe_machine.specs.Machine.{Pipe, Reply, served}
+use Rattle.pipe_machine.proofs.Trying.{ended_memory, stepped_as, stepped_still, tried_done, tried_still}
 use Rattle.pipe_machine.proofs.pipe.PipeMachine.serve.Goals as goal
 
 pub invariant_of-self : goal.invariant_of-self
@@ -38,7 +38,7 @@ returns-clause-sent g c =
 pub returns-in_err-place-clause-ended : goal.returns-in_err-place-clause-ended
 returns-in_err-place-clause-ended g c =
     let p = err_from_is_err_and c.from_residual.result c.from_residual.ensures.1 in
-    ended_memory c.args.self.now.shelf c.args.self.now.shelf _ c.from_residual.result p.0 p.1 p.2 (tried_still c.args.self.now.shelf _)
+    ended_memory c.args.self.now.shelf c.args.self.now.shelf _ c.from_residual.result p.0 p.1 p.2 (tried_still c.args.self.now.shelf _) (stepped_still c.args.self.now.shelf _)
 
 pub returns-in_err-push_line-clause-ended : goal.returns-in_err-push_line-clause-ended
 returns-in_err-push_line-clause-ended g c =
@@ -48,3 +48,4 @@ returns-in_err-push_line-clause-ended g c =
     let hosted = ap (λ (p : Pipe). p.hosted) (served_pipe (pipe_of c.args.self.now) c.args.time c.args.name c.args.message c.seat_of.new.seats.items c.in_ok-place.place c.index_mut-seat.result.now c.reply.new.session
     (hosted_of c.reply.new.shelf) c.in_ok-message.message c.in_ok-place.ensures.place c.in_ok-place.ensures.seats (c.index_mut-seat.ensures.value ∙ any_default c.seat_of.new.seats.items c.in_ok-place.place c.index_mut-seat.result.now (begun []) c.in_ok-place.ensures.within) c.in_ok-message.ensures.reply) in
     ended_memory c.args.self.now.shelf c.reply.new.shelf after result p.0 p.1 p.2 (tried_done c.args.self.now.shelf c.reply.new.shelf after hosted c.in_ok-message.ensures.ended.settled)
+    (stepped_as c.args.self.now.shelf c.reply.new.shelf _ after (sym (ap (λ (r : Reply). r.hosted) c.in_ok-message.ensures.reply) ∙ hosted) c.in_ok-message.ensures.ended.moments)

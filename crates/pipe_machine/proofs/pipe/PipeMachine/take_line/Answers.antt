@@ -20,4 +20,4 @@ returns-in_err-deliver-clause-ended g c =
     let p = err_from_is_err_and result c.from_residual-in_err-deliver.ensures.1 in
     let after = (answered (pipe_of c.args.self.now) c.args.time c.args.line.now).pipe.hosted in
     ended_memory c.args.self.now.shelf c.answer.new.self.shelf after result p.0 p.1 p.2
-    (tried_done c.args.self.now.shelf c.answer.new.self.shelf after (ap (λ (p : Pipe). p.hosted) c.in_ok-answer.ensures.pipe) c.in_ok-answer.ensures.ended.settled)
+    (tried_done c.args.self.now.shelf c.answer.new.self.shelf after (ap (λ (p : Pipe). p.hosted) c.in_ok-answer.ensures.pipe) c.in_ok-answer.ensures.ended.settled) c.in_ok-answer.ensures.ended.moments
