@@ -1,6 +1,7 @@
 -- What becomes of a message of a session, from what the calls gave.
 --     any_default     within a list the default of a look-up doesn't matter
 --     answer_is       the answer, where the seat, its place and the reply are those of the calls
+--     seat_is         the seat, where it and its place are those of the calls
 --     served_pipe     the machine then
 --     served_sent     and what is sent
 use Rattle.std.proofs.Common.{◌≡◌, ◌<◌, ℕ, zero, suc, List, [], ◌∷◌, ◌++◌, length, get_or, slice_set, refl, sym, ap, ◌∙◌, arith}
@@ -27,6 +28,9 @@ answer_is p t name m ss i s x hs a place seats seat reply =
     ∙ ap (λ (q : List Seat). served_at p t name m i q) (sym seats)
     ∙ ap (λ (z : Seat). seated_answer ss i name (replied p.hosted z.session m t)) (sym seat)
     ∙ ap (λ (r : Reply). seated_answer ss i name r) (sym reply)
+
+pub seat_is : (name : Key) (seats ss : List Seat) (i : ℕ) (s : Seat) → i ≡ place_in name 0 seats → ss ≡ seated name seats → s ≡ seat_in i ss → s ≡ seat_in (place_in name 0 seats) (seated name seats)
+seat_is name seats ss i s place is seat = seat ∙ (λ k. seat_in (place k) (is k))
 
 pub served_pipe : (p : Pipe) (t : ℕ) (name : Key) (m : Message) (ss : List Seat) (i : ℕ) (s : Seat) (x : Session) (hs : List Hosted) (a : Message)
     → i ≡ place_in name 0 p.seats → ss ≡ seated name p.seats → s ≡ seat_in i ss → reply_of hs (x, a) ≡ replied p.hosted s.session m t

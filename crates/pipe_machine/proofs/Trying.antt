@@ -8,7 +8,8 @@
 --     stepped_as        the step leads to the same histories
 --     ended_memory      a step that there was no memory for
 --     ended_still, ended_done    nothing happened; a step was done
-use Rattle.std.proofs.Common.{◌≡◌, ◌≢◌, ◌⊎◌, inl, inr, ⊎_elim, ℕ, List, [], ◌∷◌, ◌++◌, Option, Some, None, IsSome, IfSome, Result, Ok, Err, OnErr, refl, sym, ap, subst, ◌∙◌, option_map}
+--     ended_as          a step that failed leads to the same histories, and its fault was handed on
+use Rattle.std.proofs.Common.{◌≡◌, ◌≢◌, inl, inr, ⊎_elim, ℕ, List, [], ◌∷◌, ◌++◌, Option, Some, None, IfSome, Result, Ok, Err, refl, sym, ap, subst, ◌∙◌, option_map}
 use Rattle.std.specs.Map.{lookup}
 use Rattle.std.specs.Option.{option_map_or}
 use Rattle.doc_items.specs.Maps.{Key, same_text}
@@ -22,9 +23,9 @@ use Rattle.delta_journal.specs.declared.journal.Journal.{Journal}
 use Rattle.wave_outside.specs.declared.folder.Folder as folder_of
 use Rattle.wavelet_container.specs.Containers.{history_of, journal_of}
 use Rattle.wavelet_container.specs.Records.{StandsForHistory}
-use Rattle.wavelet_container.specs.Stores.{IsWithin, StandsForOneMore}
+use Rattle.wavelet_container.specs.Stores.{StandsForOneMore}
 use Rattle.wavelet_container.specs.declared.container.Container.{Container}
-use Rattle.wavelet_shelf.specs.Entries.{found, IsFileWithin, IsWrittenOn, IsNamed, IsSafe}
+use Rattle.wavelet_shelf.specs.Entries.{IsFileWithin, IsWrittenOn, IsNamed, IsSafe}
 use Rattle.wavelet_shelf.specs.Hosting.{Hosted, names_of, deltas_in, with_added, judged_in, after_submission}
 use Rattle.wavelet_shelf.specs.Shelves.{entries_of, container_in, hosted_of, IsKept, IsSettled, IsOneMoreOf}
 use Rattle.wavelet_shelf.specs.declared.filed.Filed.{Filed}
@@ -142,6 +143,18 @@ module _ {F D : Type 0} {folder : folder_of.Ghosts F D} {disk : disk_of.Ghosts D
 
   pub ended_done : {A : Type 0} (a b : Shelf F D folder disk) (after : List Hosted) (x : A) → (IsKept a → IsSettled a → IsSettled b) → AreStepped a b after → IsEnded a b after (Ok x)
   ended_done a b after x settled moments = record { settled = settled; failed = λ store. absurd (cc); store = λ store. absurd (cc); tried = tt; moments = moments }
+
+  pub ended_as : {A B : Type 0} (a b : Shelf F D folder disk) (after also : List Hosted) (r : Result B TurnFault) (e : TurnFault) → also ≡ after → r ≡ Err e → IsEnded {A = A} a b also (Err e) → IsEnded a b after r
+  ended_as {A} {B} a b after also r e leads is x = subst (λ (y : Result B TurnFault). IsEnded a b after y) (sym is) (record {
+    settled = tt;
+    failed = λ store. x.failed (ap (λ z. Err z) (same_fault store));
+    store = λ store. x.store (ap (λ z. Err z) (same_fault store));
+    tried = tried_as a b also after leads x.tried;
+    moments = stepped_as a b also after leads x.moments;
+  })
+    where
+      same_fault : {y z : TurnFault} → ◌≡◌ {A = Result B TurnFault} (Err y) (Err z) → y ≡ z
+      same_fault h = cc
 
   pub ended_still : {A : Type 0} (a : Shelf F D folder disk) (after : List Hosted) (x : A) → IsEnded a a after (Ok x)
   ended_still a after x = ended_done a a after x (λ k settled. settled) (stepped_still a after)

@@ -48,7 +48,8 @@ turn_sent one two out a p e f h =
 -- ---- the turns before each crash
 
 front : (ts rest : List Turn) (k : ℕ) → (j : ℕ) × (take j (ts ++ rest) ≡ take k ts)
-front [] rest k = (0, refl)
+front [] rest zero = (0, refl)
+front [] rest (suc k) = (0, refl)
 front (t ∷ ts) rest zero = (0, refl)
 front (t ∷ ts) rest (suc k) = let j = front ts rest k in (suc j.0, ap (λ l. t ∷ l) j.1)
 
@@ -61,12 +62,12 @@ along_more p n ts rest bytes stands =
 pub along_step : (p : Pipe) (n : Key) (ts : List Turn) (t : Turn) (here next : List Hosted) → (after p ts).hosted ≡ here → (after p (ts ++ t ∷ [])).hosted ≡ next
     → (bytes : List ℕ) → StandsForEither n (deltas_in here n) (deltas_in next n) bytes → StandsAlong p n (ts ++ t ∷ []) bytes
 along_step p n ts t here next is leads bytes (inl stands) = along_more p n ts (t ∷ []) bytes (
-    length ts,
-    subst (λ l. StandsForHistory n (deltas_in (after p l).hosted n) bytes) (sym (take_all (length ts) ts (le_refl _))) (subst (λ hs. StandsForHistory n (deltas_in hs n) bytes) (sym is) stands),
+  length ts,
+  subst (λ l. StandsForHistory n (deltas_in (after p l).hosted n) bytes) (sym (take_all (length ts) ts (le_refl _))) (subst (λ hs. StandsForHistory n (deltas_in hs n) bytes) (sym is) stands),
 )
 along_step p n ts t here next is leads bytes (inr stands) = (
-    length (ts ++ t ∷ []),
-    subst (λ l. StandsForHistory n (deltas_in (after p l).hosted n) bytes) (sym (take_all (length (ts ++ t ∷ [])) (ts ++ t ∷ []) (le_refl _))) (subst (λ hs. StandsForHistory n (deltas_in hs n) bytes) (sym leads) stands),
+  length (ts ++ t ∷ []),
+  subst (λ l. StandsForHistory n (deltas_in (after p l).hosted n) bytes) (sym (take_all (length (ts ++ t ∷ [])) (ts ++ t ∷ []) (le_refl _))) (subst (λ hs. StandsForHistory n (deltas_in hs n) bytes) (sym leads) stands),
 )
 
 none_of : (a b : Bool) → (a || b) ≡ false → (a ≡ false) × (b ≡ false)
@@ -131,7 +132,7 @@ module _ {F D : Type 0} {folder : folder_of.Ghosts F D} {disk : disk_of.Ghosts D
             let along = StandsAlong p n (ts ++ turn_at time line ∷ []) in
             let one = written_more (StandsAlong p n ts) along (along_more p n ts (turn_at time line ∷ [])) (container_in a.shelf n) (container_in m.shelf n) (r.moments c n) in
             let two = written_more (StandsForEither n (deltas_in (hosted_of m.shelf) n) (deltas_in next n)) along (along_step p n ts (turn_at time line) (pipe_of m).hosted next (ap (λ (q : Pipe). q.hosted) r.pipe) (ap (λ (q : Pipe). q.hosted) leads))
-                (container_in m.shelf n) (container_in b.shelf n) (stepped (r.calm c).0 (r.calm c).1 n) in
+            (container_in m.shelf n) (container_in b.shelf n) (stepped (r.calm c).0 (r.calm c).1 n) in
             written_both along (container_in a.shelf n) (container_in m.shelf n) (container_in b.shelf n) one two;
       }
 

@@ -1,5 +1,7 @@
 use Rattle.std.proofs.Common.{Ok, Err, refl, sym, ap, subst, ◌∙◌}
-use Rattle.pipe_machine.specs.Keeping.{IsMoved, submits_read}
+use Rattle.pipe_machine.specs.Keeping.{IsEnded, IsMoved, submits_read}
+use Rattle.pipe_machine.specs.Machine.{answered_read}
+use Rattle.pipe_machine.specs.Pipes.{pipe_of}
 use Rattle.std.proofs.lemmas.Result.{err_from_is_err_and}
 use Rattle.line_loop.specs.declared.line_machine.TurnFault.TheVariants.{Memory}
 use Rattle.pipe_machine.proofs.Trying.{ended_memory, stepped_still, tried_still}
@@ -16,3 +18,7 @@ returns-in_err-refuse-in-Err-Bad-clause-ended g c =
 
 pub returns-in-Err-Memory-clause-ended : goal.returns-in-Err-Memory-clause-ended
 returns-in-Err-Memory-clause-ended g c = ended_memory c.args.self.now.shelf c.args.self.now.shelf _ (Err Memory) Memory refl refl (tried_still c.args.self.now.shelf _) (stepped_still c.args.self.now.shelf _)
+
+pub returns-in-Ok-clause-ended : goal.returns-in-Ok-clause-ended
+returns-in-Ok-clause-ended g c =
+    subst (λ r. IsEnded c.args.self.now.shelf c.serve.new.self.shelf (answered_read (pipe_of c.args.self.now) c.args.time r).pipe.hosted c.serve.result) (ap Ok c.into_parts-session.ensures ∙ sym c.in-Ok.ensures.ok) c.serve.ensures.ended
