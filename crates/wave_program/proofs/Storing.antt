@@ -25,7 +25,7 @@ use Rattle.wavelet_container.specs.Stores.{IsPending, IsStored}
 use Rattle.wavelet_container.specs.declared.container.Container.{Container}
 use Rattle.wavelet_container.proofs.Journals.{records_more, spelled_more}
 use Rattle.line_loop.specs.Turns.{Turn}
-use Rattle.wavelet_shelf.specs.Entries.{found, hosting, histories, faults_in, AreInOrder}
+use Rattle.wavelet_shelf.specs.Entries.{IsWrittenOn, found, hosting, histories, faults_in, AreInOrder}
 use Rattle.wavelet_shelf.specs.FileNames.{file_name_of}
 use Rattle.wavelet_shelf.specs.Hosting.{Hosted, deltas_in}
 use Rattle.wavelet_shelf.specs.Folders.{IsStill, IsStillIn, IsUsedIn}
@@ -42,8 +42,10 @@ use Rattle.wavelet_shelf.proofs.Still.{still_in_on, still_on, used_still}
 use Rattle.pipe_machine.specs.Held as Held
 use Rattle.pipe_machine.specs.Keeping.{Begins, submitted_in, IsFileAmong, IsFileOfEither, IsMoved}
 use Rattle.pipe_machine.specs.Machine.{start, sent}
+use Rattle.pipe_machine.specs.Pipes.{StandsAlong}
 use Rattle.wave_program.specs.Pipe.{hosted_after}
-use Rattle.wave_program.specs.Store.{GoesOn, IsFileOf, IsFileEither, IsStoredFrom, AreStored, AreStoredFrom, AreApartIn, IsLoaded, IsClosed, IsShelfRun, IsShelfUnloaded, IsStoredRun, IsUnloaded}
+use Rattle.wave_program.proofs.Moments.{file_begun, files_since}
+use Rattle.wave_program.specs.Store.{GoesOn, IsFileOf, IsFileEither, IsStoredFrom, IsFileSince, IsFileBegun, AreStored, AreStoredFrom, AreApartIn, IsLoaded, IsClosed, IsShelfRun, IsShelfUnloaded, IsStoredRun, IsUnloaded}
 
 pub damage_told : (o : Option (List ℕ × ℕ)) (P Q : List ℕ → ℕ → Type 0) → IsSome o → IfSome o (λ d. P d.0 d.1) → IfSome o (λ d. Q d.0 d.1) → (file : List ℕ) × (offset : ℕ) × P file offset × Q file offset
 damage_told None P Q e p q = absurd (cc)
@@ -123,6 +125,10 @@ module _ {D : Type 0} {disk : disk_of.Ghosts D} where
       go None e s = absurd (cc)
       go (Some f) e s = (f, e)
 
+none_at : {X : Type 0} (o : Option X) → is_some o ≡ false → o ≡ None
+none_at None e = refl
+none_at (Some x) e = absurd (true≢false e)
+
 if_some_at : {X : Type 0} (P : X → Type 0) (o : Option X) (x : X) → o ≡ Some x → IfSome o P → P x
 if_some_at {X} P o x e h = subst (λ (p : Option X). IfSome p P) e h
 
@@ -192,6 +198,16 @@ module _ {F D K : Type 0} (folder : folder_of.Ghosts F D) (disk : disk_of.Ghosts
       let back = if_some_at _ _ held.0 held.1 (if_some_at _ _ x.filed.container here (closed.back tells apart n)) in
       put_back_either disk.view (folder.files g (file_name_of n)) n ds es (on_disk held.0) (if_some_at _ _ held.0 held.1 (if_some_at _ _ x.filed.container here either)) back
 
+  -- a file that was made, before it is put back
+  begun_file : (m b : Shelf F D folder disk) (g : F) (n : Key) (P : List ℕ → Type 0) → IsTrue disk.tells → IsKept b → AreApart b → IsClosed b g → is_some (container_in m n) ≡ false → deltas_in (hosted_of b) n ≢ [] → IsWrittenOn (container_in m n) (container_in b n) P
+      → IsFileBegun disk.view (folder.files g (file_name_of n)) P
+  begun_file m b g n P tells kept apart closed new some written =
+      let x = has_container (entries_of b) n b.containers.in_order some in
+      let here = found_is (entries_of b) n x.filed x.is in
+      let held : IsHeld x.filed.container = all_found deltas_of (λ e. IsHeld e.1.container) (entries_of b) n x.filed kept.held x.is in
+      let back = if_some_at _ _ held.0 held.1 (if_some_at _ _ x.filed.container here (closed.back tells apart n)) in
+      file_begun P (folder.files g (file_name_of n)) x.filed.container held.0 held.1 (subst (λ (o : Option (Container D disk)). IsWrittenOn o (Some x.filed.container) P) (none_at (container_in m n) new) (subst (λ (o : Option (Container D disk)). IsWrittenOn (container_in m n) o P) here written)) back
+
   stored_whole : (b : Shelf F D folder disk) (g : F) (hs : List Hosted) → IsKept b → IsSettled b → AreApart b → IsClosed b g → hosted_of b ≡ hs → AreStored disk.view (folder.files g) hs
   stored_whole b g hs kept settled apart closed is n some =
       let x = has_container (entries_of b) n b.containers.in_order (rw (is) some) in
@@ -245,6 +261,10 @@ module _ {F D K : Type 0} (folder : folder_of.Ghosts F D) (disk : disk_of.Ghosts
         left = λ apart n some.
             left_either b g n (deltas_in (hosted_after (hosted_of m) o.run.turns) n) (deltas_in (hosted_after (hosted_of m) (o.run.turns ++ o.tried)) n) tells (o.moved.kept kept.0) (apart_at_end m b (o.run.turns ++ o.tried) o.moved apart) closed
             (λ none. some (nothing_before (deltas_in (hosted_after (hosted_of m) o.run.turns) n) (deltas_in (hosted_of b) n) (o.grown n) none)) (o.left.files kept.0 kept.1 n);
+        moments = λ apart. files_since folder m b f g (λ n. StandsAlong (start (hosted_of m)) n (o.run.turns ++ o.tried)) tells (if_some_at _ _ f is (r.loaded.read tells)) (o.left.moments kept.0 kept.1) (apart_at_end m b (o.run.turns ++ o.tried) o.moved apart) closed;
+        begun = λ apart n new some.
+            begun_file m b g n (StandsAlong (start (hosted_of m)) n (o.run.turns ++ o.tried)) tells (o.moved.kept kept.0) (apart_at_end m b (o.run.turns ++ o.tried) o.moved apart) closed new
+            (λ none. some (nothing_before (deltas_in (hosted_after (hosted_of m) o.run.turns) n) (deltas_in (hosted_of b) n) (o.grown n) none)) (o.left.moments kept.0 kept.1 n);
         others = λ l none. others_at_end m b f g (o.run.turns ++ o.tried) folder_tells kept.0.filed o.moved (if_some_at _ _ f is (r.loaded.as_before tells)) (closed.others tells) l none;
       }
 
@@ -316,6 +336,8 @@ module _ {F D K : Type 0} (folder : folder_of.Ghosts F D) (disk : disk_of.Ghosts
     whole = r.whole;
     one = r.one;
     left = r.left;
+    moments = λ apart n is. subst (λ (o : Option D). IsFileSince disk.view o (folder.files g (file_name_of n)) (StandsAlong (start r.hosted) n (r.run.turns ++ r.tried))) (same (file_name_of n)) (r.moments apart n is);
+    begun = r.begun;
     others = λ m none. subst (λ (o : Option D). IsAsBefore disk.view o (folder.files g m)) (same m) (r.others m none);
   }
 

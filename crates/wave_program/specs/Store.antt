@@ -5,6 +5,9 @@
 --     AreStored files hs        the file of each name that has a delta stands for its history, as it reads and in each image
 --     AreStoredFrom files hs    so it does for a history that begins with that
 --     IsFileEither o n ds es    as it reads, and in each image, the file stands for the one history of the name or the other
+--     IsFileSince o p P         the file stands at both ends of a run, and a crash since the first left what it might have left before, or what
+--                               has P
+--     IsFileBegun p P           it was made in the run, empty, and a crash since then left it so, or with what has P
 --     AreApartIn P              no two names with P have one file
 --     IsBeforeIn a b            the files of no container read as before, and a crash leaves no more of them, or what they read
 --     IsLoaded a m              the shelf m is a with its files loaded
@@ -13,7 +16,7 @@
 --     entered_at folder path f  the paths that the folder f was to enter, and this one behind them
 --     IsStoredRun               a run over the files of a folder, by whose end these paths were entered
 --     IsUnloaded                one that ended before its first line
-use Rattle.std.specs.Prelude.{◌≡◌, ◌≢◌, ◌⊎◌, ◌≤◌, ◌-◌, ◌^◌, min, ℕ, List, [], ◌++◌, Option, Some, None, Bool, true, IsTrue, IsSome, IfSome}
+use Rattle.std.specs.Prelude.{◌≡◌, ◌≢◌, ◌⊎◌, ◌≤◌, ◌-◌, ◌^◌, min, ℕ, List, [], ◌++◌, Option, Some, None, Bool, true, false, IsTrue, IsSome, IfSome}
 use Rattle.std.specs.List.{All}
 use Rattle.doc_items.specs.Maps.{Key}
 use Rattle.wavelet_op.specs.Deltas.{DeltaOf}
@@ -21,7 +24,7 @@ use Rattle.disk_model.specs.Disk.{DiskView, Kept}
 use Rattle.disk_model.specs.declared.disk.Disk as disk_of
 use Rattle.wave_outside.specs.declared.clock.Clock as clock_of
 use Rattle.wave_outside.specs.declared.folder.Folder as folder_of
-use Rattle.wave_outside.specs.Folders.{Entry, IsPutBack, IsAsBefore, one_entered}
+use Rattle.wave_outside.specs.Folders.{Entry, AddsOnly, IsOld, IsPutBack, IsAsBefore, one_entered}
 use Rattle.delta_journal.specs.Journal.{on_disk}
 use Rattle.wavelet_container.specs.Containers.{history_of, journal_of}
 use Rattle.wavelet_container.specs.Records.{StandsForHistory}
@@ -29,6 +32,7 @@ use Rattle.line_loop.specs.Lines.{turned, IsPrefix}
 use Rattle.line_loop.specs.Output.{IsWritten}
 use Rattle.line_loop.specs.Told.{IsRun}
 use Rattle.line_loop.specs.Turns.{Turn, lines_in}
+use Rattle.wavelet_shelf.specs.Entries.{BeganEmpty}
 use Rattle.wavelet_shelf.specs.FileNames.{file_name_of}
 use Rattle.wavelet_shelf.specs.Folders.{IsStill, IsStillIn}
 use Rattle.wavelet_shelf.specs.Hosting.{Hosted, deltas_in}
@@ -38,6 +42,7 @@ use Rattle.wavelet_shelf.specs.declared.shelf.Shelf.{Shelf}
 use Rattle.pipe_machine.specs.Held.{IsHeld}
 use Rattle.pipe_machine.specs.Keeping.{Begins, submitted_in}
 use Rattle.pipe_machine.specs.Machine.{start, sent}
+use Rattle.pipe_machine.specs.Pipes.{StandsAlong}
 use Rattle.wave_program.specs.Damage.{damage_line}
 use Rattle.wave_program.specs.Run.{IsServing, IsWhole}
 use Rattle.wave_program.specs.Pipe.{answers_over, hosted_after, IsOneAtMost, IsOver}
@@ -59,6 +64,15 @@ module _ {D : Type 0} (view : D → DiskView) where
   abbrev pub IsStoredFrom : Option D → Key → List DeltaOf → Type 0
   IsStoredFrom None n ds = ⊥
   IsStoredFrom (Some f) n ds = StandsFrom n ds (view f)
+
+  abbrev pub IsFileSince : Option D → Option D → (List ℕ → Type 0) → Type 0
+  IsFileSince None p P = ⊥
+  IsFileSince (Some f) None P = ⊥
+  IsFileSince (Some f) (Some g) P = AddsOnly (view f) (view g) (λ bytes. IsOld (view f) bytes ⊎ P bytes)
+
+  abbrev pub IsFileBegun : Option D → (List ℕ → Type 0) → Type 0
+  IsFileBegun None P = ⊥
+  IsFileBegun (Some g) P = BeganEmpty view (view g) P
 
   abbrev pub AreStored : (List ℕ → Option D) → List Hosted → Type 0
   AreStored files hs = (n : Key) → deltas_in hs n ≢ [] → IsStoredFile view (files (file_name_of n)) n (deltas_in hs n)
@@ -153,5 +167,11 @@ module _ {F D : Type 0} (folder : folder_of.Ghosts F D) (disk : disk_of.Ghosts D
     pub one : IsOneAtMost tried
     pub left : AreApartIn (λ n. (loaded n ≡ true) ⊎ (submitted_in (run.turns ++ tried) n ≡ true)) → (n : Key) → deltas_in (hosted_after hosted run.turns) n ≢ []
         → IsFileEither disk.view (folder.files g (file_name_of n)) n (deltas_in (hosted_after hosted run.turns) n) (deltas_in (hosted_after hosted (run.turns ++ tried)) n)
+    -- at whatever moment the run is cut off, a crash leaves each file as it was found, or as a journal of its history after some of the turns
+    pub moments : AreApartIn (λ n. (loaded n ≡ true) ⊎ (submitted_in (run.turns ++ tried) n ≡ true)) → (n : Key) → loaded n ≡ true
+        → IsFileSince disk.view (folder.files f (file_name_of n)) (folder.files g (file_name_of n)) (StandsAlong (start hosted) n (run.turns ++ tried))
+    -- and so it leaves one that was made, from then on
+    pub begun : AreApartIn (λ n. (loaded n ≡ true) ⊎ (submitted_in (run.turns ++ tried) n ≡ true)) → (n : Key) → loaded n ≡ false → deltas_in (hosted_after hosted run.turns) n ≢ []
+        → IsFileBegun disk.view (folder.files g (file_name_of n)) (StandsAlong (start hosted) n (run.turns ++ tried))
     -- the files of other names are as they were, but for what a sync settles
     pub others : (m : List ℕ) → ((n : Key) → (loaded n ≡ true) ⊎ (submitted_in (run.turns ++ tried) n ≡ true) → m ≢ file_name_of n) → IsAsBefore disk.view (folder.files f m) (folder.files g m)
