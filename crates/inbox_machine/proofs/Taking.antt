@@ -5,9 +5,9 @@
 --     taken_now              what the index has of a name after one delta more
 --     IsReady                of these names, which ascend, nothing was taken
 --     ready_on, ready_first  so of the names after the first, once that was taken; and at first
-use Rattle.std.proofs.Common.{◌≡◌, ◌≢◌, ℕ, zero, suc, ◌+◌, ◌<◌, ◌≤◌, Bool, true, false, cond, List, [], ◌∷◌, ◌++◌, length, map, take, drop, Option, Some, None, refl, sym, ap, subst, ◌∙◌, arith, slice_get, length-append, append_assoc, append-nil, add-one, get_or, unwrap_or, true≢false}
+use Rattle.std.proofs.Common.{◌≡◌, ◌≢◌, ℕ, zero, suc, ◌+◌, Bool, true, false, cond, List, [], ◌∷◌, ◌++◌, length, map, take, drop, Option, Some, None, refl, sym, ap, subst, ◌∙◌, arith, slice_get, length-append, append_assoc, unwrap_or, true≢false}
 use Rattle.std.proofs.lemmas.Cmp.{nat_list_cmp_total}
-use Rattle.std.proofs.lemmas.List.{map-append, take-append-drop, nil_from_length}
+use Rattle.std.proofs.lemmas.List.{map-append, take-append-drop}
 use Rattle.std.proofs.Math.Seq.{take-add}
 use Rattle.std.specs.Cmp.Lexicographic.{slice_cmp}
 use Rattle.std.specs.FinMap as finite
@@ -20,12 +20,11 @@ use Rattle.doc_items.specs.Maps.{Key}
 use Rattle.doc_items.proofs.Maps.{tie, tied}
 use Rattle.wavelet_op.specs.Deltas.{DeltaOf}
 use Rattle.delta_history.specs.Copying.{AscendFrom, AreAscending}
-use Rattle.delta_history.specs.Histories.{head_of}
-use Rattle.delta_history.specs.Legal.{IsLegal, IsLegalFrom, IsNext}
-use Rattle.delta_history.specs.Points.{Point, start, replay, end_of}
+use Rattle.delta_history.specs.Legal.{IsLegal, IsNext}
+use Rattle.delta_history.specs.Points.{Point, start, end_of}
 use Rattle.delta_history.proofs.Chains.{legal_front, legal_behind}
 use Rattle.wave_index.specs.Taken.{TakenOf, Histories, deltas_in, with_delta}
-use Rattle.inbox_machine.specs.Indexing.{with_deltas, with_all}
+use Rattle.inbox_machine.specs.Indexing.{with_deltas}
 
 -- ---- names
 

@@ -5,7 +5,7 @@
 --     told p t           all stays, and this is printed
 --     answered p c       what a command does, and what it prints; None is a line that is none
 --     clerk              the machine of inboxes, which looks at all of a line
-use Rattle.std.specs.Prelude.{ℕ, Bool, true, false, cond, List, [], Option, Some, None}
+use Rattle.std.specs.Prelude.{ℕ, true, false, cond, List, [], Option, Some, None}
 use Rattle.doc_items.specs.Maps.{Key, same_text}
 use Rattle.wave_index.specs.Inboxes.{inbox, search}
 use Rattle.wave_index.specs.Taken.{Histories}

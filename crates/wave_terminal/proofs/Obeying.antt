@@ -6,12 +6,10 @@
 --     last_read                    a read of a run that no line had ended
 --     started, gone_on             at first, and after one read more
 --     at_the_end, at_quit, at_cut, at_limit  what is known where the run ends
-use Rattle.std.proofs.Common.{◌≡◌, ℕ, ◌+◌, ◌<◌, ◌≤◌, ◌⊎◌, inl, inr, true, false, cond, List, [], ◌∷◌, ◌++◌, length, take, drop, Option, Result, Ok, Err, refl, sym, ap, subst, ◌∙◌, arith, append_assoc, append-nil, length-append}
-use Rattle.std.proofs.lemmas.List.{take-append-drop, length-take}
+use Rattle.std.proofs.Common.{◌≡◌, ℕ, ◌+◌, ◌<◌, ◌≤◌, ◌⊎◌, inl, inr, true, false, cond, List, [], ◌∷◌, ◌++◌, length, Option, Result, Ok, Err, refl, sym, ap, subst, ◌∙◌, arith, append_assoc, append-nil, length-append}
 use Rattle.std.specs.Prelude.{⊤}
 use Rattle.std.specs.Result.{IsErrAnd}
 use Rattle.std.specs.Io.KnownBytes.{Keeps, Appends, Consumes}
-use Rattle.line_loop.specs.Lines.{IsPrefix}
 use Rattle.line_loop.specs.Run.{byte_limit}
 use Rattle.line_loop.proofs.Telling.{Keeps-consumes, Consumes-none, Consumes-then, Appends-none, Appends-then}
 use Rattle.wave_terminal.specs.Machines.{Machine, Course, begun, said, step, after, text, last_text, open_text, whole_text}
