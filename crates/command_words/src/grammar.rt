@@ -5,7 +5,7 @@ ghost use Rattle.clap.specs.Faults.{fault_of};
 ghost use Rattle.clap.specs.Simple.{on_top};
 ghost use Rattle.clap.specs.Walk.{is_empty};
 ghost use Rattle.clap.specs.declared.builder.command.Command.TheViews.{out-Command as fields_of};
-ghost use Rattle.command_words.specs.Commands.{pipe as pipe_app, load as load_app, wave as wave_app, plain_top, option_rule};
+ghost use Rattle.command_words.specs.Commands.{pipe as pipe_app, load as load_app, play as play_app, inbox as inbox_app, storeless as storeless_app, wave as wave_app, plain_top, option_rule};
 
 use crate::command::WordsFault;
 use clap::error::ErrorKind;
@@ -50,6 +50,24 @@ fn load<'a>(alloc: Global) -> Result<Command<'a>, AllocError>
     Command::new(alloc, "load").arg(count)
 }
 
+fn play<'a>(alloc: Global) -> Result<Command<'a>, AllocError>
+    ensures app { IfOk result (λ c. app_of c ≡ play_app) }
+    ensures local { IfOk result (λ c. (fields_of c).has_globals ≡ false) }
+{
+    Command::new(alloc, "play")
+        .arg(option(alloc, "store", true))?
+        .arg(option(alloc, "wavelet", true))
+}
+
+fn inbox<'a>(alloc: Global) -> Result<Command<'a>, AllocError>
+    ensures app { IfOk result (λ c. app_of c ≡ inbox_app) }
+    ensures local { IfOk result (λ c. (fields_of c).has_globals ≡ false) }
+{
+    Command::new(alloc, "inbox")
+        .arg(option(alloc, "store", true))?
+        .arg(option(alloc, "user", true))
+}
+
 // Adds a command.
 fn with_command<'a>(command: Command<'a>, sub: Command<'a>) -> Result<Command<'a>, AllocError>
     requires local { (fields_of sub).has_globals ≡ false }
@@ -58,13 +76,22 @@ fn with_command<'a>(command: Command<'a>, sub: Command<'a>) -> Result<Command<'a
     command.subcommand(sub)
 }
 
-// The program with its commands.
-fn wave<'a>(alloc: Global) -> Result<Command<'a>, AllocError>
-    ensures app { IfOk result (λ c. app_of c ≡ wave_app) }
+// The program with the commands that need no store.
+fn storeless<'a>(alloc: Global) -> Result<Command<'a>, AllocError>
+    ensures app { IfOk result (λ c. app_of c ≡ storeless_app) }
 {
     let command = top(alloc);
     let command = with_command(command, pipe(alloc)?)?;
     with_command(command, load(alloc)?)
+}
+
+// The program with its commands.
+fn wave<'a>(alloc: Global) -> Result<Command<'a>, AllocError>
+    ensures app { IfOk result (λ c. app_of c ≡ wave_app) }
+{
+    let command = storeless(alloc)?;
+    let command = with_command(command, play(alloc)?)?;
+    with_command(command, inbox(alloc)?)
 }
 
 // What clap makes of the words.

@@ -1,3 +1,3 @@
 mod Lines
+mod Taking
 mod Texts
-mod Turning

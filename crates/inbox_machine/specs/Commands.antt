@@ -1,6 +1,4 @@
 -- The commands of an inbox, one a line. Between the words of a line stands one space.
---     digits n cs          the number that goes on with these digits; None where one of them is none, and above 64 bits
---     number cs            decimal digits without a leading zero
 --     has_space t          there is a space
 --     search_of t          a search for a word, which is any text without a space
 --     read_of t            a wavelet is read up to a version
@@ -8,26 +6,15 @@
 --     only_of t            the command of a text without a space
 --     text_of t            the command of a text
 --     command_of line      the command of a line; None where it is none, as where the line isn't UTF-8
-use Rattle.std.specs.Prelude.{ℕ, ◌+◌, ◌-◌, ◌*◌, ◌^◌, ◌==◌, ◌&&◌, nat_le, nat_lt, Bool, true, false, cond, List, [], ◌∷◌, Option, Some, None, codes}
+use Rattle.std.specs.Prelude.{ℕ, ◌==◌, Bool, true, false, cond, List, Option, Some, None, codes}
 use Rattle.std.specs.List.{list_any}
 use Rattle.std.specs.Option.{option_map}
 use Rattle.std.specs.Str.{is_utf8}
 use Rattle.doc_items.specs.Maps.{same_text}
 use Rattle.wave_base.specs.Grammar.{is_wavelet_name, before, behind}
+use Rattle.wave_terminal.specs.Commands.{number}
 use Rattle.inbox_machine.specs.declared.command.Command.{Command}
 use Rattle.inbox_machine.specs.declared.command.Command.TheVariants.{Show, Search, Read, Quit}
-
-abbrev pub is_digit : ℕ → Bool
-is_digit c = nat_le 48 c && nat_le c 57
-
-abbrev pub digits : ℕ → List ℕ → Option ℕ
-digits n [] = Some n
-digits n (c ∷ cs) = cond (is_digit c && nat_lt (n * 10 + (c - 48)) (2 ^ 64)) (digits (n * 10 + (c - 48)) cs) None
-
-abbrev pub number : List ℕ → Option ℕ
-number [] = None
-number (c ∷ []) = digits 0 (c ∷ [])
-number (c ∷ d ∷ cs) = cond (c == 48) None (digits 0 (c ∷ d ∷ cs))
 
 -- ---- words
 

@@ -1,4 +1,5 @@
 pub mod Commands
 pub mod Inboxes
+pub mod Indexing
 pub mod Machine
 pub mod Printed

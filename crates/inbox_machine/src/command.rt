@@ -2,12 +2,13 @@
 ghost use Rattle.std.specs.Prelude.{◌≡◌, ◌<◌, ◌==◌, false, IfOk, MatchOption};
 ghost use Rattle.std.specs.List.{list_any};
 ghost use Rattle.wave_base.specs.Grammar.{is_wavelet_name, IsCut};
-ghost use Rattle.inbox_machine.specs.Commands.{digits, number, search_of, read_named, read_of, worded_of, only_of, text_of, command_of};
+ghost use Rattle.inbox_machine.specs.Commands.{search_of, read_named, read_of, worded_of, only_of, text_of, command_of};
 
 use doc_items::Memory;
 use document_words::Word;
 use std::alloc::{AllocError, Global};
 use wave_base::{BaseFault, WaveletName};
+use wave_terminal::number;
 
 /// A command of an inbox.
 #[derive(Debug, Drop)]
@@ -20,40 +21,6 @@ pub(crate) enum Command {
     Read { name: WaveletName, version: u64 },
     /// The end.
     Quit,
-}
-
-// The number that goes on with these digits.
-fn digits(number: u64, bytes: &[u8]) -> Option<u64>
-    ensures { result ≡ digits number bytes.now }
-{
-    let Some((byte, rest)) = bytes.split_first() else {
-        return Some(number);
-    };
-    if !byte.is_ascii_digit() {
-        return None;
-    }
-    let next = number as u128 * 10 + (*byte - b'0') as u128;
-    if next > u64::MAX as u128 {
-        return None;
-    }
-    digits(next as u64, rest)
-}
-
-// Decimal digits without a leading zero, of at most 64 bits.
-fn number(text: &str) -> Option<u64>
-    ensures { result ≡ number text.now }
-{
-    match text.as_bytes() {
-        [] => None,
-        [_] => digits(0, text.as_bytes()),
-        [first, ..] => {
-            if *first == b'0' {
-                None
-            } else {
-                digits(0, text.as_bytes())
-            }
-        }
-    }
 }
 
 // What stands before and after the first `separator`, an ASCII character; None where there is none.
@@ -82,7 +49,7 @@ fn read_named(alloc: Global, name: &str, version: &str) -> Result<Option<Command
     ensures { IfOk result (λ o. o ≡ read_named (is_wavelet_name name.now) name.now version.now) }
 {
     match WaveletName::parse(alloc, name) {
-        Ok(name) => match number(version) {
+        Ok(name) => match number(version.as_bytes()) {
             Some(version) => Ok(Some(Command::Read { name, version })),
             None => Ok(None),
         },

@@ -1,23 +1,26 @@
 // Commands over an index.
-ghost use Rattle.std.specs.Prelude.{◌≡◌, ◌++◌, string_bytes, Some, OnOk};
+ghost use Rattle.std.specs.Prelude.{◌≡◌, ◌++◌, string_bytes, Some, IfOk, OnOk};
+ghost use Rattle.inbox_machine.specs.Commands.{command_of};
 ghost use Rattle.inbox_machine.specs.Inboxes.{inbox_of};
-ghost use Rattle.inbox_machine.specs.Machine.{start, answered, turn};
+ghost use Rattle.inbox_machine.specs.Indexing.{deltas_of, indexed};
+ghost use Rattle.inbox_machine.specs.Machine.{start, answered};
 ghost use Rattle.inbox_machine.specs.declared.command.Command.TheVariants.{Show, Search, Read};
 
 use crate::command::{Command, command_of};
+use crate::indexing::index_of;
 use crate::printing::{put_hits, put_lines};
+use delta_history::Copies;
 use doc_items::Memory;
-use line_loop::{LineMachine, TurnFault};
 use std::alloc::Global;
 use wave_base::{Address, WaveletName};
 use wave_index::{Index, Marks};
+use wave_terminal::CommandMachine;
 
 /// An index, the user who asks, and what that user has read.
 pub struct InboxMachine {
     pub(crate) index: Index,
     pub(crate) user: Address,
     pub(crate) marks: Marks,
-    pub(crate) ended: bool,
 }
 
 impl Drop for InboxMachine {
@@ -26,7 +29,6 @@ impl Drop for InboxMachine {
             index: _index,
             user: _user,
             marks: _marks,
-            ended: _ended,
         } = self;
     }
 }
@@ -40,15 +42,15 @@ impl InboxMachine {
             index,
             user,
             marks: Marks::new(alloc),
-            ended: false,
         }
     }
 
-    /// Whether the end was asked for.
-    pub fn is_ended(&self) -> bool
-        ensures { result ≡ (inbox_of self.now).ended }
+    /// Over the copies of all names that are hosted. The error is want of memory.
+    pub fn over<C: Copies>(alloc: Global, copies: &C, user: Address) -> Result<InboxMachine, Memory>
+        ensures { IfOk result (λ m. inbox_of m ≡ start (indexed (C.hosts copies.now) (λ n. deltas_of (C.copies copies.now n))) user) }
     {
-        self.ended
+        let index = index_of(alloc, copies)?;
+        Ok(InboxMachine::new(alloc, index, user))
     }
 
     // Prints what there is of each wavelet.
@@ -56,7 +58,7 @@ impl InboxMachine {
         ensures { OnOk result (string_bytes out.new ≡ string_bytes out.old ++ (answered (inbox_of self.now) (Some Show)).text) }
     {
         let lines = self.index.inbox(alloc, &self.user, &self.marks)?;
-        put_lines(alloc, lines.as_slice(), out)
+        put_lines(lines.as_slice(), out)
     }
 
     // Prints where a word stands.
@@ -69,86 +71,78 @@ impl InboxMachine {
 
     // A wavelet is read up to a version.
     fn read(&mut self, alloc: Global, name: &WaveletName, version: u64) -> Result<(), Memory>
-        ensures { OnOk result (inbox_of self.new ≡ (answered (inbox_of self.old) (Some (Read name.now version))).inbox) }
+        ensures { OnOk result (inbox_of self.new ≡ (answered (inbox_of self.old) (Some (Read name.now version))).state) }
     {
         self.marks.set(alloc, name, version)?;
         Ok(())
     }
 
-    // Does what a command says, and prints what it prints.
+    // Does what a command says, prints what it prints, and tells whether it ends the run.
     fn answer(
         &mut self,
         alloc: Global,
         command: Option<Command>,
         out: &mut String,
-    ) -> Result<(), Memory>
-        ensures inbox { OnOk result (inbox_of self.new ≡ (answered (inbox_of self.old) command).inbox) }
+    ) -> Result<bool, Memory>
+        ensures state { OnOk result (inbox_of self.new ≡ (answered (inbox_of self.old) command).state) }
         ensures text { OnOk result (string_bytes out.new ≡ string_bytes out.old ++ (answered (inbox_of self.old) command).text) }
+        ensures quit { IfOk result (λ quit. quit ≡ (answered (inbox_of self.old) command).quit) }
     {
         match command {
-            None => out.push_str("! unknown command\n"),
-            Some(Command::Show) => self.show(alloc, out),
-            Some(Command::Search { word }) => self.search(alloc, word.text(), out),
-            Some(Command::Read { name, version }) => self.read(alloc, &name, version),
-            Some(Command::Quit) => {
-                self.ended = true;
-                Ok(())
+            None => {
+                out.push_str("! unknown command\n")?;
+                Ok(false)
             }
+            Some(Command::Show) => {
+                self.show(alloc, out)?;
+                Ok(false)
+            }
+            Some(Command::Search { word }) => {
+                self.search(alloc, word.text(), out)?;
+                Ok(false)
+            }
+            Some(Command::Read { name, version }) => {
+                self.read(alloc, &name, version)?;
+                Ok(false)
+            }
+            Some(Command::Quit) => Ok(true),
         }
     }
 
-    /// Takes a line, and appends what it prints. After want of memory a mark may be set.
-    pub fn take_line(&mut self, alloc: Global, line: &[u8], out: &mut Vec<u8>) -> Result<(), Memory>
-        ensures inbox { OnOk result (inbox_of self.new ≡ (turn (inbox_of self.old) line.now).inbox) }
-        ensures text { OnOk result (out.new.items ≡ out.old.items ++ (turn (inbox_of self.old) line.now).text) }
-    {
-        if self.ended {
-            return Ok(());
-        }
-        let mut text = String::new(alloc);
-        let command = command_of(alloc, line)?;
-        self.answer(alloc, command, &mut text)?;
-        out.extend_from_slice(text.as_str().as_bytes())?;
-        Ok(())
-    }
-}
-
-impl LineMachine for InboxMachine {
-    ghost use Rattle.std.specs.Prelude.{◌≡◌, refl};
-    ghost use Rattle.line_loop.specs.Turns.{lines_in};
-    ghost use Rattle.inbox_machine.specs.Inboxes.{inbox_of};
-    ghost use Rattle.inbox_machine.specs.Machine.{printed, after};
-
-    ghost answers = { λ m ts. printed (inbox_of m) (lines_in ts) };
-
-    ghost reached = { λ a ts b. inbox_of b ≡ after (inbox_of a) (lines_in ts) };
-
-    ghost since = { λ a ts b. Unit {0} };
-
-    ghost tried = { λ a t b. Unit {0} };
-
-    ghost calm = { λ m. Unit {0} };
-
-    ghost faults = { λ m. 0 };
-
-    ghost silent = { λ m. refl };
-
-    ghost at_start = { λ m. refl };
-
-    ghost unmoved = { λ m. tt };
-
-    fn may_fail(&self) -> bool {
-        false
-    }
-
-    fn turn(
+    /// Takes a line, appends what it prints, and tells whether it ends the run. After want of memory a mark may be set.
+    pub fn take_line(
         &mut self,
         alloc: Global,
         line: &[u8],
-        _time: u64,
         out: &mut Vec<u8>,
-    ) -> Result<(), TurnFault> {
-        self.take_line(alloc, line, out)?;
-        Ok(())
+    ) -> Result<bool, Memory>
+        ensures state { OnOk result (inbox_of self.new ≡ (answered (inbox_of self.old) (command_of line.now)).state) }
+        ensures text { OnOk result (out.new.items ≡ out.old.items ++ (answered (inbox_of self.old) (command_of line.now)).text) }
+        ensures quit { IfOk result (λ quit. quit ≡ (answered (inbox_of self.old) (command_of line.now)).quit) }
+    {
+        let mut text = String::new(alloc);
+        let command = command_of(alloc, line)?;
+        let quit = self.answer(alloc, command, &mut text)?;
+        out.extend_from_slice(text.as_str().as_bytes())?;
+        Ok(quit)
+    }
+}
+
+impl CommandMachine for InboxMachine {
+    ghost use Rattle.inbox_machine.specs.Inboxes.{inbox_of};
+    ghost use Rattle.inbox_machine.specs.Machine.{Inbox, clerk};
+
+    ghost State = { Inbox };
+
+    ghost state = { λ m. inbox_of m };
+
+    ghost machine = { clerk };
+
+    fn keeps(&self, _count: usize) -> bool {
+        true
+    }
+
+    fn obey(&mut self, alloc: Global, line: &[u8], out: &mut Vec<u8>) -> Result<bool, Memory> {
+        self.take_line(alloc, line, out)
     }
 }

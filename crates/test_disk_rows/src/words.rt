@@ -26,6 +26,14 @@ fn shown(alloc: Global, words: &[String]) -> Result<String, Fault> {
             },
         ) => format!(in alloc; "pipe over {folder}")?,
         Ok(Command::Load { count }) => format!(in alloc; "load {count}")?,
+        Ok(Command::Play { store, wavelet }) => {
+            let wavelet = wavelet.text();
+            format!(in alloc; "play {wavelet} over {store}")?
+        }
+        Ok(Command::Inbox { store, user }) => {
+            let user = user.text();
+            format!(in alloc; "inbox of {user} over {store}")?
+        }
         Err(WordsFault::Usage) => String::from_str(alloc, "usage")?,
         Err(WordsFault::Memory) => return Err(Fault::Memory),
     })

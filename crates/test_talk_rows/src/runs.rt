@@ -200,6 +200,21 @@ impl Runs {
         put_outcome(alloc, faults, status, sink.bytes(), out)
     }
 
+    /// `counted WORDS | FAULTS`: the status of such a run, and how many bytes it writes.
+    pub(crate) fn counted(
+        &mut self,
+        alloc: Global,
+        rest: &str,
+        out: &mut String,
+    ) -> Result<(), Fault> {
+        let (words, faults) = halves(rest);
+        let input = replace(&mut self.input, Vec::new(alloc));
+        let (status, sink) = outcome(alloc, words, input.as_slice(), faults, &mut self.folder)?;
+        let count = sink.bytes().len();
+        let told = format!(in alloc; "{status}, {count} bytes")?;
+        Ok(put(out, told.as_str())?)
+    }
+
     /// `folder`, or `folder fails N ..` with calls on it that fail: a folder without files.
     pub(crate) fn empty(&mut self, alloc: Global, faults: &str) -> Result<(), Fault> {
         let failing = calls(alloc, "fails", faults)?;

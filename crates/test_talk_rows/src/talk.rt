@@ -51,6 +51,7 @@ fn in_runs(
         ">" => runs.add_line(alloc, rest)?,
         ">>" => runs.add_open(alloc, rest)?,
         "run" => runs.run(alloc, rest, out)?,
+        "counted" => runs.counted(alloc, rest, out)?,
         "folder" => runs.empty(alloc, rest)?,
         "file" => runs.file(alloc, rest)?,
         "beside" => runs.beside(alloc, rest)?,

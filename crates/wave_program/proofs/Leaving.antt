@@ -2,7 +2,7 @@
 --     left_of         by what was tried
 --     left_still      nothing was
 --     left_tried      one turn was
-use Rattle.std.proofs.Common.{◌≡◌, ◌⊎◌, inl, inr, ⊎_elim, ℕ, List, Option, [], ◌∷◌, ◌++◌, IfSome, refl, sym, ap, subst, ◌∙◌}
+use Rattle.std.proofs.Common.{◌≡◌, inl, inr, ⊎_elim, ℕ, List, Option, [], ◌∷◌, ◌++◌, IfSome, refl, sym, ap, subst, ◌∙◌}
 use Rattle.doc_items.specs.Maps.{Key}
 use Rattle.disk_model.specs.declared.disk.Disk as disk_of
 use Rattle.wave_outside.specs.declared.folder.Folder as folder_of

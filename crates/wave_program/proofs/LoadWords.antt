@@ -1,11 +1,13 @@
--- A load that the words name has a number that is not above the limit.
+-- What the words name: a load has a number that isn't above the limit, and a store is one folder with one service.
 use Rattle.std.proofs.Common.{◌≡◌, ℕ, ◌+◌, ◌-◌, ◌*◌, ◌≤◌, ◌==◌, ◌&&◌, Bool, true, false, cond, nat_le, List, [], ◌∷◌, Option, Some, None, refl, sym, ◌∙◌, subst, arith, option_and_then, option_map, codes}
 use Rattle.std.proofs.lemmas.Bool.Decides.{nat_tests}
 use Rattle.std.specs.Cmp.Lexicographic.{pointwise}
 use Rattle.clap.specs.Words.{Text, first_of, subcommand_of}
 use Rattle.clap.specs.Walk.{Row, is_empty}
 use Rattle.clap.specs.Faults.{fault_of}
-use Rattle.command_words.specs.Commands.{digits, number, is_digit, is_value, max_load, loaded, stored, named, wave, is_cut, accepted, command_of, CommandOf, Pipe, Load}
+use Rattle.command_words.specs.Commands.{digits, number, is_digit, is_value, max_load, loaded, stored, checked, paired, folder, played, inboxed, named_past, named, wave, is_cut, accepted, command_of, CommandOf, Pipe, Load, Play, Inbox}
+use Rattle.wave_base.specs.Grammar.{is_address, is_wavelet_name}
+use Rattle.wave_program.specs.declared.service.Service.{Service}
 
 abbrev IsUpTo : ℕ → Option ℕ → Type 0
 IsUpTo limit None = Unit {0}
@@ -36,6 +38,8 @@ abbrev IsCapped : Option CommandOf → Type 0
 IsCapped None = Unit {0}
 IsCapped (Some (Pipe folder)) = Unit {0}
 IsCapped (Some (Load n)) = n ≤ 100000
+IsCapped (Some (Play folder wavelet)) = Unit {0}
+IsCapped (Some (Inbox folder user)) = Unit {0}
 
 either : (x y : Option CommandOf) (b : Bool) → IsCapped x → IsCapped y → IsCapped (cond b x y)
 either x y true h k = h
@@ -53,9 +57,23 @@ stored_capped : (folder : Option (List ℕ)) → IsCapped (stored folder)
 stored_capped None = tt
 stored_capped (Some folder) = either (Some (Pipe (Some folder))) None (is_value folder) tt tt
 
+paired_capped : (make : List ℕ → List ℕ → CommandOf) → ((a b : List ℕ) → IsCapped (Some (make a b))) → (a b : Option (List ℕ)) → IsCapped (paired make a b)
+paired_capped make free None b = tt
+paired_capped make free (Some a) None = tt
+paired_capped make free (Some a) (Some b) = free a b
+
+past_capped : (p : Text × List Row) → IsCapped (named_past p)
+past_capped p =
+    either (played (first_of (codes "store") p.1) (first_of (codes "wavelet") p.1)) (inboxed (first_of (codes "store") p.1) (first_of (codes "user") p.1)) (pointwise ◌==◌ p.0 (codes "play"))
+    (paired_capped Play (λ a b. tt) (folder (first_of (codes "store") p.1)) (checked is_wavelet_name (first_of (codes "wavelet") p.1)))
+    (paired_capped Inbox (λ a b. tt) (folder (first_of (codes "store") p.1)) (checked is_address (first_of (codes "user") p.1)))
+
 named_capped : (x : Option (Text × List Row)) → IsCapped (option_and_then named x)
 named_capped None = tt
-named_capped (Some p) = either (stored (first_of (codes "store") p.1)) (loaded (first_of (codes "count") p.1)) (pointwise ◌==◌ p.0 (codes "pipe")) (stored_capped (first_of (codes "store") p.1)) (loaded_capped (first_of (codes "count") p.1))
+named_capped (Some p) =
+    either (stored (first_of (codes "store") p.1)) (cond (pointwise ◌==◌ p.0 (codes "load")) (loaded (first_of (codes "count") p.1)) (named_past p)) (pointwise ◌==◌ p.0 (codes "pipe"))
+    (stored_capped (first_of (codes "store") p.1))
+    (either (loaded (first_of (codes "count") p.1)) (named_past p) (pointwise ◌==◌ p.0 (codes "load")) (loaded_capped (first_of (codes "count") p.1)) (past_capped p))
 
 command_capped : (words : List Text) → IsCapped (command_of words)
 command_capped words = either None (accepted words) (is_cut words) tt (either (option_and_then named (subcommand_of wave words)) None (is_empty (fault_of wave words)) (named_capped (subcommand_of wave words)) tt)
@@ -63,9 +81,9 @@ command_capped words = either None (accepted words) (is_cut words) tt (either (o
 pub load_bound : (words : List Text) (n : ℕ) → command_of words ≡ Some (Load n) → n ≤ 100000
 load_bound words n e = subst (λ (x : Option CommandOf). IsCapped x) e (command_capped words)
 
--- what the words name is one folder
-pub same_path : (o : Option CommandOf) (p q : List ℕ) → o ≡ Some (Pipe (Some p)) → o ≡ Some (Pipe (Some q)) → p ≡ q
-same_path o p q one other = go (sym one ∙ other)
+-- what the words name is one folder, and one service
+pub same_service : (o : Option (List ℕ × Service)) (p q : List ℕ × Service) → o ≡ Some p → o ≡ Some q → p ≡ q
+same_service o p q one other = go (sym one ∙ other)
   where
-    go : Some (Pipe (Some p)) ≡ Some (Pipe (Some q)) → p ≡ q
+    go : Some p ≡ Some q → p ≡ q
     go e = cc

@@ -1,6 +1,7 @@
 -- What a run over a folder leaves there.
-use Rattle.std.proofs.Common.{◌≡◌, ◌≢◌, ◌⊎◌, inl, inr, ℕ, ◌+◌, ◌-◌, ◌^◌, min, List, [], ◌∷◌, ◌++◌, Bool, true, false, Option, Some, None, is_some, IsSome, IfSome, IsTrue, refl, sym, ap, subst, ◌∙◌, arith, append_assoc, append-nil, true≢false}
+use Rattle.std.proofs.Common.{◌≡◌, ◌≢◌, ◌⊎◌, inl, inr, ℕ, ◌+◌, ◌-◌, ◌^◌, min, List, [], ◌∷◌, ◌++◌, Bool, true, false, cond, Option, Some, None, is_some, IsSome, IfSome, IsTrue, refl, sym, ap, subst, ◌∙◌, arith, append_assoc, append-nil, true≢false}
 use Rattle.std.specs.List.{All, AllByRecursion}
+use Rattle.std.specs.Cmp.Lexicographic.{bytes_decides}
 use Rattle.std.specs.Map.{lookup}
 use Rattle.std.specs.Option.{option_map, option_map_or}
 use Rattle.doc_items.specs.Maps.{Key, same_text}
@@ -19,7 +20,7 @@ use Rattle.wave_outside.specs.Counts.{Rose}
 use Rattle.wave_outside.specs.Folders.{Entry, IsPutBack, IsAsBefore}
 use Rattle.wave_outside.specs.declared.clock.Clock as clock_of
 use Rattle.wave_outside.specs.declared.folder.Folder as folder_of
-use Rattle.wavelet_container.specs.Containers.{history_of, IsHeld}
+use Rattle.wavelet_container.specs.Containers.{history_of, journal_of, IsHeld}
 use Rattle.wavelet_container.specs.Records.{records_of, StandsForHistory}
 use Rattle.wavelet_container.specs.Stores.{IsPending, IsStored}
 use Rattle.wavelet_container.specs.declared.container.Container.{Container}
@@ -35,7 +36,9 @@ use Rattle.wavelet_shelf.specs.declared.filed.Filed.{Filed}
 use Rattle.wavelet_shelf.specs.declared.shelf.Shelf.{Shelf}
 use Rattle.wavelet_shelf.proofs.Growing.{shown_ascend}
 use Rattle.wavelet_shelf.proofs.Loading.{as_it_is}
+use Rattle.wavelet_shelf.proofs.Names.{own, same_or_not}
 use Rattle.wavelet_shelf.proofs.Placing.{hist_ascends, deltas_hosting, all_found}
+use Rattle.wavelet_shelf.proofs.Refusing.{put_as_read}
 use Rattle.wavelet_shelf.proofs.Sharing.{found_named}
 use Rattle.wavelet_shelf.proofs.Shelving.{deltas_of}
 use Rattle.wavelet_shelf.proofs.Still.{still_in_on, still_on, used_still}
@@ -43,9 +46,12 @@ use Rattle.pipe_machine.specs.Held as Held
 use Rattle.pipe_machine.specs.Keeping.{Begins, submitted_in, IsFileAmong, IsFileOfEither, IsMoved}
 use Rattle.pipe_machine.specs.Machine.{start, sent}
 use Rattle.pipe_machine.specs.Pipes.{StandsAlong}
-use Rattle.wave_program.specs.Pipe.{hosted_after}
+use Rattle.wave_program.specs.Asks.{IsPlayed, IsListed}
+use Rattle.wave_program.specs.Pipe.{hosted_after, IsOver}
+use Rattle.wave_program.specs.declared.service.Service.{Service}
+use Rattle.wave_program.specs.declared.service.Service.TheVariants.{Lines, Play, Inbox}
+use Rattle.wave_program.specs.Store.{GoesOn, IsFileOf, IsFileEither, IsStoredFrom, IsFileSince, IsFileBegun, AreStored, AreStoredFrom, AreApartIn, IsLoaded, IsClosed, IsShelfRun, IsShelfUnloaded, AreStanding, IsStoredRun, IsReadRun, IsStoredAs, IsUnloaded}
 use Rattle.wave_program.proofs.Moments.{file_begun, files_since}
-use Rattle.wave_program.specs.Store.{GoesOn, IsFileOf, IsFileEither, IsStoredFrom, IsFileSince, IsFileBegun, AreStored, AreStoredFrom, AreApartIn, IsLoaded, IsClosed, IsShelfRun, IsShelfUnloaded, IsStoredRun, IsUnloaded}
 
 pub damage_told : (o : Option (List ℕ × ℕ)) (P Q : List ℕ → ℕ → Type 0) → IsSome o → IfSome o (λ d. P d.0 d.1) → IfSome o (λ d. Q d.0 d.1) → (file : List ℕ) × (offset : ℕ) × P file offset × Q file offset
 damage_told None P Q e p q = absurd (cc)
@@ -233,22 +239,26 @@ module _ {F D K : Type 0} (folder : folder_of.Ghosts F D) (disk : disk_of.Ghosts
       go None one two = absurd one
       go (Some h) one two = still_on folder f h g one two
 
-  pub stored_run : (a b : Shelf F D folder disk) (f g : F) (was : K) (left0 left1 held0 held1 : Option (List ℕ)) (status : ℕ)
+  -- from the shelf a to the shelf m, whose files were loaded
+  standing : (a m : Shelf F D folder disk) (f : F) → IsTrue disk.tells → in_folder a ≡ Some f → IsLoaded a m → AreStanding folder disk f (hosted_of m) (λ n. is_some (container_in m n))
+  standing a m f tells is loaded = record {
+    stand = stand_for a m f tells is loaded;
+    are_loaded = are_loaded m;
+    all = if_some_at _ _ f is (loaded.all tells);
+    sound = if_some_at _ _ f is (loaded.sound tells);
+    apart = λ n k p q e. loaded.apart n k p q e;
+  }
+
+  stored_run : (a m b : Shelf F D folder disk) (f g : F) (was : K) (left0 left1 held0 held1 : Option (List ℕ)) (status : ℕ)
       → IsTrue folder.tells → IsTrue disk.tells → in_folder a ≡ Some f → ((m : Shelf F D folder disk) (ts : List Turn) → All (λ s. Held.IsHeld (hosted_after (hosted_of m) ts) s.message) (sent (start (hosted_of m)) ts))
-      → IsShelfRun clock a b was left0 left1 held0 held1 status → IsClosed b g → IsStoredRun folder disk clock (folder.log f).entries f g was left0 left1 held0 held1 status
-  stored_run a b f g was left0 left1 held0 held1 status folder_tells tells is held r closed =
-      let m = r.shelf in
-      let o = r.over in
-      let kept = r.loaded.kept tells in
+      → IsLoaded a m → IsOver clock m b was left0 left1 held0 held1 status → IsClosed b g → IsStoredRun folder disk clock (folder.log f).entries f g was left0 left1 held0 held1 status
+  stored_run a m b f g was left0 left1 held0 held1 status folder_tells tells is held loaded o closed =
+      let kept = loaded.kept tells in
       record {
         hosted = hosted_of m;
         loaded = λ n. is_some (container_in m n);
-        stand = stand_for a m f tells is r.loaded;
-        are_loaded = are_loaded m;
-        all = if_some_at _ _ f is (r.loaded.all tells);
-        sound = if_some_at _ _ f is (r.loaded.sound tells);
-        apart = λ n k p q e. r.loaded.apart n k p q e;
-        entered = still_closed a b f g is (still_in_on folder (in_folder a) (in_folder m) (in_folder b) r.loaded.still (used_still folder (IsFileAmong (submitted_in (o.run.turns ++ o.tried))) (in_folder m) (in_folder b) o.moved.used)) closed.still folder_tells;
+        standing = standing a m f tells is loaded;
+        entered = still_closed a b f g is (still_in_on folder (in_folder a) (in_folder m) (in_folder b) loaded.still (used_still folder (IsFileAmong (submitted_in (o.run.turns ++ o.tried))) (in_folder m) (in_folder b) o.moved.used)) closed.still folder_tells;
         known = o.known;
         run = o.run;
         tried = o.tried;
@@ -261,12 +271,84 @@ module _ {F D K : Type 0} (folder : folder_of.Ghosts F D) (disk : disk_of.Ghosts
         left = λ apart n some.
             left_either b g n (deltas_in (hosted_after (hosted_of m) o.run.turns) n) (deltas_in (hosted_after (hosted_of m) (o.run.turns ++ o.tried)) n) tells (o.moved.kept kept.0) (apart_at_end m b (o.run.turns ++ o.tried) o.moved apart) closed
             (λ none. some (nothing_before (deltas_in (hosted_after (hosted_of m) o.run.turns) n) (deltas_in (hosted_of b) n) (o.grown n) none)) (o.left.files kept.0 kept.1 n);
-        moments = λ apart. files_since folder m b f g (λ n. StandsAlong (start (hosted_of m)) n (o.run.turns ++ o.tried)) tells (if_some_at _ _ f is (r.loaded.read tells)) (o.left.moments kept.0 kept.1) (apart_at_end m b (o.run.turns ++ o.tried) o.moved apart) closed;
+        moments = λ apart. files_since folder m b f g (λ n. StandsAlong (start (hosted_of m)) n (o.run.turns ++ o.tried)) tells (if_some_at _ _ f is (loaded.read tells)) (o.left.moments kept.0 kept.1) (apart_at_end m b (o.run.turns ++ o.tried) o.moved apart) closed;
         begun = λ apart n new some.
             begun_file m b g n (StandsAlong (start (hosted_of m)) n (o.run.turns ++ o.tried)) tells (o.moved.kept kept.0) (apart_at_end m b (o.run.turns ++ o.tried) o.moved apart) closed new
             (λ none. some (nothing_before (deltas_in (hosted_after (hosted_of m) o.run.turns) n) (deltas_in (hosted_of b) n) (o.grown n) none)) (o.left.moments kept.0 kept.1 n);
-        others = λ l none. others_at_end m b f g (o.run.turns ++ o.tried) folder_tells kept.0.filed o.moved (if_some_at _ _ f is (r.loaded.as_before tells)) (closed.others tells) l none;
+        others = λ l none. others_at_end m b f g (o.run.turns ++ o.tried) folder_tells kept.0.filed o.moved (if_some_at _ _ f is (loaded.as_before tells)) (closed.others tells) l none;
       }
+
+  -- a file is one of the containers', or it isn't
+  has_file : (es : List (Key × Filed D disk)) (l : List ℕ) → ((n : Key) × IsSome (found es n) × (file_name_of n ≡ l)) ⊎ ((n : Key) → IsSome (found es n) → file_name_of n ≢ l)
+  has_file [] l = inr (λ n some same. absurd (true≢false (sym some)))
+  has_file (e ∷ es) l = go (same_or_not (file_name_of e.0) l) (has_file es l)
+    where
+      here : (n : Key) → is_some (found (e ∷ es) n) ≡ cond (same_text n e.0) true (is_some (found es n))
+      here n = elim (same_text n e.0) as (λ b. is_some (option_map (λ (f : Filed D disk). f.container) (cond b (Some e.1) (lookup (same_text n) es))) ≡ cond b true (is_some (found es n))) [ true ↦ refl | false ↦ refl ]
+
+      go : (file_name_of e.0 ≡ l) ⊎ (file_name_of e.0 ≢ l) → ((n : Key) × IsSome (found es n) × (file_name_of n ≡ l)) ⊎ ((n : Key) → IsSome (found es n) → file_name_of n ≢ l)
+          → ((n : Key) × IsSome (found (e ∷ es) n) × (file_name_of n ≡ l)) ⊎ ((n : Key) → IsSome (found (e ∷ es) n) → file_name_of n ≢ l)
+      go (inl is) rest = inl (e.0, here e.0 ∙ ap (λ b. cond b true (is_some (found es e.0))) (own e.0), is)
+      go (inr other) (inl x) = inl (x.0, here x.0 ∙ ap (λ b. cond (same_text x.0 e.0) true b) x.1 ∙ either (same_text x.0 e.0), x.2)
+        where
+          either : (b : Bool) → cond b true true ≡ true
+          either true = refl
+          either false = refl
+      go (inr other) (inr none) = inr (λ n some. past n (same_text n e.0) refl (sym (here n) ∙ some))
+        where
+          past : (n : Key) (b : Bool) → same_text n e.0 ≡ b → cond b true (is_some (found es n)) ≡ true → file_name_of n ≢ l
+          past n true same some is = other (ap file_name_of (sym ((bytes_decides n e.0).0 same)) ∙ is)
+          past n false same some is = none n some is
+
+  -- histories that were looked at alone
+  files_as_before : (a m : Shelf F D folder disk) (f g : F) → IsTrue disk.tells → in_folder a ≡ Some f → IsLoaded a m → IsClosed m g → (l : List ℕ) → IsAsBefore disk.view (folder.files f l) (folder.files g l)
+  files_as_before a m f g tells is loaded closed l = go (has_file (entries_of m) l)
+    where
+      filed : (n : Key) (o : Option (Container D disk)) → IsSome o → IfSome o (λ c. IsReadFrom (folder.files f (file_name_of n)) c) → IfSome o (λ c. IfSome (journal_of c) (λ j. IsPutBack disk.view (on_disk j) (folder.files g (file_name_of n))))
+          → IsAsBefore disk.view (folder.files f (file_name_of n)) (folder.files g (file_name_of n))
+      filed n None some read back = absurd (true≢false (sym some))
+      filed n (Some c) some read back = put_as_read folder c (folder.files f (file_name_of n)) (folder.files g (file_name_of n)) read back
+
+      other : (o : Option F) → IfSome o (λ h. ((n : Key) → IsSome (container_in m n) → l ≢ file_name_of n) → IsAsBefore disk.view (folder.files f l) (folder.files h l)) → IfSome o (λ h. (HasFile m l → ⊥) → folder.files g l ≡ folder.files h l) → IsStillIn folder (Some f) o
+          → ((n : Key) → IsSome (container_in m n) → file_name_of n ≢ l) → IsAsBefore disk.view (folder.files f l) (folder.files g l)
+      other None one two still none = absurd still
+      other (Some h) one two still none = subst (IsAsBefore disk.view (folder.files f l)) (sym (two (λ file. none file.0 file.1 file.2))) (one (λ n some same. none n some (sym same)))
+
+      go : ((n : Key) × IsSome (found (entries_of m) n) × (file_name_of n ≡ l)) ⊎ ((n : Key) → IsSome (found (entries_of m) n) → file_name_of n ≢ l) → IsAsBefore disk.view (folder.files f l) (folder.files g l)
+      go (inl x) = subst (λ (k : List ℕ). IsAsBefore disk.view (folder.files f k) (folder.files g k)) x.2
+          (filed x.0 (container_in m x.0) x.1 (if_some_at _ _ f is (loaded.read tells) x.0) (closed.back tells loaded.apart x.0))
+      go (inr none) = other (in_folder m) (each (in_folder m) (if_some_at _ _ f is (loaded.as_before tells))) (every (in_folder m) (closed.others tells)) (subst (λ o. IsStillIn folder o (in_folder m)) is loaded.still) none
+        where
+          each : (o : Option F) → IfSome o (λ h. (k : List ℕ) → ((n : Key) → IsSome (container_in m n) → k ≢ file_name_of n) → IsAsBefore disk.view (folder.files f k) (folder.files h k))
+              → IfSome o (λ h. ((n : Key) → IsSome (container_in m n) → l ≢ file_name_of n) → IsAsBefore disk.view (folder.files f l) (folder.files h l))
+          each None h = tt
+          each (Some x) h = h l
+
+          every : (o : Option F) → IfSome o (λ h. (k : List ℕ) → (HasFile m k → ⊥) → folder.files g k ≡ folder.files h k) → IfSome o (λ h. (HasFile m l → ⊥) → folder.files g l ≡ folder.files h l)
+          every None h = tt
+          every (Some x) h = h l
+
+  read_run : (P : List Hosted → Type 0) (a m b : Shelf F D folder disk) (f g : F) → IsTrue folder.tells → IsTrue disk.tells → in_folder a ≡ Some f → IsLoaded a m → b ≡ m → P (hosted_of m) → IsClosed b g → IsReadRun folder disk P (folder.log f).entries f g
+  read_run P a m b f g folder_tells tells is loaded same answered closed =
+      let here : IsClosed m g = subst (λ (s : Shelf F D folder disk). IsClosed s g) same closed in
+      record {
+        hosted = hosted_of m;
+        loaded = λ n. is_some (container_in m n);
+        standing = standing a m f tells is loaded;
+        entered = still_closed a m f g is loaded.still here.still folder_tells;
+        answered = answered;
+        as_before = files_as_before a m f g tells is loaded here;
+      }
+
+  -- by the service
+  pub stored_as : (service : Service) (a b : Shelf F D folder disk) (f g : F) (was : K) (left0 left1 held0 held1 : Option (List ℕ)) (status : ℕ)
+      → IsTrue folder.tells → IsTrue disk.tells → in_folder a ≡ Some f → ((m : Shelf F D folder disk) (ts : List Turn) → All (λ s. Held.IsHeld (hosted_after (hosted_of m) ts) s.message) (sent (start (hosted_of m)) ts))
+      → IsShelfRun clock service a b was left0 left1 held0 held1 status → IsClosed b g → IsStoredAs folder disk clock service (folder.log f).entries f g was left0 left1 held0 held1 status
+  stored_as Lines a b f g was left0 left1 held0 held1 status folder_tells tells is held r closed = stored_run a r.shelf b f g was left0 left1 held0 held1 status folder_tells tells is held r.loaded r.done closed
+  stored_as (Play wavelet) a b f g was left0 left1 held0 held1 status folder_tells tells is held r closed =
+      read_run (λ hs. IsPlayed hs wavelet left0 left1 held0 held1 status) a r.shelf b f g folder_tells tells is r.loaded r.done.0 r.done.1 closed
+  stored_as (Inbox user) a b f g was left0 left1 held0 held1 status folder_tells tells is held r closed =
+      read_run (λ hs. IsListed hs user left0 left1 held0 held1 status) a r.shelf b f g folder_tells tells is r.loaded r.done.0 r.done.1 closed
 
   -- whatever was sent is so of the histories
   pub all_held : Held.SentIsHeld → (m : Shelf F D folder disk) (ts : List Turn) → All (λ s. Held.IsHeld (hosted_after (hosted_of m) ts) s.message) (sent (start (hosted_of m)) ts)
@@ -314,18 +396,23 @@ module _ {F D K : Type 0} (folder : folder_of.Ghosts F D) (disk : disk_of.Ghosts
       omega (arith, count, closed.counted, rose)
 
   -- over files that read the same
-  pub same_run : (entries : List Entry) (f e g : F) (was : K) (left0 left1 held0 held1 : Option (List ℕ)) (status : ℕ) → ((m : List ℕ) → folder.files e m ≡ folder.files f m) → (folder.log e).entries ≡ entries
+  same_standing : (f e : F) (hs : List Hosted) (loaded : Key → Bool) → ((m : List ℕ) → folder.files e m ≡ folder.files f m) → AreStanding folder disk e hs loaded → AreStanding folder disk f hs loaded
+  same_standing f e hs loaded same s = record {
+    stand = λ n is. subst (λ (o : Option D). IsFileOf disk.view o n (deltas_in hs n)) (same (file_name_of n)) (s.stand n is);
+    are_loaded = s.are_loaded;
+    all = record {
+      each = λ n ds name some. subst (λ (o : Option D). IfSome o (λ d. StandsForHistory n ds (disk.view d).seen → deltas_in hs n ≡ ds)) (same (file_name_of n)) (s.all.each n ds name some);
+    };
+    sound = λ m. subst (λ (o : Option D). IsSound disk.view o m) (same m) (s.sound m);
+    apart = s.apart;
+  }
+
+  same_run : (entries : List Entry) (f e g : F) (was : K) (left0 left1 held0 held1 : Option (List ℕ)) (status : ℕ) → ((m : List ℕ) → folder.files e m ≡ folder.files f m) → (folder.log e).entries ≡ entries
       → IsStoredRun folder disk clock (folder.log e).entries e g was left0 left1 held0 held1 status → IsStoredRun folder disk clock entries f g was left0 left1 held0 held1 status
   same_run entries f e g was left0 left1 held0 held1 status same entered r = record {
     hosted = r.hosted;
     loaded = r.loaded;
-    stand = λ n is. subst (λ (o : Option D). IsFileOf disk.view o n (deltas_in r.hosted n)) (same (file_name_of n)) (r.stand n is);
-    are_loaded = r.are_loaded;
-    all = record {
-      each = λ n ds name some. subst (λ (o : Option D). IfSome o (λ d. StandsForHistory n ds (disk.view d).seen → deltas_in r.hosted n ≡ ds)) (same (file_name_of n)) (r.all.each n ds name some);
-    };
-    sound = λ m. subst (λ (o : Option D). IsSound disk.view o m) (same m) (r.sound m);
-    apart = r.apart;
+    standing = same_standing f e r.hosted r.loaded same r.standing;
     entered = r.entered ∙ entered;
     known = r.known;
     run = r.run;
@@ -340,6 +427,22 @@ module _ {F D K : Type 0} (folder : folder_of.Ghosts F D) (disk : disk_of.Ghosts
     begun = r.begun;
     others = λ m none. subst (λ (o : Option D). IsAsBefore disk.view o (folder.files g m)) (same m) (r.others m none);
   }
+
+  same_read : (P : List Hosted → Type 0) (entries : List Entry) (f e g : F) → ((m : List ℕ) → folder.files e m ≡ folder.files f m) → (folder.log e).entries ≡ entries → IsReadRun folder disk P (folder.log e).entries e g → IsReadRun folder disk P entries f g
+  same_read P entries f e g same entered r = record {
+    hosted = r.hosted;
+    loaded = r.loaded;
+    standing = same_standing f e r.hosted r.loaded same r.standing;
+    entered = r.entered ∙ entered;
+    answered = r.answered;
+    as_before = λ m. subst (λ (o : Option D). IsAsBefore disk.view o (folder.files g m)) (same m) (r.as_before m);
+  }
+
+  pub same_as : (service : Service) (entries : List Entry) (f e g : F) (was : K) (left0 left1 held0 held1 : Option (List ℕ)) (status : ℕ) → ((m : List ℕ) → folder.files e m ≡ folder.files f m) → (folder.log e).entries ≡ entries
+      → IsStoredAs folder disk clock service (folder.log e).entries e g was left0 left1 held0 held1 status → IsStoredAs folder disk clock service entries f g was left0 left1 held0 held1 status
+  same_as Lines entries f e g was left0 left1 held0 held1 status same entered r = same_run entries f e g was left0 left1 held0 held1 status same entered r
+  same_as (Play wavelet) entries f e g was left0 left1 held0 held1 status same entered r = same_read (λ hs. IsPlayed hs wavelet left0 left1 held0 held1 status) entries f e g same entered r
+  same_as (Inbox user) entries f e g was left0 left1 held0 held1 status same entered r = same_read (λ hs. IsListed hs user left0 left1 held0 held1 status) entries f e g same entered r
 
   pub same_unloaded : (entries : List Entry) (f e g : F) (held0 held1 : Option (List ℕ)) (before now status : ℕ) → ((m : List ℕ) → folder.files e m ≡ folder.files f m) → (folder.log e).entries ≡ entries → IsUnloaded folder disk (folder.log e).entries e g held0 held1 before now status
       → IsUnloaded folder disk entries f g held0 held1 before now status

@@ -1,4 +1,4 @@
--- The command `pipe --store`.
+-- Runs over a store.
 --     IsFileOf o n ds           the file stands for this history of the name, as it reads
 --     GoesOn n ds bytes         bytes stand for a history of the name that begins with these deltas
 --     IsStoredFrom o n ds       so does the file, as it reads and in each image
@@ -14,8 +14,11 @@
 --     IsClosed a g              the disks of the shelf a were put back into the folder g
 --     IsShelfUnloaded, IsShelfRun   what follows, over shelves
 --     entered_at folder path f  the paths that the folder f was to enter, and this one behind them
---     IsStoredRun               a run over the files of a folder, by whose end these paths were entered
---     IsUnloaded                one that ended before its first line
+--     AreStanding f hs loaded   the files of the folder f stand for these histories, and those of these names were loaded
+--     IsStoredRun               lines answered over the files of a folder, by whose end these paths were entered
+--     IsReadRun P               histories looked at in the files of a folder, with P of them, and the files as before
+--     IsStoredAs                the one or the other, by the service
+--     IsUnloaded                a run that ended before its first line
 use Rattle.std.specs.Prelude.{◌≡◌, ◌≢◌, ◌⊎◌, ◌≤◌, ◌-◌, ◌^◌, min, ℕ, List, [], ◌++◌, Option, Some, None, Bool, true, false, IsTrue, IsSome, IfSome}
 use Rattle.std.specs.List.{All}
 use Rattle.doc_items.specs.Maps.{Key}
@@ -45,7 +48,11 @@ use Rattle.pipe_machine.specs.Machine.{start, sent}
 use Rattle.pipe_machine.specs.Pipes.{StandsAlong}
 use Rattle.wave_program.specs.Damage.{damage_line}
 use Rattle.wave_program.specs.Run.{IsServing, IsWhole}
-use Rattle.wave_program.specs.Pipe.{answers_over, hosted_after, IsOneAtMost, IsOver}
+use Rattle.wave_program.specs.Asks.{IsPlayed, IsListed}
+use Rattle.wave_program.specs.Pipe.{answers_over, hosted_after, IsOneAtMost}
+use Rattle.wave_program.specs.Services.{IsDone}
+use Rattle.wave_program.specs.declared.service.Service.{Service}
+use Rattle.wave_program.specs.declared.service.Service.TheVariants.{Lines, Play, Inbox}
 
 -- ---- files
 
@@ -122,10 +129,10 @@ module _ {F D : Type 0} {folder : folder_of.Ghosts F D} {disk : disk_of.Ghosts D
     pub as_before : IsTrue disk.tells → IsBeforeIn a b
     pub still : IsStillIn folder (in_folder a) (in_folder b)
 
-  pub record IsShelfRun {K : Type 0} (clock : clock_of.Ghosts K) (a b : Shelf F D folder disk) (was : K) (left0 left1 held0 held1 : Option (List ℕ)) (status : ℕ) : Type 0 where
+  pub record IsShelfRun {K : Type 0} (clock : clock_of.Ghosts K) (service : Service) (a b : Shelf F D folder disk) (was : K) (left0 left1 held0 held1 : Option (List ℕ)) (status : ℕ) : Type 0 where
     pub shelf : Shelf F D folder disk
     pub loaded : IsLoaded a shelf
-    pub over : IsOver clock shelf b was left0 left1 held0 held1 status
+    pub done : IsDone clock service shelf b was left0 left1 held0 held1 status
 
 -- ---- runs
 
@@ -142,16 +149,19 @@ module _ {F D : Type 0} (folder : folder_of.Ghosts F D) (disk : disk_of.Ghosts D
     -- nothing more was entered; for want of memory, maybe nothing at all
     pub entered : ((folder.log g).entries ≡ entries) ⊎ ((status ≡ 8) × ((folder.log g).entries ≡ (folder.log f).entries))
 
-  -- the folder before and behind it
-  pub record IsStoredRun {K : Type 0} (clock : clock_of.Ghosts K) (entries : List Entry) (f g : F) (was : K) (left0 left1 held0 held1 : Option (List ℕ)) (status : ℕ) : Type 0 where
-    -- the histories for which the files stand, and the names whose files were loaded
-    pub hosted : List Hosted
-    pub loaded : Key → Bool
+  pub record AreStanding (f : F) (hosted : List Hosted) (loaded : Key → Bool) : Type 0 where
     pub stand : (n : Key) → loaded n ≡ true → IsFileOf disk.view (folder.files f (file_name_of n)) n (deltas_in hosted n)
     pub are_loaded : (n : Key) → deltas_in hosted n ≢ [] → loaded n ≡ true
     pub all : HasAll disk.view (folder.files f) hosted
     pub sound : (m : List ℕ) → IsSound disk.view (folder.files f m) m
     pub apart : AreApartIn (λ n. loaded n ≡ true)
+
+  -- the folder before and behind it
+  pub record IsStoredRun {K : Type 0} (clock : clock_of.Ghosts K) (entries : List Entry) (f g : F) (was : K) (left0 left1 held0 held1 : Option (List ℕ)) (status : ℕ) : Type 0 where
+    -- the histories for which the files stand, and the names whose files were loaded
+    pub hosted : List Hosted
+    pub loaded : Key → Bool
+    pub standing : AreStanding f hosted loaded
     pub entered : (folder.log g).entries ≡ entries
     -- what was read and written
     pub known : IsServing status
@@ -175,3 +185,17 @@ module _ {F D : Type 0} (folder : folder_of.Ghosts F D) (disk : disk_of.Ghosts D
         → IsFileBegun disk.view (folder.files g (file_name_of n)) (StandsAlong (start hosted) n (run.turns ++ tried))
     -- the files of other names are as they were, but for what a sync settles
     pub others : (m : List ℕ) → ((n : Key) → (loaded n ≡ true) ⊎ (submitted_in (run.turns ++ tried) n ≡ true) → m ≢ file_name_of n) → IsAsBefore disk.view (folder.files f m) (folder.files g m)
+
+  -- the folder before and after it
+  pub record IsReadRun (P : List Hosted → Type 0) (entries : List Entry) (f g : F) : Type 0 where
+    pub hosted : List Hosted
+    pub loaded : Key → Bool
+    pub standing : AreStanding f hosted loaded
+    pub entered : (folder.log g).entries ≡ entries
+    pub answered : P hosted
+    pub as_before : (m : List ℕ) → IsAsBefore disk.view (folder.files f m) (folder.files g m)
+
+  abbrev pub IsStoredAs : {K : Type 0} → clock_of.Ghosts K → Service → List Entry → F → F → K → (left0 left1 held0 held1 : Option (List ℕ)) → ℕ → Type 0
+  IsStoredAs clock Lines entries f g was left0 left1 held0 held1 status = IsStoredRun clock entries f g was left0 left1 held0 held1 status
+  IsStoredAs clock (Play wavelet) entries f g was left0 left1 held0 held1 status = IsReadRun (λ hs. IsPlayed hs wavelet left0 left1 held0 held1 status) entries f g
+  IsStoredAs clock (Inbox user) entries f g was left0 left1 held0 held1 status = IsReadRun (λ hs. IsListed hs user left0 left1 held0 held1 status) entries f g

@@ -1,4 +1,4 @@
-// The lines of a source, answered over the wavelets of a folder.
+// What a run does over the wavelets of a folder.
 ghost use Rattle.std.specs.Prelude.{◌≡◌, ◌⊎◌, [], IsTrue, IsSome, IfSome};
 ghost use Rattle.wave_outside.specs.Counts.{Rose};
 ghost use Rattle.line_loop.specs.Output.{IsWritten};
@@ -6,28 +6,29 @@ ghost use Rattle.wavelet_shelf.specs.Faults.{damage_of};
 ghost use Rattle.wavelet_shelf.specs.Shelves.{in_folder, entries_of, fault_count};
 ghost use Rattle.wave_program.specs.Damage.{damage_line};
 ghost use Rattle.wave_program.specs.Run.{IsServing};
-ghost use Rattle.wave_program.specs.Store.{entered_at, IsClosed, IsShelfRun, IsShelfUnloaded, IsStoredRun, IsUnloaded};
+ghost use Rattle.wave_program.specs.Store.{entered_at, IsClosed, IsShelfRun, IsShelfUnloaded, IsStoredAs, IsUnloaded};
 ghost use Rattle.wavelet_shelf.specs.declared.fault.ShelfFault.TheVariants.{Failed};
 
 use crate::damage::write_damage;
-use crate::pipe::serve_over;
+use crate::service::Service;
 use pipe_machine::sent_is_held;
 use std::alloc::Global;
 use std::mem::replace;
 use wave_outside::{Clock, Folder, FolderFault, Sink, Source};
 use wavelet_shelf::{Shelf, ShelfFault};
 
-/// Answers the lines of the source on the sink, over the wavelets of the folder of this path, and gives the exit status.
+/// Does this over the wavelets of the folder of this path, from the source to the sink, and gives the exit status.
 pub fn serve_stored<S: Source, W: Sink, F: Folder + Drop, C: Clock>(
     alloc: Global,
     path: &str,
+    service: Service,
     source: &mut S,
     sink: &mut W,
     folder: &mut F,
     clock: &mut C,
 ) -> u8
     ensures stored { IsTrue F.tells → IsTrue F.Disk.tells
-        → IsStoredRun F.Folder F.Disk.Disk C.Clock (entered_at F.Folder path.now folder.old) folder.old folder.new clock.old (S.left source.old) (S.left source.new) (W.written sink.old) (W.written sink.new) result
+        → IsStoredAs F.Folder F.Disk.Disk C.Clock service (entered_at F.Folder path.now folder.old) folder.old folder.new clock.old (S.left source.old) (S.left source.new) (W.written sink.old) (W.written sink.new) result
         ⊎ ((source.new ≡ source.old) × IsUnloaded F.Folder F.Disk.Disk (entered_at F.Folder path.now folder.old) folder.old folder.new (W.written sink.old) (W.written sink.new) (W.faults sink.old) (W.faults sink.new) result) }
     ensures source_failed { result ≡ 3 → Rose (S.faults source.old) (S.faults source.new) }
     ensures sink_failed { result ≡ 4 → Rose (W.faults sink.old) (W.faults sink.new) }
@@ -35,22 +36,23 @@ pub fn serve_stored<S: Source, W: Sink, F: Folder + Drop, C: Clock>(
     ensures known { IsServing result ⊎ (result ≡ 6) }
 {
     match folder.enter(alloc, path) {
-        Ok(()) => serve_folder(alloc, source, sink, folder, clock),
+        Ok(()) => serve_folder(alloc, service, source, sink, folder, clock),
         Err(FolderFault::Failed) => 5,
         Err(FolderFault::Memory) => 8,
     }
 }
 
-// So it is, with the folder entered. While it is in a shelf, another stands in its place.
+// Does this with the folder entered. While it is in a shelf, another stands in its place.
 fn serve_folder<S: Source, W: Sink, F: Folder + Drop, C: Clock>(
     alloc: Global,
+    service: Service,
     source: &mut S,
     sink: &mut W,
     folder: &mut F,
     clock: &mut C,
 ) -> u8
     ensures stored { IsTrue F.tells → IsTrue F.Disk.tells
-        → IsStoredRun F.Folder F.Disk.Disk C.Clock (F.log folder.old).entries folder.old folder.new clock.old (S.left source.old) (S.left source.new) (W.written sink.old) (W.written sink.new) result
+        → IsStoredAs F.Folder F.Disk.Disk C.Clock service (F.log folder.old).entries folder.old folder.new clock.old (S.left source.old) (S.left source.new) (W.written sink.old) (W.written sink.new) result
         ⊎ ((source.new ≡ source.old) × IsUnloaded F.Folder F.Disk.Disk (F.log folder.old).entries folder.old folder.new (W.written sink.old) (W.written sink.new) (W.faults sink.old) (W.faults sink.new) result) }
     ensures source_failed { result ≡ 3 → Rose (S.faults source.old) (S.faults source.new) }
     ensures sink_failed { result ≡ 4 → Rose (W.faults sink.old) (W.faults sink.new) }
@@ -62,7 +64,7 @@ fn serve_folder<S: Source, W: Sink, F: Folder + Drop, C: Clock>(
         return 8;
     };
     let shelf = Shelf::over(alloc, replace(folder, other));
-    let (shelf, status) = serve_shelf(alloc, shelf, source, sink, clock);
+    let (shelf, status) = serve_shelf(alloc, service, shelf, source, sink, clock);
     put_back(folder, shelf);
     status
 }
@@ -77,9 +79,10 @@ fn put_back<F: Folder + Drop>(folder: &mut F, shelf: Shelf<F>)
     }
 }
 
-// Loads the shelf, and answers the lines over it.
+// Loads the shelf, and does this over it.
 fn serve_shelf<S: Source, W: Sink, F: Folder + Drop, C: Clock>(
     alloc: Global,
+    service: Service,
     shelf: Shelf<F>,
     source: &mut S,
     sink: &mut W,
@@ -87,7 +90,7 @@ fn serve_shelf<S: Source, W: Sink, F: Folder + Drop, C: Clock>(
 ) -> (Shelf<F>, u8)
     requires folder { IsSome (in_folder shelf) }
     requires empty { entries_of shelf ≡ [] }
-    ensures run { IsShelfRun C.Clock shelf result.0 clock.old (S.left source.old) (S.left source.new) (W.written sink.old) (W.written sink.new) result.1
+    ensures run { IsShelfRun C.Clock service shelf result.0 clock.old (S.left source.old) (S.left source.new) (W.written sink.old) (W.written sink.new) result.1
         ⊎ ((source.new ≡ source.old) × IsShelfUnloaded shelf result.0 (W.written sink.old) (W.written sink.new) (W.faults sink.old) (W.faults sink.new) result.1) }
     ensures folder { IsSome (in_folder result.0) }
     ensures source_failed { result.1 ≡ 3 → Rose (S.faults source.old) (S.faults source.new) }
@@ -97,7 +100,7 @@ fn serve_shelf<S: Source, W: Sink, F: Folder + Drop, C: Clock>(
 {
     let mut shelf = shelf;
     match shelf.load(alloc) {
-        Ok(()) => serve_over(alloc, shelf, source, sink, clock),
+        Ok(()) => service.serve(alloc, shelf, source, sink, clock),
         Err(fault) => {
             let status = tell(alloc, sink, &fault);
             (shelf, status)

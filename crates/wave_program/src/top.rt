@@ -9,11 +9,13 @@ ghost use Rattle.wavelet_shelf.specs.Loads.{IsSound};
 ghost use Rattle.wave_program.specs.Load.{IsLoaded};
 ghost use Rattle.wave_program.specs.Pipe.{answers_over};
 ghost use Rattle.wave_program.specs.Run.{IsStatus};
-ghost use Rattle.wave_program.specs.Store.{entered_at, IsStoredRun, IsUnloaded};
+ghost use Rattle.wave_program.specs.Services.{service_of};
+ghost use Rattle.wave_program.specs.Store.{entered_at, IsStoredAs, IsUnloaded};
 ghost use Rattle.wave_program.specs.Words.{IsOther, IsStoring, usage};
 
 use crate::load::{LoadStop, load};
 use crate::pipe::serve;
+use crate::service::Service;
 use crate::store::serve_stored;
 use crate::words::write_usage;
 use command_words::{Command, WordsFault, read_words};
@@ -39,7 +41,9 @@ fn tell_load<W: Sink>(alloc: Global, count: u64, sink: &mut W) -> u8
 /// On `pipe` it answers the lines of the source on the sink: 0 at the end of the input, 3 where the source failed, 4 where the sink
 /// did, 8 out of memory, and 10 where it read 2^62 bytes. On `pipe --store DIR` it does so over the wavelets that stand in the folder
 /// DIR: 5 where the folder or a file failed, and 6, with a line that tells of the first one, where a file with a journal's name isn't the
-/// journal of a legal history of its wavelet. On `load N`, with N up to 100,000, it runs the stated workload and writes its summary as a
+/// journal of a legal history of its wavelet. On `play --store DIR --wavelet W` it answers commands that go through the history of W in
+/// that folder, which is empty where there is none, and on `inbox --store DIR --user U` commands on what U has there, with the same
+/// statuses; both end with 0 at the end of the input or at the line `quit`. On `load N`, with N up to 100,000, it runs the stated workload and writes its summary as a
 /// line: 0, 4 where the sink failed, 8 out of memory. With other words it writes the usage text and gives 2, or 8 out of memory.
 pub fn run<S: Source, W: Sink, F: Folder + Drop, C: Clock>(
     alloc: Global,
@@ -58,13 +62,14 @@ pub fn run<S: Source, W: Sink, F: Folder + Drop, C: Clock>(
         → WhereTold (S.left source.old) (S.left source.new) (W.written sink.old) (W.written sink.new)
         (λ read left written. length (read ++ left) < byte_limit → (result ≡ 0) ⊎ (result ≡ 8)) }
 
-    // Lines and a store: the folder of the words is entered, and no other, before any file is used. None of its files with a journal's
-    // name is refused, and the lines are answered over the histories for which they stand, and what is sent stands there. Or no line
-    // was read, and each file is as it was, but for what a sync settles.
-    ensures stored { (path : List ℕ) → command_of (map string_bytes words.now.items) ≡ Some (Pipe (Some path)) → IsTrue F.tells → IsTrue F.Disk.tells
-        → IsStoredRun F.Folder F.Disk.Disk C.Clock (entered_at F.Folder path folder.old) folder.old folder.new clock.old (S.left source.old) (S.left source.new) (W.written sink.old) (W.written sink.new) result
+    // A store: the folder of the words is entered, and no other, before any file is used. None of its files with a journal's name is
+    // refused. Lines are answered over the histories for which they stand, and what is sent stands there; commands of a playback or of
+    // an inbox are answered over these histories, and each file is as it was, but for what a sync settles. Or no line was read, and
+    // each file is so.
+    ensures stored { (path : List ℕ) (service : Service) → service_of (command_of (map string_bytes words.now.items)) ≡ Some (path, service) → IsTrue F.tells → IsTrue F.Disk.tells
+        → IsStoredAs F.Folder F.Disk.Disk C.Clock service (entered_at F.Folder path folder.old) folder.old folder.new clock.old (S.left source.old) (S.left source.new) (W.written sink.old) (W.written sink.new) result
         ⊎ ((source.new ≡ source.old) × IsUnloaded F.Folder F.Disk.Disk (entered_at F.Folder path folder.old) folder.old folder.new (W.written sink.old) (W.written sink.new) (W.faults sink.old) (W.faults sink.new) result) }
-    ensures stored_complete { (path : List ℕ) → command_of (map string_bytes words.now.items) ≡ Some (Pipe (Some path)) → IsTrue F.tells → IsTrue F.Disk.tells
+    ensures stored_complete { (path : List ℕ) (service : Service) → service_of (command_of (map string_bytes words.now.items)) ≡ Some (path, service) → IsTrue F.tells → IsTrue F.Disk.tells
         → ((file : List ℕ) → IsSound F.Disk.view (F.files folder.old file) file)
         → (Rose (S.faults source.old) (S.faults source.new) → ⊥)
         → (Rose (W.faults sink.old) (W.faults sink.new) → ⊥)
@@ -101,7 +106,15 @@ pub fn run<S: Source, W: Sink, F: Folder + Drop, C: Clock>(
             serve(alloc, Shelf::<F>::new(alloc), source, sink, clock)
         }
         Ok(Command::Pipe { store: Some(path) }) => {
-            serve_stored(alloc, path, source, sink, folder, clock)
+            serve_stored(alloc, path, Service::Lines, source, sink, folder, clock)
+        }
+        Ok(Command::Play { store, wavelet }) => {
+            let service = Service::Play { wavelet };
+            serve_stored(alloc, store, service, source, sink, folder, clock)
+        }
+        Ok(Command::Inbox { store, user }) => {
+            let service = Service::Inbox { user };
+            serve_stored(alloc, store, service, source, sink, folder, clock)
         }
         Ok(Command::Load { count }) => tell_load(alloc, count, sink),
         Err(WordsFault::Usage) => {

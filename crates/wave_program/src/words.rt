@@ -6,7 +6,8 @@ ghost use Rattle.wave_program.specs.Words.{usage};
 use line_loop::write_all;
 use wave_outside::Sink;
 
-const USAGE: &str = "usage: wave pipe [--store DIR]\n       wave load N\n";
+const USAGE: &str =
+    "usage: wave pipe [--store DIR]\n       wave load N\n       wave play --store DIR --wavelet W\n       wave inbox --store DIR --user U\n";
 
 // Writes the usage text, as far as the sink takes it.
 pub fn write_usage<W: Sink>(sink: &mut W)

@@ -1,2 +1,3 @@
-pub mod Playing
+pub mod Feeding
+pub mod Obeying
 pub mod Showing

@@ -40,8 +40,8 @@ fn digits(number: u64, bytes: &[u8]) -> Option<u64>
     digits(next as u64, rest)
 }
 
-// Decimal digits without a leading zero, of at most 64 bits.
-fn number(bytes: &[u8]) -> Option<u64>
+/// Decimal digits without a leading zero, of at most 64 bits.
+pub fn number(bytes: &[u8]) -> Option<u64>
     ensures { result ≡ number bytes.now }
 {
     match bytes {

@@ -41,8 +41,8 @@ pub(crate) fn push_char(out: &mut String, c: char) -> Result<(), Memory>
     out.push(c)
 }
 
-/// Appends a text as it is shown.
-pub(crate) fn push_text(out: &mut String, text: &str) -> Result<(), Memory>
+/// Appends a text as it is shown: `<`, `{` and `\` after a `\`, and a character below U+0020 or U+007F by its number.
+pub fn push_text(out: &mut String, text: &str) -> Result<(), Memory>
     ensures { OnOk result (string_bytes out.new ≡ string_bytes out.old ++ escaped_text text.now) }
 {
     for c in text.chars() {

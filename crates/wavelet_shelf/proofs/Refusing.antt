@@ -1,6 +1,7 @@
 -- Disks that are put back after a refusal.
 --     all_of_found      what is so of each name's entry is so of each entry
---     after_refusal     each file reads as before
+--     put_as_read       a file that was read reads as before
+--     after_refusal     each file does
 use Rattle.std.proofs.Common.{Less, ◌≡◌, ◌≢◌, inr, ⊎_elim, ℕ, Bool, true, false, cond, List, [], ◌∷◌, Option, Some, None, IsSome, IfSome, IsTrue, refl, sym, ap, subst, ◌∙◌, true≢false}
 use Rattle.std.specs.Cmp.Lexicographic.{slice_cmp, bytes_decides}
 use Rattle.std.specs.Ordering.{nat_cmp}
@@ -43,7 +44,7 @@ module _ {F D : Type 0} (folder : folder_of.Ghosts F D) {disk : disk_of.Ghosts D
     all_of_found P es (any e.0 (keys_of es) a) (tail_found P e es a all),
   )
 
-  put_as_read : (c : Container D disk) (o p : Option D) → IsReadFrom o c → IfSome (journal_of c) (λ j. IsPutBack disk.view (on_disk j) p) → IsAsBefore disk.view o p
+  pub put_as_read : (c : Container D disk) (o p : Option D) → IsReadFrom o c → IfSome (journal_of c) (λ j. IsPutBack disk.view (on_disk j) p) → IsAsBefore disk.view o p
   put_as_read c None p read back = absurd read
   put_as_read c (Some d) p read back = there p (subst (λ k. IfSome k (λ j. IsPutBack disk.view (on_disk j) p)) read.is back)
     where

@@ -1,4 +1,4 @@
-use Rattle.std.proofs.Common.{rules, ◌≡◌, ◌∙◌, ap, sym, refl, List, Option, Some, None, option_map, option_and_then}
+use Rattle.std.proofs.Common.{rules, ◌≡◌, ◌∙◌, List, Option, Some, None, option_map, option_and_then}
 use Rattle.clap.specs.Walk.{Row, Text, first_of, rows_of}
 use Rattle.clap.specs.Words.{found_of, subcommand_rows_of}
 use Rattle.clap.proofs.WalkLemmas.{first_value-rows}

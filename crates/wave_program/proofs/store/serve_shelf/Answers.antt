@@ -1,7 +1,5 @@
 use Rattle.std.proofs.Common.{inl, inr, refl, ap, arith}
-use Rattle.wave_program.proofs.Piping.{some_rose}
 use Rattle.wave_program.proofs.Storing.{damage_told}
-use Rattle.wavelet_shelf.proofs.Still.{used_there}
 use Rattle.wave_program.proofs.store.serve_shelf.Goals as goal
 
 pub returns-in-Ok-clause-run : goal.returns-in-Ok-clause-run
@@ -17,7 +15,7 @@ returns-in-Ok-clause-run g c = inl (record {
     still = c.load.ensures.still;
     later = c.load.ensures.later;
   };
-  over = c.serve_over.ensures.over;
+  done = c.serve.ensures.done;
 })
 
 pub returns-in-Err-clause-run : goal.returns-in-Err-clause-run
@@ -34,12 +32,4 @@ returns-in-Err-clause-run g c = inr (
 )
 
 pub returns-in-Ok-clause-store_failed : goal.returns-in-Ok-clause-store_failed
-returns-in-Ok-clause-store_failed g c = λ five.
-    let rose = some_rose _ _ _ _ c.load.ensures.folder (used_there g.F.Folder _ _ _ c.serve_over.ensures.over.moved.used) (c.serve_over.ensures.store_failed five) in
-    omega (arith, rose, c.load.ensures.later)
-
-pub returns-in-Ok-clause-known : goal.returns-in-Ok-clause-known
-returns-in-Ok-clause-known g c = inl c.serve_over.ensures.known
-
-pub returns-in-Ok-clause-folder : goal.returns-in-Ok-clause-folder
-returns-in-Ok-clause-folder g c = (used_there g.F.Folder _ _ _ c.serve_over.ensures.over.moved.used).0 c.load.ensures.folder
+returns-in-Ok-clause-store_failed g c = λ five. let rose = c.serve.ensures.store_failed five in omega (arith, rose, c.load.ensures.later)
