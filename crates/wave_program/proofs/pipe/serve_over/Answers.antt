@@ -45,8 +45,8 @@ returns-clause-over g c =
           let reached : after (start (hosted_of c.args.shelf)) s.turns ≡ pipe_of s.mid = ap (λ (p : Pipe). after p s.turns) (sym is) ∙ s.reached.pipe in
           let calm : IsKept c.args.shelf → IsSettled c.args.shelf → IsKept s.mid.shelf × IsSettled s.mid.shelf = λ kept settled. s.calm (rw (c.new-machine.ensures.shelf) kept, rw (c.new-machine.ensures.shelf) settled) in
           let written : IsKept c.args.shelf → IsSettled c.args.shelf → AreWrittenOn c.args.shelf s.mid.shelf (λ n. StandsAlong (start (hosted_of c.args.shelf)) n s.turns) = λ kept settled n.
-              subst (λ (p : Pipe). IsWrittenOn (container_in c.args.shelf n) (container_in s.mid.shelf n) (StandsAlong p n s.turns)) is
-              (subst (λ x. IsWrittenOn (container_in x n) (container_in s.mid.shelf n) (StandsAlong (pipe_of c.new-machine.result) n s.turns)) c.new-machine.ensures.shelf (s.reached.moments (rw (c.new-machine.ensures.shelf) kept, rw (c.new-machine.ensures.shelf) settled) n)) in
+          subst (λ (p : Pipe). IsWrittenOn (container_in c.args.shelf n) (container_in s.mid.shelf n) (StandsAlong p n s.turns)) is
+          (subst (λ x. IsWrittenOn (container_in x n) (container_in s.mid.shelf n) (StandsAlong (pipe_of c.new-machine.result) n s.turns)) c.new-machine.ensures.shelf (s.reached.moments (rw (c.new-machine.ensures.shelf) kept, rw (c.new-machine.ensures.shelf) settled) n)) in
           rw (c.into_shelf.ensures)
           (left_of s (λ us. IsLeftOf c.args.shelf c.run_lines-ending.new.machine.shelf s.turns us)
           (λ same. left_still c.args.shelf s.mid.shelf c.run_lines-ending.new.machine.shelf s.turns (sym e) calm written (λ i. (same i).shelf))
