@@ -1,8 +1,11 @@
-use Rattle.std.proofs.Common.{Ok, Err, refl, sym, ap, subst, ◌∙◌}
+use Rattle.std.proofs.Common.{Ok, Err, refl, sym, ap, subst, ◌∙◌, arith}
 use Rattle.pipe_machine.specs.Keeping.{IsMoved, submits_read}
 use Rattle.std.proofs.lemmas.Result.{err_from_is_err_and}
 use Rattle.line_loop.specs.declared.line_machine.TurnFault.TheVariants.{Memory}
 use Rattle.pipe_machine.proofs.Trying.{ended_memory, tried_still}
+use Rattle.wavelet_shelf.specs.Shelves.{hosted_of}
+use Rattle.pipe_machine.specs.Machine.{shown_in}
+use Rattle.pipe_machine.proofs.Placing.{got_within, told_each}
 use Rattle.pipe_machine.proofs.pipe.PipeMachine.answer.Goals as goal
 
 pub returns-in-Ok-clause-moved : goal.returns-in-Ok-clause-moved
@@ -16,3 +19,6 @@ returns-in_err-refuse-in-Err-Bad-clause-ended g c =
 
 pub returns-in-Err-Memory-clause-ended : goal.returns-in-Err-Memory-clause-ended
 returns-in-Err-Memory-clause-ended g c = ended_memory c.args.self.now.shelf c.args.self.now.shelf _ (Err Memory) Memory refl refl (tried_still c.args.self.now.shelf _)
+
+pub returns-in_ok-refuse-in-Err-Bad-clause-due : goal.returns-in_ok-refuse-in-Err-Bad-clause-due
+returns-in_ok-refuse-in-Err-Bad-clause-due g c told k s got e = told_each (shown_in (hosted_of c.args.self.now.shelf)) c.args.self.now.seats.items told k s (omega arith) (got_within c.args.self.now.seats.items k s got) got
