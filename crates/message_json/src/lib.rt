@@ -15,4 +15,5 @@ mod writing;
 
 pub use message::{ForServer, Message};
 pub use reading::message_of;
+pub use server_value::{snapshot_value, update_value};
 pub use writing::message_value;

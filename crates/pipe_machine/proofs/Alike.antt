@@ -2,7 +2,9 @@
 --     attached_alike      what an `open` is answered
 --     delivered_alike     what a session of a pipe is sent
 --     after_alike         the session then
-use Rattle.std.proofs.Common.{◌≡◌, Bool, true, false, not, ◌&&◌, cond, List, [], ◌∷◌, ◌++◌, Option, None, Some, refl, sym, ap, subst, is_some, option_map, option_and_then, true≢false}
+--     told_alike          whether it was sent all
+--     placed_alike        where its deltas stand
+use Rattle.std.proofs.Common.{◌≡◌, ℕ, Bool, true, false, not, ◌&&◌, cond, List, [], ◌∷◌, ◌++◌, Option, None, Some, slice_get, refl, sym, ap, subst, ◌∙◌, is_some, option_map, option_and_then, true≢false}
 use Rattle.doc_items.specs.Maps.{Key}
 use Rattle.wave_base.specs.Versions.{VersionAt}
 use Rattle.wavelet_op.specs.States.{role_of}
@@ -17,6 +19,10 @@ use Rattle.session_core.specs.Access.{Shown, is_member, seen_by}
 use Rattle.session_core.specs.Rules.{party_is_peer}
 use Rattle.session_core.specs.Answers.{attached_head, attached_hash, attached_seen, seen_for, attached}
 use Rattle.session_core.specs.Deliveries.{outcome_sent, outcomes_sent, waits_on, still_waiting, opening_news, opening_sent, openings_sent, opening_left, opening_kept, openings_kept, delivered_to, delivered, after_for, after_delivery}
+use Rattle.session_core.specs.Current.{is_sent, is_opening_sent, are_sent_to, are_sent_for, are_sent}
+use Rattle.session_core.specs.News.{deltas_of, IsPlaced}
+use Rattle.session_core.specs.declared.news.News.{News}
+use Rattle.session_core.specs.declared.news.News.TheVariants as news
 use Rattle.wavelet_shelf.specs.Hosting.{IsCopyOf}
 use Rattle.pipe_machine.specs.Seats.{IsPlain}
 use Rattle.pipe_machine.specs.Shows.{IsSameShown}
@@ -105,6 +111,41 @@ module _ (c d : Shown) (same : IsSameShown c d) where
   openings_kept_alike : (user : Key) (os : List Opening) → openings_kept c user os ≡ openings_kept d user os
   openings_kept_alike user [] = refl
   openings_kept_alike user (o ∷ os) = (λ i. kept_alike user o (c.copy o.name) (d.copy o.name) (same.copy o.name) i ++ openings_kept_alike user os i)
+
+  head_sent : (v : ℕ) (s t : Option HistoryOf) → IsCopyOf s t → is_sent v s ≡ is_sent v t
+  head_sent v None None e = refl
+  head_sent v None (Some h) e = absurd e
+  head_sent v (Some g) None e = absurd e
+  head_sent v (Some g) (Some h) e = (λ i. is_sent v (Some (record { name = e.0 i; deltas = e.1 i; spare = 0 })))
+
+  opening_told : (user : Key) (o : Opening) (s t : Option HistoryOf) → IsCopyOf s t → is_opening_sent c user o s ≡ is_opening_sent d user o t
+  opening_told user o None None e = refl
+  opening_told user o None (Some h) e = absurd e
+  opening_told user o (Some g) None e = absurd e
+  opening_told user o (Some g) (Some h) e = head_sent o.sent (seen_by c o.name user) (seen_by d o.name user) (seen_alike o.name user)
+
+  openings_told : (user : Key) (os : List Opening) → are_sent_to c user os ≡ are_sent_to d user os
+  openings_told user [] = refl
+  openings_told user (o ∷ os) = (λ i. opening_told user o (c.copy o.name) (d.copy o.name) (same.copy o.name) i && openings_told user os i)
+
+  pub told_alike : (s : Session) → are_sent c s ≡ are_sent d s
+  told_alike s = go s.party
+    where
+      go : (party : Party) → are_sent_for c s party ≡ are_sent_for d s party
+      go Nobody = refl
+      go (User user) = openings_told user s.openings
+      go (Domain domain) = refl
+
+  deltas_alike : (s t : Option HistoryOf) → IsCopyOf s t → deltas_of s ≡ deltas_of t
+  deltas_alike None None e = refl
+  deltas_alike None (Some h) e = absurd e
+  deltas_alike (Some g) None e = absurd e
+  deltas_alike (Some g) (Some h) e = e.1
+
+  pub placed_alike : (n : News) → IsPlaced c n → IsPlaced d n
+  placed_alike (news.Update name place delta) p = ap (λ ds. slice_get ds place) (sym (deltas_alike (c.copy name.now) (d.copy name.now) (same.copy name.now))) ∙ p
+  placed_alike (news.Applied name place delta) p = ap (λ ds. slice_get ds place) (sym (deltas_alike (c.copy name.now) (d.copy name.now) (same.copy name.now))) ∙ p
+  placed_alike (news.Message m) p = tt
 
   pub delivered_alike : (s : Session) → IsPlain s → delivered c s ≡ delivered d s
   delivered_alike s plain = go s.party plain.no_peer

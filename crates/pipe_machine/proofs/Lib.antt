@@ -1,5 +1,7 @@
 pub mod Alike
 pub mod Plain
+pub mod Quiet
+pub mod Placing
 pub mod Moving
 pub mod Gathering
 pub mod Telling
@@ -11,3 +13,4 @@ pub mod Trying
 pub mod Meaning
 pub mod Ordering
 mod Serving
+mod Changing

@@ -1,6 +1,7 @@
 -- How a shelf moves.
 --     same_shown            what sessions see of it is what they see of its histories
 --     begins_itself, begins_added, begins_on     deltas that are the first of others
+--     other_name            names that differ
 --     stays                 one that stays as it is
 --     only_if               one that may move at fewer names
 --     taken_in, refused_in  one that took a submission; one where it was refused
@@ -56,7 +57,7 @@ still_may : (a b : Bool) → (a ≡ false → b ≡ false) → b ≡ true → a 
 still_may true b f e = refl
 still_may false b f e = absurd (true≢false (sym e ∙ f refl))
 
-other_name : (n m : Key) → same_text n m ≡ false → m ≢ n
+pub other_name : (n m : Key) → same_text n m ≡ false → m ≢ n
 other_name n m apart e = true≢false (sym (own n) ∙ ap (same_text n) (sym e) ∙ apart)
 
 module _ {F D : Type 0} {folder : folder_of.Ghosts F D} {disk : disk_of.Ghosts D} where

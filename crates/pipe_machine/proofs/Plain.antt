@@ -1,15 +1,16 @@
 -- Sessions of a pipe stay such.
+--     none_idle           what is idle waits for nothing
 --     taken_good          whatever message one takes
 --     attached_plain, attached_short      whatever an `open` is answered
 --     told_plain, told_short              whatever a submission is answered
---     sent_short          whatever is sent
+--     sent_short, all_short       whatever is sent
 --     after_plain         whatever was sent
 --     plain_after, short_after    whatever a message is replied
 use Rattle.std.proofs.Common.{◌≡◌, ◌==◌, ℕ, Bool, true, false, ◌&&◌, if◌then◌else◌, List, [], ◌∷◌, Option, None, Some, Result, Ok, Err, IfOk, OnErr, refl, sym, ap, subst, true≢false}
 use Rattle.std.specs.Cmp.Lexicographic.{pointwise}
 use Rattle.std.specs.List.{All}
 use Rattle.std.specs.Str.{encode_utf8_all}
-use Rattle.std.proofs.lemmas.List.Elements.{All-nil, All-cons, All-append}
+use Rattle.std.proofs.lemmas.List.Elements.{All-nil, All-cons, All-head, All-tail, All-append}
 use Rattle.doc_items.specs.Maps.{Key, same_text}
 use Rattle.wave_base.specs.Versions.{VersionAt, IdOf}
 use Rattle.wavelet_op.specs.Deltas.{DeltaOf}
@@ -34,13 +35,19 @@ use Rattle.session_core.specs.declared.request.Request.TheVariants as ask
 use Rattle.session_core.specs.declared.request.SubmitAnswer.TheVariants as answer
 use Rattle.session_core.specs.Access.{Shown, seen_by}
 use Rattle.session_core.specs.Answers.{with_sent, verdict_message, told_verdict, answered, snapshot_of, is_sendable, attached_hash, attached_seen, seen_for, attached}
-use Rattle.session_core.specs.Deliveries.{since, updates, outcome_sent, outcomes_sent, opening_news, opening_sent, openings_sent, delivered_to, delivered, after_for, after_delivery}
+use Rattle.session_core.specs.Deliveries.{since, updates, outcome_sent, outcomes_sent, still_waiting, opening_news, opening_sent, openings_sent, delivered_to, delivered, after_for, after_delivery}
+use Rattle.session_core.specs.News.{message_of, messages_of}
+use Rattle.session_core.specs.declared.news.News.{News}
 use Rattle.session_core.specs.Rules.{Taken, party_is_user, party_is_peer, has_user, refused, with_party, is_new, is_user, greeted, as_user, in_domain, is_reached, place_of, closed_at, asked_open, submission_of, submitted_as, submitted, closed, taken}
 use Rattle.wavelet_shelf.specs.Hosting.{Hosted, judged_in}
 use Rattle.line_loop.specs.declared.line_machine.TurnFault.{TurnFault}
 use Rattle.pipe_machine.specs.Keeping.{asks_for, submits}
 use Rattle.pipe_machine.specs.Machine.{Reply, shown_in, reply_of, asked}
-use Rattle.pipe_machine.specs.Seats.{IsPlain, AsksAsUser}
+use Rattle.pipe_machine.specs.Seats.{is_idle, IsPlain, AsksAsUser}
+
+pub none_idle : (ws : List Waiting) → is_idle ws ≡ true → ws ≡ []
+none_idle [] e = refl
+none_idle (w ∷ ws) e = absurd (true≢false (sym e))
 
 -- ---- what a message asks for
 
@@ -74,7 +81,7 @@ module _ (may : Key → Bool) where
 
   greeted_good : (s : Session) (text : List ℕ) → IsPlain s → IsGood may (greeted s text)
   greeted_good s text p = choice_good (is_new s && is_user s (encode_utf8_all text)) (with_party s (User (encode_utf8_all text)), ask.Reply (Welcome text)) (refused s bad.BadUser)
-      (record { plain = record { nowhere = p.nowhere; no_peer = refl }; asks = tt; short = tt; only = λ n h. refl }) (refused_good s bad.BadUser p)
+      (record { plain = record { nowhere = p.nowhere; no_peer = refl; idle = p.idle }; asks = tt; short = tt; only = λ n h. refl }) (refused_good s bad.BadUser p)
 
   open_good : (s : Session) (name : Key) (from : Option VersionAt) → IsPlain s → IsGood may (asked_open s name from)
   open_good s name from p = user_good s (λ _. if is_reached s name then (s, ask.Attach name from) else refused s bad.NoHost) p s.party refl
@@ -85,7 +92,7 @@ module _ (may : Key → Bool) where
     where
       go : (o : Option ℕ) → IsGood may (closed_at s name o)
       go None = refused_good s bad.NotOpen p
-      go (Some i) = record { plain = record { nowhere = p.nowhere; no_peer = p.no_peer }; asks = tt; short = tt; only = λ n h. refl }
+      go (Some i) = record { plain = record { nowhere = p.nowhere; no_peer = p.no_peer; idle = p.idle }; asks = tt; short = tt; only = λ n h. refl }
 
   submitted_good : (s : Session) (name : Key) (client number : ℕ) (from : VersionAt) (ops : List WaveletOp) → IsPlain s → ((n : Key) → may n ≡ false → same_text name n ≡ false) → IsGood may (submitted s name client number from ops)
   submitted_good s name client number from ops p own = choice_good (is_count client && is_count number) (as_user s (submitted_as s name client number from ops) s.party) (refused s bad.NotMessage)
@@ -126,7 +133,7 @@ choice_well true a b p q = p
 choice_well false a b p q = q
 
 stays_plain : (s : Session) (name : Key) (v : ℕ) → IsPlain s → IsPlain (with_sent s name v)
-stays_plain s name v p = record { nowhere = p.nowhere; no_peer = p.no_peer }
+stays_plain s name v p = record { nowhere = p.nowhere; no_peer = p.no_peer; idle = p.idle }
 
 seen_well : (s : Session) (name : Key) (from : Option VersionAt) (o : Option HistoryOf) → IsPlain s → IsWell (attached_seen s name from o)
 seen_well s name from None p = record { plain = p; short = tt }
@@ -194,12 +201,19 @@ module _ (c : Shown) where
       go (User user) e = All-append IsShort (outcomes_sent c s.waiting) (openings_sent c user s.openings) (outcomes_short s.waiting) (openings_short user s.openings)
       go (Domain domain) e = absurd (true≢false e)
 
+  pub all_short : (s : Session) (ns : List News) → IsPlain s → messages_of ns ≡ delivered c s → All (λ n. IsShort (message_of n)) ns
+  all_short s ns plain e = each ns (subst (All IsShort) (sym e) (sent_short s plain))
+    where
+      each : (xs : List News) → All IsShort (messages_of xs) → All (λ n. IsShort (message_of n)) xs
+      each [] all = All-nil (λ n. IsShort (message_of n))
+      each (x ∷ xs) all = All-cons (λ n. IsShort (message_of n)) x xs (All-head IsShort (message_of x) (messages_of xs) all) (each xs (All-tail IsShort (message_of x) (messages_of xs) all))
+
   pub after_plain : (s : Session) → IsPlain s → IsPlain (after_delivery c s)
   after_plain s plain = go s.party plain.no_peer
     where
       go : (party : Party) → party_is_peer party ≡ false → IsPlain (after_for c s party)
       go Nobody e = plain
-      go (User user) e = record { nowhere = plain.nowhere; no_peer = plain.no_peer }
+      go (User user) e = record { nowhere = plain.nowhere; no_peer = plain.no_peer; idle = ap (λ ws. is_idle (still_waiting c ws)) (none_idle s.waiting plain.idle) }
       go (Domain domain) e = absurd (true≢false e)
 
 -- ---- replies
@@ -210,14 +224,14 @@ asked_well hs t s (ask.Attach name from) p short = attached_well (shown_in hs) s
 asked_well hs t s (ask.Submit name submission) p short = told_well s name submission.id (judged_in hs name submission t).0 p
 asked_well hs t s (ask.Have name from) p short = record { plain = p; short = tt }
 
-module _ (may : Key → Bool) (hs gs : List Hosted) (t : ℕ) (s x : Session) (r : Request) where
+module _ {A : Type 0} (f : A → Message) (may : Key → Bool) (hs gs : List Hosted) (t : ℕ) (s x : Session) (r : Request) where
   reply_well : (m : Message) → IsGood may (s, r) → reply_of gs (x, m) ≡ asked hs t s r → IsWell (x, m)
   reply_well m good e = subst (λ (y : Reply). IsWell (y.session, y.message)) (sym e) (asked_well hs t s r good.plain good.short)
 
-  pub plain_after : (o : Result Message TurnFault) → IsGood may (s, r) → IfOk o (λ m. reply_of gs (x, m) ≡ asked hs t s r) → OnErr o (x ≡ s) → IsPlain x
-  plain_after (Ok m) good e same = (reply_well m good e).plain
-  plain_after (Err f) good e same = subst IsPlain (sym same) good.plain
+  pub plain_after : (o : Result A TurnFault) → IsGood may (s, r) → IfOk o (λ a. reply_of gs (x, f a) ≡ asked hs t s r) → OnErr o (x ≡ s) → IsPlain x
+  plain_after (Ok a) good e same = (reply_well (f a) good e).plain
+  plain_after (Err x) good e same = subst IsPlain (sym same) good.plain
 
-  pub short_after : (o : Result Message TurnFault) → IsGood may (s, r) → IfOk o (λ m. reply_of gs (x, m) ≡ asked hs t s r) → IfOk o IsShort
-  short_after (Ok m) good e = (reply_well m good e).short
-  short_after (Err f) good e = tt
+  pub short_after : (o : Result A TurnFault) → IsGood may (s, r) → IfOk o (λ a. reply_of gs (x, f a) ≡ asked hs t s r) → IfOk o (λ a. IsShort (f a))
+  short_after (Ok a) good e = (reply_well (f a) good e).short
+  short_after (Err x) good e = tt

@@ -1,8 +1,8 @@
 -- Where a seat is.
 --     seated_within     the seat of a name is among the seats
 --     seated_name       and has that name
---     plain_either, plain_with, plain_seats     each session stays one of a pipe
-use Rattle.std.proofs.Common.{◌≡◌, ◌+◌, ◌<◌, ◌≤◌, ℕ, zero, suc, Bool, true, false, cond, List, [], ◌∷◌, ◌++◌, length, take, drop, slice_set, Result, Ok, Err, OnOk, OnErr, refl, sym, subst, arith, true≢false}
+--     plain_either, plain_with, plain_seats, plain_here     each session stays one of a pipe
+use Rattle.std.proofs.Common.{◌≡◌, ◌+◌, ◌<◌, ◌≤◌, ℕ, zero, suc, Bool, true, false, cond, List, [], ◌∷◌, ◌++◌, length, take, drop, slice_set, get_or, Result, Ok, Err, OnOk, OnErr, refl, sym, subst, arith, true≢false}
 use Rattle.std.specs.Cmp.Lexicographic.{slice_cmp, bytes_decides}
 use Rattle.std.specs.Ordering.{nat_cmp, is_gt}
 use Rattle.doc_items.specs.Maps.{Key}
@@ -59,14 +59,19 @@ put_plain n i ss all = go (is_at n i ss)
   where
     go : (b : Bool) → All IsPlainSeat (cond b ss (take i ss ++ begun n ∷ drop i ss))
     go true = all
-    go false = All-append IsPlainSeat (take i ss) (begun n ∷ drop i ss) (All-take IsPlainSeat i ss all) (All-cons IsPlainSeat (begun n) (drop i ss) (refl, refl) (All-drop IsPlainSeat i ss all))
+    go false = All-append IsPlainSeat (take i ss) (begun n ∷ drop i ss) (All-take IsPlainSeat i ss all) (All-cons IsPlainSeat (begun n) (drop i ss) (refl, (refl, refl)) (All-drop IsPlainSeat i ss all))
 
 pub plain_either : {A E : Type 0} (n : Key) (ss ts : List Seat) (r : Result A E) → OnOk r (ts ≡ seated n ss) → OnErr r (ts ≡ ss) → AllByRecursion IsPlainSeat ss → AllByRecursion IsPlainSeat ts
 plain_either n ss ts (Ok a) e f all = subst (AllByRecursion IsPlainSeat) (sym e) (recursion_from_All IsPlainSeat (seated n ss) (put_plain n (place_in n 0 ss) ss (All-from_recursion IsPlainSeat ss all)))
 plain_either n ss ts (Err x) e f all = subst (AllByRecursion IsPlainSeat) (sym f) all
 
 pub plain_with : (ss : List Seat) (i : ℕ) (s : Seat) → IsPlain s.session → AllByRecursion IsPlainSeat ss → AllByRecursion IsPlainSeat (slice_set ss i s)
-plain_with ss i s p all = recursion_from_All IsPlainSeat (slice_set ss i s) (All-set IsPlainSeat ss i s (p.nowhere, p.no_peer) (All-from_recursion IsPlainSeat ss all))
+plain_with ss i s p all = recursion_from_All IsPlainSeat (slice_set ss i s) (All-set IsPlainSeat ss i s (p.nowhere, (p.no_peer, p.idle)) (All-from_recursion IsPlainSeat ss all))
 
 pub plain_seats : (ss : List Seat) → All (λ s. IsPlain s.session) ss → AllByRecursion IsPlainSeat ss
-plain_seats ss all = recursion_from_All IsPlainSeat ss (λ k d h. let p = all k d h in (p.nowhere, p.no_peer))
+plain_seats ss all = recursion_from_All IsPlainSeat ss (λ k d h. let p = all k d h in (p.nowhere, (p.no_peer, p.idle)))
+
+pub plain_here : (ss : List Seat) (i : ℕ) (s : Seat) → i < length ss → s ≡ get_or ss i s → AllByRecursion IsPlainSeat ss → IsPlain s.session
+plain_here ss i s within is all =
+    let p = subst IsPlainSeat (sym is) (All-from_recursion IsPlainSeat ss all i s within) in
+    record { nowhere = p.0; no_peer = p.1.0; idle = p.1.1 }

@@ -1,4 +1,6 @@
 pub mod Lines
+pub mod Updates
+pub mod Due
 pub mod Seats
 pub mod Machine
 pub mod Meant

@@ -8,7 +8,8 @@
 --     with_session i x ss    it has another session
 --     seats_sent c ss        what each is sent of the copies, in order
 --     seats_after c ss       the seats then
---     IsPlain s              a session of a pipe: it has no domain, and speaks for none
+--     is_idle ws             nothing waits
+--     IsPlain s              a session of a pipe: it has no domain, and speaks for none, and none of its submissions waits
 --     IsPlainSeat s          so is that of a seat
 --     AsksAsUser s r         only one with a user asks for a wavelet to be opened
 use Rattle.std.specs.Prelude.{◌≡◌, ℕ, ◌+◌, List, [], ◌∷◌, ◌++◌, take, drop, slice_get, slice_set, slice_index_or, map, Bool, true, false, cond, None, is_some}
@@ -18,6 +19,7 @@ use Rattle.std.specs.Ordering.{nat_cmp, is_gt}
 use Rattle.std.specs.Cmp.Lexicographic.{slice_cmp}
 use Rattle.doc_items.specs.Maps.{Key, same_text}
 use Rattle.session_core.specs.declared.session.Session.{Session}
+use Rattle.session_core.specs.declared.session.Waiting.{Waiting}
 use Rattle.session_core.specs.declared.request.Request.{Request}
 use Rattle.session_core.specs.declared.request.Request.TheVariants as ask
 use Rattle.session_core.specs.Access.{Shown}
@@ -62,16 +64,21 @@ seats_after c ss = map (seat_after c) ss
 
 -- ---- sessions of a pipe
 
+abbrev pub is_idle : List Waiting → Bool
+is_idle [] = true
+is_idle (w ∷ ws) = false
+
 pub record IsPlain (s : Session) : Type 0 where
   pub nowhere : is_some s.domain ≡ false
   pub no_peer : has_peer s ≡ false
+  pub idle : is_idle s.waiting ≡ true
 
--- the same, as two facts
+-- the same, as three facts
 abbrev pub IsPlainSeat : Seat → Type 0
-IsPlainSeat s = (is_some s.session.domain ≡ false) × (has_peer s.session ≡ false)
+IsPlainSeat s = (is_some s.session.domain ≡ false) × ((has_peer s.session ≡ false) × (is_idle s.session.waiting ≡ true))
 
 pub IsPlainSeat-prop : (s : Seat) → IsProp (IsPlainSeat s)
-IsPlainSeat-prop s = ×_prop (Coded-set coded_bool _ _) (Coded-set coded_bool _ _)
+IsPlainSeat-prop s = ×_prop (Coded-set coded_bool _ _) (×_prop (Coded-set coded_bool _ _) (Coded-set coded_bool _ _))
 
 abbrev pub AsksAsUser : Session → Request → Type 0
 AsksAsUser s (ask.Reply m) = Unit {0}

@@ -1,84 +1,104 @@
 // What is new to each session.
-ghost use Rattle.std.specs.Prelude.{◌≡◌, ◌++◌, map, IfOk, OnOk};
+ghost use Rattle.std.specs.Prelude.{◌≡◌, ◌++◌, map, true, IfOk, OnOk};
 ghost use Rattle.std.specs.List.{All};
 ghost use Rattle.message_json.specs.Write.{IsShort};
 ghost use Rattle.session_core.specs.Deliveries.{delivered, after_delivery};
+ghost use Rattle.session_core.specs.Current.{are_sent};
+ghost use Rattle.session_core.specs.News.{message_of, messages_of, IsPlaced};
 ghost use Rattle.wavelet_shelf.specs.Shelves.{hosted_of};
+ghost use Rattle.pipe_machine.specs.Due.{is_told, are_told, AreTheDue};
 ghost use Rattle.pipe_machine.specs.Lines.{sent_to, lines_of};
 ghost use Rattle.pipe_machine.specs.Machine.{shown_in};
 ghost use Rattle.pipe_machine.specs.Seats.{seat_after, seats_sent, seats_after, IsPlain};
+ghost use Rattle.pipe_machine.specs.Updates.{IsLast};
 
-use crate::lines::push_lines;
+use crate::lines::{Update, push_news};
 use crate::seats::Seat;
 use doc_items::Memory;
-use session_core::Session;
+use session_core::{News, Session};
 use std::alloc::Global;
-use wave_messages::Message;
 use wave_outside::Folder;
 use wavelet_shelf::Shelf;
 
 // What is new to a session. The error is want of memory, here and below.
-#[tactic(auto, using(crate::proofs::Plain::sent_short, crate::proofs::Plain::after_plain))]
-fn news<F: Folder>(
+#[tactic(auto, using(crate::proofs::Plain::all_short, crate::proofs::Plain::after_plain))]
+fn news<'a, F: Folder>(
     alloc: Global,
-    shelf: &Shelf<F>,
+    shelf: &'a Shelf<F>,
     session: &mut Session,
-) -> Result<Vec<Message>, Memory>
+) -> Result<Vec<News<'a>>, Memory>
     requires { IsPlain session.old }
-    ensures sent { IfOk result (λ out. out.items ≡ delivered (shown_in (hosted_of shelf.now)) session.old) }
-    ensures after { OnOk result (session.new ≡ after_delivery (shown_in (hosted_of shelf.now)) session.old) }
+    ensures sent { IfOk result (λ out. messages_of out.items ≡ delivered (shown_in (hosted_of shelf.entry.now)) session.old) }
+    ensures placed { IfOk result (λ out. All (IsPlaced (shown_in (hosted_of shelf.entry.now))) out.items) }
+    ensures short { IfOk result (λ out. All (λ n. IsShort (message_of n)) out.items) }
+    ensures after { OnOk result (session.new ≡ after_delivery (shown_in (hosted_of shelf.entry.now)) session.old) }
+    ensures told { OnOk result (are_sent (shown_in (hosted_of shelf.entry.now)) session.new ≡ true) }
     ensures plain { IsPlain session.new }
-    ensures short { IfOk result (λ out. All IsShort out.items) }
 {
     shelf.copies_are_hosted();
     session.deliver(alloc, shelf)
 }
 
-// Appends what is new to the session of a seat.
-fn deliver_to<F: Folder>(
+// Appends what is new to the session of a seat, and answers the update that was written last then.
+fn deliver_to<'a, F: Folder>(
     alloc: Global,
-    shelf: &Shelf<F>,
+    shelf: &'a Shelf<F>,
     seat: &mut Seat,
+    last: Option<Update<'a>>,
     out: &mut Vec<u8>,
-) -> Result<(), Memory>
-    requires { IsPlain seat.old.session }
-    ensures sent { OnOk result (out.new.items ≡ out.old.items ++ lines_of (map (sent_to seat.old.name) (delivered (shown_in (hosted_of shelf.now)) seat.old.session))) }
-    ensures after { OnOk result (seat.new ≡ seat_after (shown_in (hosted_of shelf.now)) seat.old) }
+) -> Result<Option<Update<'a>>, Memory>
+    requires plain { IsPlain seat.old.session }
+    requires last { IsLast (shown_in (hosted_of shelf.now)) last }
+    ensures sent { OnOk result (out.new.items ≡ out.old.items ++ lines_of (map (sent_to seat.old.name) (delivered (shown_in (hosted_of shelf.entry.now)) seat.old.session))) }
+    ensures after { OnOk result (seat.new ≡ seat_after (shown_in (hosted_of shelf.entry.now)) seat.old) }
+    ensures told { OnOk result (is_told (shown_in (hosted_of shelf.entry.now)) seat.new ≡ true) }
+    ensures last { IfOk result (λ o. IsLast (shown_in (hosted_of shelf.entry.now)) o) }
     ensures plain { IsPlain seat.new.session }
 {
-    let messages = news(alloc, shelf, &mut seat.session)?;
-    push_lines(alloc, seat.name.text(), messages.as_slice(), out)
+    let news = news(alloc, shelf, &mut seat.session)?;
+    let mut last = last;
+    for item in news.as_slice() {
+        last = push_news(alloc, &seat.name, item, last, out)?;
+    }
+    Ok(last)
 }
 
-// Appends what is new to each session of some seats, in order.
+// Appends what is new to each session of some seats, in order. The others than those at these places were sent all that there is.
 fn deliver_each<F: Folder>(
     alloc: Global,
     shelf: &Shelf<F>,
     seats: &mut [Seat],
+    places: &[usize],
     out: &mut Vec<u8>,
 ) -> Result<(), Memory>
-    requires { All (λ s. IsPlain s.session) seats.old }
+    requires plain { All (λ s. IsPlain s.session) seats.old }
+    requires due { AreTheDue (shown_in (hosted_of shelf.now)) 0 places.now seats.old }
     ensures sent { OnOk result (out.new.items ≡ out.old.items ++ lines_of (seats_sent (shown_in (hosted_of shelf.now)) seats.old)) }
     ensures after { OnOk result (seats.new ≡ seats_after (shown_in (hosted_of shelf.now)) seats.old) }
+    ensures told { OnOk result (are_told (shown_in (hosted_of shelf.now)) seats.new ≡ true) }
     ensures plain { All (λ s. IsPlain s.session) seats.new }
 {
-    for seat in seats.iter_mut() {
-        deliver_to(alloc, shelf, seat, out)?;
+    let mut last = None;
+    for place in places {
+        last = deliver_to(alloc, shelf, &mut seats[*place], last, out)?;
     }
     Ok(())
 }
 
-/// Appends what is new to each session, in order.
+/// Appends what is new to each session, in order. The others than those at these places were sent all that there is.
 pub fn deliver<F: Folder>(
     alloc: Global,
     shelf: &Shelf<F>,
     seats: &mut Vec<Seat>,
+    places: &[usize],
     out: &mut Vec<u8>,
 ) -> Result<(), Memory>
-    requires { All (λ s. IsPlain s.session) seats.old.items }
+    requires plain { All (λ s. IsPlain s.session) seats.old.items }
+    requires due { AreTheDue (shown_in (hosted_of shelf.now)) 0 places.now seats.old.items }
     ensures sent { OnOk result (out.new.items ≡ out.old.items ++ lines_of (seats_sent (shown_in (hosted_of shelf.now)) seats.old.items)) }
     ensures after { OnOk result (seats.new.items ≡ seats_after (shown_in (hosted_of shelf.now)) seats.old.items) }
+    ensures told { OnOk result (are_told (shown_in (hosted_of shelf.now)) seats.new.items ≡ true) }
     ensures plain { All (λ s. IsPlain s.session) seats.new.items }
 {
-    deliver_each(alloc, shelf, seats.as_mut_slice(), out)
+    deliver_each(alloc, shelf, seats.as_mut_slice(), places, out)
 }

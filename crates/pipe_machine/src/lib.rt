@@ -3,6 +3,7 @@
 #![tactic(auto)]
 
 mod deliver;
+mod due;
 mod laws;
 mod lines;
 mod machine;

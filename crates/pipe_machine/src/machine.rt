@@ -1,14 +1,16 @@
 // Turns: a line, its reply, and what is new to each session.
-ghost use Rattle.std.specs.Prelude.{◌≡◌, ◌++◌, IfOk, OnOk};
+ghost use Rattle.std.specs.Prelude.{◌≡◌, ◌++◌, cond, true, IfOk, OnOk};
 ghost use Rattle.wave_messages.specs.declared.fault.Kind.{Kind};
 ghost use Rattle.wavelet_shelf.specs.Shelves.{hosted_of};
+ghost use Rattle.pipe_machine.specs.Due.{due_at, are_told, IsDueAlone};
 ghost use Rattle.pipe_machine.specs.Keeping.{IsMoved, IsEnded, submits, submits_to};
 ghost use Rattle.pipe_machine.specs.Lines.{lines_of};
-ghost use Rattle.pipe_machine.specs.Machine.{start, served, refusal, answered, turn};
+ghost use Rattle.pipe_machine.specs.Machine.{start, shown_in, served, refusal, answered, delivered, turn};
 ghost use Rattle.pipe_machine.specs.Pipes.{pipe_of};
 
 use crate::deliver::deliver;
-use crate::lines::push_line;
+use crate::due::{Due, changed_by, places_due};
+use crate::lines::{push_line, push_reply, push_unnamed};
 use crate::pipe::PipeMachine;
 use crate::reply::reply;
 use crate::seats::seat_of;
@@ -16,7 +18,7 @@ use doc_items::Memory;
 use line_loop::{LineMachine, TurnFault};
 use session_core::reason_of;
 use std::alloc::Global;
-use wave_base::SessionName;
+use wave_base::{SessionName, WaveletName};
 use wave_messages::{Kind, LineFault, Message, read_line};
 use wave_outside::Folder;
 use wavelet_shelf::Shelf;
@@ -32,9 +34,26 @@ fn refuse(
 {
     let message = Message::Bad(reason_of(kind));
     match &session {
-        Some(name) => push_line(alloc, name.text(), &message, out),
-        None => push_line(alloc, "", &message, out),
+        Some(name) => push_line(alloc, name, &message, out),
+        None => push_unnamed(alloc, &message, out),
     }
+}
+
+// Whom there may be something for, once a session was answered on a message that may change this wavelet.
+fn due_at(place: usize, changed: Option<WaveletName>) -> Due
+    ensures { result ≡ due_at place changed }
+{
+    match changed {
+        Some(name) => Due::Openers { place, name },
+        None => Due::Seat(place),
+    }
+}
+
+// All are due where a turn failed before.
+fn all_if(behind: bool, due: Due) -> Due
+    ensures { result ≡ cond behind Due.Everybody due }
+{
+    if behind { Due::Everybody } else { due }
 }
 
 impl<F: Folder + Drop> PipeMachine<F> {
@@ -46,10 +65,11 @@ impl<F: Folder + Drop> PipeMachine<F> {
         PipeMachine {
             shelf,
             seats: Vec::new(alloc),
+            behind: false,
         }
     }
 
-    // Answers a message of a session, which is new where it wasn't there.
+    // Answers a message of a session, which is new where it wasn't there, and answers whom there may be something for.
     fn serve(
         &mut self,
         alloc: Global,
@@ -57,40 +77,61 @@ impl<F: Folder + Drop> PipeMachine<F> {
         message: Message,
         time: u64,
         out: &mut Vec<u8>,
-    ) -> Result<(), TurnFault>
+    ) -> Result<Due, TurnFault>
         ensures pipe { OnOk result (pipe_of self.new ≡ (served (pipe_of self.old) time name message).pipe) }
         ensures sent { OnOk result (out.new.items ≡ out.old.items ++ lines_of (served (pipe_of self.old) time name message).sent) }
         ensures moved { IsMoved (submits message) self.old.shelf self.new.shelf }
         ensures ended { IsEnded self.old.shelf self.new.shelf (served (pipe_of self.old) time name message).pipe.hosted result }
+        ensures due { IfOk result (λ due. are_told (shown_in (hosted_of self.old.shelf)) self.old.seats.items ≡ true → IsDueAlone (shown_in (hosted_of self.new.shelf)) due self.new.seats.items) }
     {
+        let changed = changed_by(alloc, &message)?;
+        self.behind = true;
         let place = seat_of(alloc, &mut self.seats, name)?;
         let seat = &mut self.seats[place];
-        let message = reply(alloc, &mut self.shelf, &mut seat.session, message, time)?;
-        push_line(alloc, seat.name.text(), &message, out)?;
-        Ok(())
+        let reply = reply(alloc, &mut self.shelf, &mut seat.session, message, time)?;
+        push_reply(alloc, &seat.name, &reply, out)?;
+        Ok(due_at(place, changed))
     }
 
-    // Answers a line.
+    // Answers a line, and answers whom there may be something for.
     fn answer(
         &mut self,
         alloc: Global,
         line: &[u8],
         time: u64,
         out: &mut Vec<u8>,
-    ) -> Result<(), TurnFault>
+    ) -> Result<Due, TurnFault>
         ensures pipe { OnOk result (pipe_of self.new ≡ (answered (pipe_of self.old) time line.now).pipe) }
         ensures sent { OnOk result (out.new.items ≡ out.old.items ++ lines_of (answered (pipe_of self.old) time line.now).sent) }
         ensures moved { IsMoved (submits_to line.now) self.old.shelf self.new.shelf }
         ensures ended { IsEnded self.old.shelf self.new.shelf (answered (pipe_of self.old) time line.now).pipe.hosted result }
+        ensures due { IfOk result (λ due. are_told (shown_in (hosted_of self.old.shelf)) self.old.seats.items ≡ true → IsDueAlone (shown_in (hosted_of self.new.shelf)) due self.new.seats.items) }
     {
         match read_line(alloc, line) {
             Ok(line) => {
                 let (session, message) = line.into_parts();
                 self.serve(alloc, session, message, time, out)
             }
-            Err(LineFault::Bad { session, kind }) => Ok(refuse(alloc, session, kind, out)?),
+            Err(LineFault::Bad { session, kind }) => {
+                refuse(alloc, session, kind, out)?;
+                Ok(Due::Nobody)
+            }
             Err(LineFault::Memory) => Err(TurnFault::Memory),
         }
+    }
+
+    // Appends what is new to each session, of which the others than the due were sent all that there is.
+    fn deliver(&mut self, alloc: Global, due: &Due, out: &mut Vec<u8>) -> Result<(), Memory>
+        requires { IsDueAlone (shown_in (hosted_of self.old.shelf)) due.now self.old.seats.items }
+        ensures pipe { OnOk result (pipe_of self.new ≡ (delivered (pipe_of self.old)).pipe) }
+        ensures sent { OnOk result (out.new.items ≡ out.old.items ++ lines_of (delivered (pipe_of self.old)).sent) }
+        ensures shelf { self.new.shelf ≡ self.old.shelf }
+    {
+        self.behind = true;
+        let places = places_due(alloc, self.seats.as_slice(), due)?;
+        deliver(alloc, &self.shelf, &mut self.seats, places.as_slice(), out)?;
+        self.behind = false;
+        Ok(())
     }
 
     /// Takes a line that has bytes, at the time, in milliseconds, and appends the reply to it and what is new to each session, in byte
@@ -108,8 +149,9 @@ impl<F: Folder + Drop> PipeMachine<F> {
         ensures moved { IsMoved (submits_to line.now) self.old.shelf self.new.shelf }
         ensures ended { IsEnded self.old.shelf self.new.shelf (turn (pipe_of self.old) time line.now).pipe.hosted result }
     {
-        self.answer(alloc, line, time, out)?;
-        deliver(alloc, &self.shelf, &mut self.seats, out)?;
+        let behind = self.behind;
+        let due = self.answer(alloc, line, time, out)?;
+        self.deliver(alloc, &all_if(behind, due), out)?;
         Ok(())
     }
 }

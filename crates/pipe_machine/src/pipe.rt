@@ -1,5 +1,9 @@
-ghost use Rattle.std.specs.Prelude.{◌≡◌};
+ghost use Rattle.std.specs.Prelude.{◌≡◌, ◌||◌, true};
+ghost use Rattle.std.specs.Coded.{Coded-set, coded_bool};
 ghost use Rattle.std.specs.List.{AllByRecursion, AllByRecursion-prop};
+ghost use Rattle.wavelet_shelf.specs.Shelves.{hosted_of};
+ghost use Rattle.pipe_machine.specs.Due.{are_told};
+ghost use Rattle.pipe_machine.specs.Machine.{shown_in};
 ghost use Rattle.pipe_machine.specs.Seats.{IsPlainSeat, IsPlainSeat-prop};
 
 use crate::seats::Seat;
@@ -10,7 +14,10 @@ use wavelet_shelf::Shelf;
 pub struct PipeMachine<F: Folder> {
     pub(crate) shelf: Shelf<F>,
     pub(crate) seats: Vec<Seat>,
+    // Whether a turn failed, after which sessions may lack what they were to be sent.
+    pub(crate) behind: bool,
     ghost plain: { AllByRecursion IsPlainSeat seats.items } by { AllByRecursion-prop IsPlainSeat IsPlainSeat-prop seats.items },
+    ghost told: { behind || are_told (shown_in (hosted_of shelf)) seats.items ≡ true } by { Coded-set coded_bool (behind || are_told (shown_in (hosted_of shelf)) seats.items) true },
 }
 
 impl<F: Folder + Drop> Drop for PipeMachine<F> {
@@ -18,6 +25,7 @@ impl<F: Folder + Drop> Drop for PipeMachine<F> {
         let PipeMachine {
             shelf: _shelf,
             seats: _seats,
+            behind: _behind,
         } = self;
     }
 }
@@ -30,6 +38,7 @@ impl<F: Folder + Drop> PipeMachine<F> {
         let PipeMachine {
             shelf,
             seats: _seats,
+            behind: _behind,
         } = self;
         shelf
     }

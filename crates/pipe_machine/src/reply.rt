@@ -2,6 +2,7 @@
 ghost use Rattle.std.specs.Prelude.{◌≡◌, true, IfOk, OnOk, OnErr, option_copied};
 ghost use Rattle.message_json.specs.Write.{IsShort};
 ghost use Rattle.session_core.specs.Answers.{attached, answered};
+ghost use Rattle.session_core.specs.News.{reply_message};
 ghost use Rattle.session_core.specs.Rules.{has_user};
 ghost use Rattle.session_core.specs.declared.request.SubmitAnswer.TheVariants as answer;
 ghost use Rattle.wavelet_shelf.specs.Hosting.{judged_in, after_submission};
@@ -13,7 +14,7 @@ ghost use Rattle.pipe_machine.specs.Seats.{IsPlain, AsksAsUser};
 
 use doc_items::Memory;
 use line_loop::TurnFault;
-use session_core::{Request, Session, SubmitAnswer};
+use session_core::{Reply, Request, Session, SubmitAnswer};
 use std::alloc::Global;
 use wave_base::{HashedVersion, WaveletName};
 use wave_messages::{BadReason, Message};
@@ -29,9 +30,9 @@ fn attach<F: Folder>(
     session: &mut Session,
     name: &WaveletName,
     from: Option<&HashedVersion>,
-) -> Result<Message, Memory>
+) -> Result<Reply, Memory>
     requires { has_user session.old ≡ true }
-    ensures reply { IfOk result (λ m. (session.new, m) ≡ attached (shown_in (hosted_of shelf.now)) session.old name.now (option_copied from.entry)) }
+    ensures reply { IfOk result (λ r. (session.new, reply_message r) ≡ attached (shown_in (hosted_of shelf.now)) session.old name.now (option_copied from.entry)) }
     ensures same { OnErr result (session.new ≡ session.old) }
 {
     shelf.copies_are_hosted();
@@ -46,9 +47,9 @@ fn submit<F: Folder + Drop>(
     name: &WaveletName,
     submission: &Submission,
     time: u64,
-) -> Result<Message, TurnFault>
+) -> Result<Reply, TurnFault>
     ensures hosted { OnOk result (hosted_of shelf.new ≡ after_submission (hosted_of shelf.old) name.now submission.now time) }
-    ensures reply { IfOk result (λ m. (session.new, m) ≡ answered session.old name.now submission.now.id (answer.Verdict (judged_in (hosted_of shelf.old) name.now submission.now time).0)) }
+    ensures reply { IfOk result (λ r. (session.new, reply_message r) ≡ answered session.old name.now submission.now.id (answer.Verdict (judged_in (hosted_of shelf.old) name.now submission.now time).0)) }
     ensures same { OnErr result (session.new ≡ session.old) }
     ensures moved { IsMoved (same_text name.now) shelf.old shelf.new }
     ensures ended { IsEnded shelf.old shelf.new (after_submission (hosted_of shelf.old) name.now submission.now time) result }
@@ -57,7 +58,8 @@ fn submit<F: Folder + Drop>(
     match shelf.submit(alloc, name, submission, time) {
         Ok(verdict) => {
             let answer = SubmitAnswer::Verdict(verdict);
-            Ok(session.answer_submit(alloc, name, &submission.id, &answer)?)
+            let message = session.answer_submit(alloc, name, &submission.id, &answer)?;
+            Ok(Reply::Message(message))
         }
         Err(SubmitFault::DiskFault) => Err(TurnFault::Store),
         Err(SubmitFault::Memory) => Err(TurnFault::Memory),
@@ -71,20 +73,20 @@ fn answer<F: Folder + Drop>(
     session: &mut Session,
     request: Request,
     time: u64,
-) -> Result<Message, TurnFault>
+) -> Result<Reply, TurnFault>
     requires user { AsksAsUser session.old request }
-    ensures reply { IfOk result (λ m. reply_of (hosted_of shelf.new) (session.new, m) ≡ asked (hosted_of shelf.old) time session.old request) }
+    ensures reply { IfOk result (λ r. reply_of (hosted_of shelf.new) (session.new, reply_message r) ≡ asked (hosted_of shelf.old) time session.old request) }
     ensures same { OnErr result (session.new ≡ session.old) }
     ensures moved { IsMoved (asks_for request) shelf.old shelf.new }
     ensures ended { IsEnded shelf.old shelf.new (asked (hosted_of shelf.old) time session.old request).hosted result }
 {
     match request {
-        Request::Reply(message) => Ok(message),
+        Request::Reply(message) => Ok(Reply::Message(message)),
         Request::Attach { name, at } => Ok(attach(alloc, shelf, session, &name, at.as_ref())?),
         Request::Submit { name, submission } => {
             submit(alloc, shelf, session, &name, &submission, time)
         }
-        Request::Have { .. } => Ok(Message::Bad(BadReason::NotMessage)),
+        Request::Have { .. } => Ok(Reply::Message(Message::Bad(BadReason::NotMessage))),
     }
 }
 
@@ -95,11 +97,11 @@ pub fn reply<F: Folder + Drop>(
     session: &mut Session,
     message: Message,
     time: u64,
-) -> Result<Message, TurnFault>
+) -> Result<Reply, TurnFault>
     requires { IsPlain session.old }
-    ensures reply { IfOk result (λ m. reply_of (hosted_of shelf.new) (session.new, m) ≡ replied (hosted_of shelf.old) session.old message time) }
+    ensures reply { IfOk result (λ r. reply_of (hosted_of shelf.new) (session.new, reply_message r) ≡ replied (hosted_of shelf.old) session.old message time) }
     ensures plain { IsPlain session.new }
-    ensures short { IfOk result IsShort }
+    ensures short { IfOk result (λ r. IsShort (reply_message r)) }
     ensures moved { IsMoved (submits message) shelf.old shelf.new }
     ensures ended { IsEnded shelf.old shelf.new (replied (hosted_of shelf.old) session.old message time).hosted result }
 {

@@ -14,7 +14,6 @@
 --     had c s n v               after a `have`
 use Rattle.std.specs.Prelude.{ℕ, ◌+◌, ◌<◌, slice_set, slice_index_or, option_map, Bool, true, false, ◌&&◌, ◌||◌, ◌==◌, nat_le, if◌then◌else◌, List, [], ◌∷◌, ◌++◌, length, Option, Some, None}
 use Rattle.std.specs.Cmp.Lexicographic.{pointwise}
-use Rattle.serde_json.specs.Written.{compact_text}
 use Rattle.doc_items.specs.Maps.{Key, same_text}
 use Rattle.wave_base.specs.Versions.{VersionAt, IdOf, same_id}
 use Rattle.wavelet_op.specs.declared.verdict.Verdict.{Verdict}
@@ -23,9 +22,9 @@ use Rattle.wavelet_state.specs.Snapshots.{SnapshotOf, is_snapshot}
 use Rattle.delta_history.specs.Histories.{HistoryOf, head_of, hash_found}
 use Rattle.wavelet_json.specs.declared.reason.BadReason.TheVariants as bad
 use Rattle.wavelet_json.specs.declared.reason.UnopenedReason.TheVariants as unopened
-use Rattle.message_json.specs.Write.{message_data}
 use Rattle.message_json.specs.declared.message.Message.{Message}
 use Rattle.message_json.specs.declared.message.Message.TheVariants.{Opened, Snapshot, Unopened, Ack, Refused, Queued, Bad, Relayed}
+use Rattle.wave_messages.specs.Write.{snapshot_text}
 use Rattle.session_core.specs.declared.session.Party.{Party}
 use Rattle.session_core.specs.declared.session.Party.TheVariants.{Nobody, User, Domain}
 use Rattle.session_core.specs.declared.session.Opening.{Opening}
@@ -89,7 +88,7 @@ abbrev pub snapshot_of : Key → HistoryOf → SnapshotOf
 snapshot_of name h = record { name = name; at = (head_of h).at; inserted = (head_of h).count; state = (head_of h).state }
 
 unfoldable pub written_len : SnapshotOf → ℕ
-written_len s = length (compact_text (message_data (Snapshot s)))
+written_len s = length (snapshot_text s)
 
 abbrev pub is_sendable : SnapshotOf → Bool
 is_sendable s = is_snapshot s.inserted s.state && nat_le (written_len s) max_peer

@@ -2,3 +2,5 @@ pub mod Rules
 pub mod Access
 pub mod Answers
 pub mod Deliveries
+pub mod Current
+pub mod News

@@ -1,22 +1,26 @@
 // What is answered to what a message asked for.
-ghost use Rattle.std.specs.Prelude.{◌≡◌, ◌↔◌, true, cond, nat_le, length, Some, None, IfOk, OnOk, OnErr};
+ghost use Rattle.std.specs.Prelude.{◌≡◌, ◌↔◌, ◌&&◌, not, true, cond, nat_le, length, Some, None, IfOk, OnOk, OnErr};
 ghost use Rattle.std.specs.Option.{option_copied};
 ghost use Rattle.delta_history.specs.Histories.{head_of, hash_found};
 ghost use Rattle.wavelet_state.specs.Snapshots.{is_snapshot};
 ghost use Rattle.session_core.specs.Rules.{has_user, has_peer, max_peer};
-ghost use Rattle.session_core.specs.Access.{shown, seen_by, MaySee};
+ghost use Rattle.session_core.specs.Access.{shown, is_member, seen_by, MaySee};
 ghost use Rattle.session_core.specs.Answers.{verdict_message, told_verdict, is_waiting, with_waiting, answered, sent_at, with_sent, snapshot_of, is_sendable, attached_head, attached_hash, attached_seen, seen_for, attached, HasLongHead, told_at, had_hash, had_copy, had};
+ghost use Rattle.session_core.specs.News.{reply_message};
 ghost use Rattle.wavelet_json.specs.declared.reason.UnopenedReason.TheVariants.{TooLarge};
 ghost use Rattle.session_core.specs.declared.request.SubmitAnswer.TheVariants as answer;
 
-use crate::SubmitAnswer;
 use crate::lists::Waitings;
+use crate::news::Reply;
+use crate::request::SubmitAnswer;
 use crate::session::{Party, Session, Waiting};
 use delta_history::{Copies, History};
 use doc_items::Memory;
 use std::alloc::Global;
 use wave_base::{Address, DeltaId, HashedVersion, WaveletName};
-use wave_messages::{BadReason, MAX_PEER, Message, UnopenedReason, write};
+use wave_messages::{
+    BadReason, MAX_PEER, Message, UnopenedReason, WrittenSnapshot, write_snapshot,
+};
 use wavelet_op::Verdict;
 use wavelet_state::Snapshot;
 
@@ -186,16 +190,24 @@ impl Session {
 
 // ---- open wavelets
 
-// The history that may be shown to a user.
-pub(crate) fn seen_by<'a, C: Copies>(
-    copies: &'a C,
+// Whether the copy of a wavelet may be shown to a user.
+pub(crate) fn may_see<C: Copies>(
+    copies: &C,
     name: &WaveletName,
+    history: &History,
     user: &Address,
-) -> Option<&'a History>
+) -> bool
+    ensures { result ≡ is_member history.now user.now && not (C.drops copies.now name.now) }
+{
+    history.state().has(user) && !copies.dropped(name)
+}
+
+// The history that may be shown to a user.
+fn seen_by<'a, C: Copies>(copies: &'a C, name: &WaveletName, user: &Address) -> Option<&'a History>
     ensures { option_copied result ≡ seen_by (shown (C.copies copies.entry.now) (C.hosts copies.entry.now) (C.drops copies.entry.now) (C.outcomes copies.entry.now)) name.now user.now }
 {
     let history = copies.copy_of(name)?;
-    if history.state().has(user) && !copies.dropped(name) {
+    if may_see(copies, name, history, user) {
         Some(history)
     } else {
         None
@@ -220,18 +232,21 @@ fn may_be_sent(bytes: &[u8]) -> bool
     bytes.len() as u64 <= MAX_PEER
 }
 
-// The message with the snapshot, where it may be sent.
+// The snapshot, written, where it may be sent.
 #[tactic(auto, unfolding(crate::specs::Answers::written_len))]
-fn sendable(alloc: Global, name: &WaveletName, history: &History) -> Result<Option<Message>, Memory>
-    ensures { IfOk result (λ m. m ≡ cond (is_sendable (snapshot_of name.now history.now)) (Some (Message.Snapshot (snapshot_of name.now history.now))) None) }
+fn sendable(
+    alloc: Global,
+    name: &WaveletName,
+    history: &History,
+) -> Result<Option<WrittenSnapshot>, Memory>
+    ensures { IfOk result (λ s. s ≡ cond (is_sendable (snapshot_of name.now history.now)) (Some (snapshot_of name.now history.now)) None) }
 {
     let Some(snapshot) = snapshot_of(alloc, name, history)? else {
         return Ok(None);
     };
-    let message = Message::Snapshot(snapshot);
-    let bytes = write(alloc, &message)?;
-    if may_be_sent(&bytes) {
-        Ok(Some(message))
+    let snapshot = write_snapshot(alloc, snapshot)?;
+    if may_be_sent(snapshot.text()) {
+        Ok(Some(snapshot))
     } else {
         Ok(None)
     }
@@ -258,16 +273,16 @@ impl Session {
         alloc: Global,
         name: &WaveletName,
         history: &History,
-    ) -> Result<Message, Memory>
-        ensures ok { IfOk result (λ m. (self.new, m) ≡ attached_head self.old name.now (snapshot_of name.now history.now)) }
+    ) -> Result<Reply, Memory>
+        ensures ok { IfOk result (λ r. (self.new, reply_message r) ≡ attached_head self.old name.now (snapshot_of name.now history.now)) }
         ensures same { OnErr result (self.new ≡ self.old) }
     {
         match sendable(alloc, name, history)? {
-            Some(message) => {
+            Some(snapshot) => {
                 self.set_sent(name.copy(alloc)?, history.head().version)?;
-                Ok(message)
+                Ok(Reply::Snapshot(snapshot))
             }
-            None => unopened(alloc, name, UnopenedReason::TooLarge),
+            None => Ok(Reply::Message(unopened(alloc, name, UnopenedReason::TooLarge)?)),
         }
     }
 
@@ -302,14 +317,14 @@ impl Session {
         name: &WaveletName,
         from: Option<&HashedVersion>,
         history: &History,
-    ) -> Result<Message, Memory>
-        ensures ok { IfOk result (λ m. (self.new, m) ≡ attached_seen self.old name.now (option_copied from.entry) (Some history.now)) }
+    ) -> Result<Reply, Memory>
+        ensures ok { IfOk result (λ r. (self.new, reply_message r) ≡ attached_seen self.old name.now (option_copied from.entry) (Some history.now)) }
         ensures fits { is_snapshot (head_of history.now).count (head_of history.now).state ≡ true }
         ensures same { OnErr result (self.new ≡ self.old) }
     {
         let _deltas = history.deltas();
         match from {
-            Some(from) => self.attach_hash(alloc, name, from, history),
+            Some(from) => Ok(Reply::Message(self.attach_hash(alloc, name, from, history)?)),
             None => self.attach_head(alloc, name, history),
         }
     }
@@ -336,16 +351,16 @@ impl Session {
         copies: &C,
         name: &WaveletName,
         from: Option<&HashedVersion>,
-    ) -> Result<Message, Memory>
+    ) -> Result<Reply, Memory>
         requires { has_user self.old ≡ true }
-        ensures ok { IfOk result (λ m. (self.new, m) ≡ attached (shown (C.copies copies.now) (C.hosts copies.now) (C.drops copies.now) (C.outcomes copies.now)) self.old name.now (option_copied from.entry)) }
-        ensures access { IfOk result (λ m. MaySee (shown (C.copies copies.now) (C.hosts copies.now) (C.drops copies.now) (C.outcomes copies.now)) self.old.party m) }
-        ensures large { IfOk result (λ m. (m ≡ Message.Unopened name.now TooLarge) ↔ ((option_copied from.entry ≡ None) × HasLongHead (shown (C.copies copies.now) (C.hosts copies.now) (C.drops copies.now) (C.outcomes copies.now)) self.old.party name.now)) }
+        ensures ok { IfOk result (λ r. (self.new, reply_message r) ≡ attached (shown (C.copies copies.now) (C.hosts copies.now) (C.drops copies.now) (C.outcomes copies.now)) self.old name.now (option_copied from.entry)) }
+        ensures access { IfOk result (λ r. MaySee (shown (C.copies copies.now) (C.hosts copies.now) (C.drops copies.now) (C.outcomes copies.now)) self.old.party (reply_message r)) }
+        ensures large { IfOk result (λ r. (reply_message r ≡ Message.Unopened name.now TooLarge) ↔ ((option_copied from.entry ≡ None) × HasLongHead (shown (C.copies copies.now) (C.hosts copies.now) (C.drops copies.now) (C.outcomes copies.now)) self.old.party name.now)) }
         ensures same { OnErr result (self.new ≡ self.old) }
     {
         match self.seen_history(copies, name) {
             Some(history) => self.attach_seen(alloc, name, from, history),
-            None => unopened(alloc, name, UnopenedReason::NotParticipant),
+            None => Ok(Reply::Message(unopened(alloc, name, UnopenedReason::NotParticipant)?)),
         }
     }
 }

@@ -1,14 +1,18 @@
 // What a session is sent of the copies.
-ghost use Rattle.std.specs.Prelude.{◌≡◌, ◌≤◌, ◌++◌, nat_lt, length, map, IfOk, OnOk, OnErr};
-ghost use Rattle.std.specs.List.{list_any, All};
+ghost use Rattle.std.specs.Prelude.{◌≡◌, ◌≤◌, ◌++◌, ◌∷◌, [], nat_lt, length, map, drop, slice_get, true, Some, IfOk, IfSome, OnOk, OnErr};
+ghost use Rattle.std.specs.List.{list_any, All, AllByRecursion};
 ghost use Rattle.std.specs.Option.{option_copied};
 ghost use Rattle.delta_history.specs.Histories.{head_of};
 ghost use Rattle.delta_history.specs.Places.{started_below, IsRisingFrom};
-ghost use Rattle.session_core.specs.Access.{shown, has_domain, is_of_domain, seen_by, seen_from, MaySee};
-ghost use Rattle.session_core.specs.Deliveries.{since, updates, applieds, outcomes_sent, still_waiting, opening_news, opening_sent, openings_sent, opening_kept, openings_kept, fated, host_news, host_told, telling_of, hosts_sent, hosts_told, delivered, after_delivery};
+ghost use Rattle.session_core.specs.Access.{Shown, shown, has_domain, is_of_domain, seen_from, MaySee};
+ghost use Rattle.session_core.specs.Current.{IsWholeTo, are_sent};
+ghost use Rattle.session_core.specs.News.{messages_of, deltas_of, IsPlaced};
+ghost use Rattle.wavelet_json.specs.declared.reason.ClosedReason.TheVariants.{Access};
+ghost use Rattle.session_core.specs.Deliveries.{since, updates, applieds, outcome_sent, outcomes_sent, still_waiting, opening_sent, openings_sent, opening_kept, openings_kept, fated, host_news, host_told, telling_of, after_host, hosts_sent, hosts_told, delivered, after_delivery};
 
-use crate::answers::{seen_by, verdict_message};
+use crate::answers::{may_see, verdict_message};
 use crate::lists::{Openings, Tellings, Waitings};
+use crate::news::News;
 use crate::session::{Opening, Party, Session, Waiting};
 use delta_history::{Copies, History};
 use doc_items::Memory;
@@ -44,62 +48,107 @@ fn starts_below(delta: &AppliedDelta, version: u64) -> bool
     delta.from.version < version
 }
 
-// The deltas of a history from a version on.
-#[tactic(auto, using(delta_history::proofs::Finding::rising))]
-fn since(history: &History, version: u64) -> &[AppliedDelta]
-    ensures { result.now ≡ since version history.entry.now }
+// The place of the first delta of a history that was applied at a version or behind it. At the head there is none.
+#[tactic(auto, using(delta_history::proofs::Finding::rising, crate::proofs::Current::nothing_behind))]
+fn first_since(history: &History, version: u64) -> usize
+    ensures value { result ≡ started_below version history.now.deltas }
+    ensures whole { since (head_of history.now).at.version history.now ≡ [] }
 {
-    let deltas = history.deltas();
-    let first = started_below(deltas, version);
-    deltas.split_at(first).1
+    started_below(history.deltas(), version)
 }
 
-fn push_updates(
-    alloc: Global,
-    name: &WaveletName,
-    deltas: &[AppliedDelta],
-    out: &mut Vec<Message>,
+fn push_update<'a>(
+    name: &'a WaveletName,
+    place: usize,
+    delta: &'a AppliedDelta,
+    out: &mut Vec<News<'a>>,
 ) -> Result<(), Memory>
-    ensures { OnOk result (out.new.items ≡ out.old.items ++ updates name.now deltas.now) }
+    ensures sent { OnOk result (messages_of out.new.items ≡ messages_of out.old.items ++ Message.Update name.entry.now delta.entry.now ∷ []) }
+    ensures placed { OnOk result ((c : Shown) → slice_get (deltas_of (c.copy name.entry.now)) place ≡ Some delta.entry.now → All (IsPlaced c) out.old.items → All (IsPlaced c) out.new.items) }
 {
-    for delta in deltas {
-        let name = name.copy(alloc)?;
-        let delta = delta.copy(alloc)?;
-        out.push(Message::Update { name, delta })?;
+    out.push(News::Update { name, place, delta })?;
+    Ok(())
+}
+
+// The deltas of a wavelet from a place on, as updates.
+fn push_updates<'a>(
+    name: &'a WaveletName,
+    history: &'a History,
+    first: usize,
+    out: &mut Vec<News<'a>>,
+) -> Result<(), Memory>
+    ensures sent { OnOk result (messages_of out.new.items ≡ messages_of out.old.items ++ updates name.entry.now (drop first history.entry.now.deltas)) }
+    ensures placed { OnOk result ((c : Shown) → c.copy name.entry.now ≡ Some history.entry.now → All (IsPlaced c) out.old.items → All (IsPlaced c) out.new.items) }
+{
+    let deltas = history.deltas();
+    for place in first..deltas.len() {
+        push_update(name, place, &deltas[place], out)?;
     }
     Ok(())
 }
 
-fn push_applieds(
-    alloc: Global,
-    name: &WaveletName,
-    deltas: &[AppliedDelta],
-    out: &mut Vec<Message>,
+fn push_applied<'a>(
+    name: &'a WaveletName,
+    place: usize,
+    delta: &'a AppliedDelta,
+    out: &mut Vec<News<'a>>,
 ) -> Result<(), Memory>
-    ensures { OnOk result (out.new.items ≡ out.old.items ++ applieds name.now deltas.now) }
+    ensures sent { OnOk result (messages_of out.new.items ≡ messages_of out.old.items ++ Message.Applied name.entry.now delta.entry.now ∷ []) }
+    ensures placed { OnOk result ((c : Shown) → slice_get (deltas_of (c.copy name.entry.now)) place ≡ Some delta.entry.now → All (IsPlaced c) out.old.items → All (IsPlaced c) out.new.items) }
 {
-    for delta in deltas {
-        let name = name.copy(alloc)?;
-        let delta = delta.copy(alloc)?;
-        out.push(Message::Applied { name, delta })?;
+    out.push(News::Applied { name, place, delta })?;
+    Ok(())
+}
+
+// The deltas of a wavelet from a place on, as a peer is sent them.
+fn push_applieds<'a>(
+    name: &'a WaveletName,
+    history: &'a History,
+    first: usize,
+    out: &mut Vec<News<'a>>,
+) -> Result<(), Memory>
+    ensures sent { OnOk result (messages_of out.new.items ≡ messages_of out.old.items ++ applieds name.entry.now (drop first history.entry.now.deltas)) }
+    ensures placed { OnOk result ((c : Shown) → c.copy name.entry.now ≡ Some history.entry.now → All (IsPlaced c) out.old.items → All (IsPlaced c) out.new.items) }
+{
+    let deltas = history.deltas();
+    for place in first..deltas.len() {
+        push_applied(name, place, &deltas[place], out)?;
     }
     Ok(())
 }
 
 // ---- outcomes
 
-fn push_outcomes<C: Copies>(
+fn push_outcome<'a, C: Copies>(
+    alloc: Global,
+    copies: &C,
+    waiting: &Waiting,
+    out: &mut Vec<News<'a>>,
+) -> Result<(), Memory>
+    ensures sent { OnOk result (messages_of out.new.items ≡ messages_of out.old.items ++ outcome_sent waiting.now (C.outcomes copies.now waiting.now.name waiting.now.id)) }
+    ensures placed { OnOk result (All (IsPlaced (shown (C.copies copies.now) (C.hosts copies.now) (C.drops copies.now) (C.outcomes copies.now))) out.old.items → All (IsPlaced (shown (C.copies copies.now) (C.hosts copies.now) (C.drops copies.now) (C.outcomes copies.now))) out.new.items) }
+{
+    match copies.outcome(&waiting.name, &waiting.id) {
+        Some(verdict) => {
+            let message = verdict_message(alloc, &waiting.name, &waiting.id, verdict)?;
+            out.push(News::Message(message))?;
+            Ok(())
+        }
+        None => Ok(()),
+    }
+}
+
+fn push_outcomes<'a, C: Copies>(
     alloc: Global,
     copies: &C,
     list: &[Waiting],
-    out: &mut Vec<Message>,
+    out: &mut Vec<News<'a>>,
 ) -> Result<(), Memory>
-    ensures { OnOk result (out.new.items ≡ out.old.items ++ outcomes_sent (shown (C.copies copies.now) (C.hosts copies.now) (C.drops copies.now) (C.outcomes copies.now)) list.now) }
+    ensures sent { OnOk result (messages_of out.new.items ≡ messages_of out.old.items ++ outcomes_sent (shown (C.copies copies.now) (C.hosts copies.now) (C.drops copies.now) (C.outcomes copies.now)) list.now) }
+    ensures placed { OnOk result (All (IsPlaced (shown (C.copies copies.now) (C.hosts copies.now) (C.drops copies.now) (C.outcomes copies.now))) out.old.items → All (IsPlaced (shown (C.copies copies.now) (C.hosts copies.now) (C.drops copies.now) (C.outcomes copies.now))) out.new.items) }
 {
     for waiting in list {
-        if let Some(verdict) = copies.outcome(&waiting.name, &waiting.id) {
-            out.push(verdict_message(alloc, &waiting.name, &waiting.id, verdict)?)?;
-        }
+        push_outcome(alloc, copies, waiting, out)?;
     }
     Ok(())
 }
@@ -128,50 +177,53 @@ impl Waitings {
 
 // ---- open wavelets
 
-// What there is to say of an open wavelet of which there is a copy.
-fn push_news(
-    alloc: Global,
-    opening: &Opening,
-    seen: Option<&History>,
-    out: &mut Vec<Message>,
-) -> Result<(), Memory>
-    ensures { OnOk result (out.new.items ≡ out.old.items ++ opening_news opening.now (option_copied seen.entry)) }
+fn push_closed<'a>(alloc: Global, name: &WaveletName, out: &mut Vec<News<'a>>) -> Result<(), Memory>
+    ensures sent { OnOk result (messages_of out.new.items ≡ messages_of out.old.items ++ Message.Closed name.now Access ∷ []) }
+    ensures placed { OnOk result ((c : Shown) → All (IsPlaced c) out.old.items → All (IsPlaced c) out.new.items) }
 {
-    match seen {
-        Some(history) => push_updates(alloc, &opening.name, since(history, opening.sent), out),
-        None => {
-            let name = opening.name.copy(alloc)?;
-            let reason = ClosedReason::Access;
-            out.push(Message::Closed { name, reason })?;
-            Ok(())
-        }
-    }
+    let name = name.copy(alloc)?;
+    let reason = ClosedReason::Access;
+    out.push(News::Message(Message::Closed { name, reason }))?;
+    Ok(())
 }
 
-fn push_opening<C: Copies>(
+// What there is to say of an open wavelet.
+fn push_opening<'a, C: Copies>(
     alloc: Global,
-    copies: &C,
+    copies: &'a C,
     user: &Address,
     opening: &Opening,
-    out: &mut Vec<Message>,
+    out: &mut Vec<News<'a>>,
 ) -> Result<(), Memory>
-    ensures { OnOk result (out.new.items ≡ out.old.items ++ opening_sent (shown (C.copies copies.now) (C.hosts copies.now) (C.drops copies.now) (C.outcomes copies.now)) user.now opening.now (C.copies copies.now opening.now.name)) }
+    ensures sent { OnOk result (messages_of out.new.items ≡ messages_of out.old.items ++ opening_sent (shown (C.copies copies.entry.now) (C.hosts copies.entry.now) (C.drops copies.entry.now) (C.outcomes copies.entry.now)) user.now opening.now (C.copies copies.entry.now opening.now.name)) }
+    ensures placed { OnOk result (All (IsPlaced (shown (C.copies copies.entry.now) (C.hosts copies.entry.now) (C.drops copies.entry.now) (C.outcomes copies.entry.now))) out.old.items → All (IsPlaced (shown (C.copies copies.entry.now) (C.hosts copies.entry.now) (C.drops copies.entry.now) (C.outcomes copies.entry.now))) out.new.items) }
+    ensures whole { OnOk result (IsWholeTo (shown (C.copies copies.entry.now) (C.hosts copies.entry.now) (C.drops copies.entry.now) (C.outcomes copies.entry.now)) user.now opening.now) }
 {
-    if copies.copy_of(&opening.name).is_none() {
+    let Some(history) = copies.copy_of(&opening.name) else {
         return Ok(());
+    };
+    if may_see(copies, &opening.name, history, user) {
+        push_updates(
+            history.name(),
+            history,
+            first_since(history, opening.sent),
+            out,
+        )
+    } else {
+        push_closed(alloc, &opening.name, out)
     }
-    let seen = seen_by(copies, &opening.name, user);
-    push_news(alloc, opening, seen, out)
 }
 
-fn push_openings<C: Copies>(
+fn push_openings<'a, C: Copies>(
     alloc: Global,
-    copies: &C,
+    copies: &'a C,
     user: &Address,
     list: &[Opening],
-    out: &mut Vec<Message>,
+    out: &mut Vec<News<'a>>,
 ) -> Result<(), Memory>
-    ensures { OnOk result (out.new.items ≡ out.old.items ++ openings_sent (shown (C.copies copies.now) (C.hosts copies.now) (C.drops copies.now) (C.outcomes copies.now)) user.now list.now) }
+    ensures sent { OnOk result (messages_of out.new.items ≡ messages_of out.old.items ++ openings_sent (shown (C.copies copies.entry.now) (C.hosts copies.entry.now) (C.drops copies.entry.now) (C.outcomes copies.entry.now)) user.now list.now) }
+    ensures placed { OnOk result (All (IsPlaced (shown (C.copies copies.entry.now) (C.hosts copies.entry.now) (C.drops copies.entry.now) (C.outcomes copies.entry.now))) out.old.items → All (IsPlaced (shown (C.copies copies.entry.now) (C.hosts copies.entry.now) (C.drops copies.entry.now) (C.outcomes copies.entry.now))) out.new.items) }
+    ensures whole { OnOk result (AllByRecursion (IsWholeTo (shown (C.copies copies.entry.now) (C.hosts copies.entry.now) (C.drops copies.entry.now) (C.outcomes copies.entry.now)) user.now) list.now) }
 {
     for opening in list {
         push_opening(alloc, copies, user, opening, out)?;
@@ -193,12 +245,13 @@ pub(crate) enum Fate {
 fn fate_of<C: Copies>(copies: &C, user: &Address, opening: &Opening) -> Fate
     ensures { fated opening.now result ≡ opening_kept (shown (C.copies copies.now) (C.hosts copies.now) (C.drops copies.now) (C.outcomes copies.now)) user.now opening.now (C.copies copies.now opening.now.name) }
 {
-    if copies.copy_of(&opening.name).is_none() {
+    let Some(history) = copies.copy_of(&opening.name) else {
         return Fate::Stays;
-    }
-    match seen_by(copies, &opening.name, user) {
-        Some(history) => Fate::Sent(history.head().version),
-        None => Fate::Ends,
+    };
+    if may_see(copies, &opening.name, history, user) {
+        Fate::Sent(history.head().version)
+    } else {
+        Fate::Ends
     }
 }
 
@@ -255,7 +308,8 @@ fn seen_from<'a, C: Copies>(
     name: &WaveletName,
     domain: &Domain,
 ) -> Result<Option<&'a History>, Memory>
-    ensures { IfOk result (λ o. option_copied o ≡ seen_from (shown (C.copies copies.entry.now) (C.hosts copies.entry.now) (C.drops copies.entry.now) (C.outcomes copies.entry.now)) name.now domain.now) }
+    ensures value { IfOk result (λ o. option_copied o ≡ seen_from (shown (C.copies copies.entry.now) (C.hosts copies.entry.now) (C.drops copies.entry.now) (C.outcomes copies.entry.now)) name.now domain.now) }
+    ensures there { IfOk result (λ o. IfSome (option_copied o) (λ h. C.copies copies.entry.now name.now ≡ Some h)) }
 {
     let Some(history) = copies.copy_of(name) else {
         return Ok(None);
@@ -268,29 +322,30 @@ fn seen_from<'a, C: Copies>(
 }
 
 // What there is to say of a hosted wavelet, and what the peer was told then.
-fn push_host(
+fn push_host<'a>(
     alloc: Global,
-    name: &WaveletName,
-    seen: Option<&History>,
+    name: &'a WaveletName,
+    seen: Option<&'a History>,
     tellings: &mut Tellings,
-    out: &mut Vec<Message>,
+    out: &mut Vec<News<'a>>,
 ) -> Result<(), Memory>
-    ensures sent { OnOk result (out.new.items ≡ out.old.items ++ host_news name.now (telling_of name.now tellings.old) (option_copied seen.entry)) }
-    ensures told { OnOk result (tellings.new ≡ host_told name.now tellings.old (telling_of name.now tellings.old) (option_copied seen.entry)) }
+    ensures sent { OnOk result (messages_of out.new.items ≡ messages_of out.old.items ++ host_news name.entry.now (telling_of name.entry.now tellings.old) (option_copied seen.entry)) }
+    ensures placed { OnOk result ((c : Shown) → IfSome (option_copied seen.entry) (λ h. c.copy name.entry.now ≡ Some h) → All (IsPlaced c) out.old.items → All (IsPlaced c) out.new.items) }
+    ensures told { OnOk result (tellings.new ≡ host_told name.entry.now tellings.old (telling_of name.entry.now tellings.old) (option_copied seen.entry)) }
 {
     let (sent, told) = tellings.get(name);
     match seen {
         Some(history) => {
-            push_applieds(alloc, name, since(history, sent), out)?;
+            push_applieds(name, history, first_since(history, sent), out)?;
             tellings.set(name.copy(alloc)?, history.head().version, true)
         }
         None => {
             if !told {
                 return Ok(());
             }
-            out.push(Message::Dropped {
+            out.push(News::Message(Message::Dropped {
                 name: name.copy(alloc)?,
-            })?;
+            }))?;
             tellings.set(name.copy(alloc)?, sent, false)
         }
     }
@@ -306,33 +361,50 @@ fn hosted_names<'a, C: Copies>(alloc: Global, copies: &'a C) -> Result<Vec<&'a W
     Ok(names)
 }
 
-// What there is to say of some of the hosted wavelets, and what the peer was told then.
-fn push_each<C: Copies>(
+fn push_hosted<'a, C: Copies>(
     alloc: Global,
-    copies: &C,
+    copies: &'a C,
     domain: &Domain,
-    names: &[&WaveletName],
+    name: &'a WaveletName,
     tellings: &mut Tellings,
-    out: &mut Vec<Message>,
+    out: &mut Vec<News<'a>>,
 ) -> Result<(), Memory>
-    ensures sent { OnOk result (out.new.items ≡ out.old.items ++ hosts_sent (shown (C.copies copies.now) (C.hosts copies.now) (C.drops copies.now) (C.outcomes copies.now)) domain.now tellings.old (map (λ n. n.now) names.now)) }
-    ensures told { OnOk result (tellings.new ≡ hosts_told (shown (C.copies copies.now) (C.hosts copies.now) (C.drops copies.now) (C.outcomes copies.now)) domain.now tellings.old (map (λ n. n.now) names.now)) }
+    ensures sent { OnOk result (messages_of out.new.items ≡ messages_of out.old.items ++ host_news name.entry.now (telling_of name.entry.now tellings.old) (seen_from (shown (C.copies copies.entry.now) (C.hosts copies.entry.now) (C.drops copies.entry.now) (C.outcomes copies.entry.now)) name.entry.now domain.now)) }
+    ensures placed { OnOk result (All (IsPlaced (shown (C.copies copies.entry.now) (C.hosts copies.entry.now) (C.drops copies.entry.now) (C.outcomes copies.entry.now))) out.old.items → All (IsPlaced (shown (C.copies copies.entry.now) (C.hosts copies.entry.now) (C.drops copies.entry.now) (C.outcomes copies.entry.now))) out.new.items) }
+    ensures told { OnOk result (tellings.new ≡ after_host (shown (C.copies copies.entry.now) (C.hosts copies.entry.now) (C.drops copies.entry.now) (C.outcomes copies.entry.now)) domain.now tellings.old name.entry.now) }
+{
+    let seen = seen_from(alloc, copies, name, domain)?;
+    push_host(alloc, name, seen, tellings, out)
+}
+
+// What there is to say of some of the hosted wavelets, and what the peer was told then.
+fn push_each<'a, C: Copies>(
+    alloc: Global,
+    copies: &'a C,
+    domain: &Domain,
+    names: &[&'a WaveletName],
+    tellings: &mut Tellings,
+    out: &mut Vec<News<'a>>,
+) -> Result<(), Memory>
+    ensures sent { OnOk result (messages_of out.new.items ≡ messages_of out.old.items ++ hosts_sent (shown (C.copies copies.entry.now) (C.hosts copies.entry.now) (C.drops copies.entry.now) (C.outcomes copies.entry.now)) domain.now tellings.old (map (λ n. n.now) names.now)) }
+    ensures placed { OnOk result (All (IsPlaced (shown (C.copies copies.entry.now) (C.hosts copies.entry.now) (C.drops copies.entry.now) (C.outcomes copies.entry.now))) out.old.items → All (IsPlaced (shown (C.copies copies.entry.now) (C.hosts copies.entry.now) (C.drops copies.entry.now) (C.outcomes copies.entry.now))) out.new.items) }
+    ensures told { OnOk result (tellings.new ≡ hosts_told (shown (C.copies copies.entry.now) (C.hosts copies.entry.now) (C.drops copies.entry.now) (C.outcomes copies.entry.now)) domain.now tellings.old (map (λ n. n.now) names.now)) }
 {
     for name in names {
-        let seen = seen_from(alloc, copies, name, domain)?;
-        push_host(alloc, name, seen, tellings, out)?;
+        push_hosted(alloc, copies, domain, name, tellings, out)?;
     }
     Ok(())
 }
 
-fn push_hosts<C: Copies>(
+fn push_hosts<'a, C: Copies>(
     alloc: Global,
-    copies: &C,
+    copies: &'a C,
     domain: &Domain,
     tellings: &mut Tellings,
-) -> Result<Vec<Message>, Memory>
-    ensures sent { IfOk result (λ out. out.items ≡ hosts_sent (shown (C.copies copies.now) (C.hosts copies.now) (C.drops copies.now) (C.outcomes copies.now)) domain.now tellings.old (C.hosts copies.now)) }
-    ensures told { OnOk result (tellings.new ≡ hosts_told (shown (C.copies copies.now) (C.hosts copies.now) (C.drops copies.now) (C.outcomes copies.now)) domain.now tellings.old (C.hosts copies.now)) }
+) -> Result<Vec<News<'a>>, Memory>
+    ensures sent { IfOk result (λ out. messages_of out.items ≡ hosts_sent (shown (C.copies copies.entry.now) (C.hosts copies.entry.now) (C.drops copies.entry.now) (C.outcomes copies.entry.now)) domain.now tellings.old (C.hosts copies.entry.now)) }
+    ensures placed { IfOk result (λ out. All (IsPlaced (shown (C.copies copies.entry.now) (C.hosts copies.entry.now) (C.drops copies.entry.now) (C.outcomes copies.entry.now))) out.items) }
+    ensures told { OnOk result (tellings.new ≡ hosts_told (shown (C.copies copies.entry.now) (C.hosts copies.entry.now) (C.drops copies.entry.now) (C.outcomes copies.entry.now)) domain.now tellings.old (C.hosts copies.entry.now)) }
 {
     let names = hosted_names(alloc, copies)?;
     let mut out = Vec::new(alloc);
@@ -342,14 +414,16 @@ fn push_hosts<C: Copies>(
 
 // ---- all
 
-fn user_messages<C: Copies>(
+fn user_news<'a, C: Copies>(
     alloc: Global,
-    copies: &C,
+    copies: &'a C,
     user: &Address,
     waiting: &[Waiting],
     openings: &[Opening],
-) -> Result<Vec<Message>, Memory>
-    ensures { IfOk result (λ out. out.items ≡ outcomes_sent (shown (C.copies copies.now) (C.hosts copies.now) (C.drops copies.now) (C.outcomes copies.now)) waiting.now ++ openings_sent (shown (C.copies copies.now) (C.hosts copies.now) (C.drops copies.now) (C.outcomes copies.now)) user.now openings.now) }
+) -> Result<Vec<News<'a>>, Memory>
+    ensures sent { IfOk result (λ out. messages_of out.items ≡ outcomes_sent (shown (C.copies copies.entry.now) (C.hosts copies.entry.now) (C.drops copies.entry.now) (C.outcomes copies.entry.now)) waiting.now ++ openings_sent (shown (C.copies copies.entry.now) (C.hosts copies.entry.now) (C.drops copies.entry.now) (C.outcomes copies.entry.now)) user.now openings.now) }
+    ensures placed { IfOk result (λ out. All (IsPlaced (shown (C.copies copies.entry.now) (C.hosts copies.entry.now) (C.drops copies.entry.now) (C.outcomes copies.entry.now))) out.items) }
+    ensures whole { OnOk result (AllByRecursion (IsWholeTo (shown (C.copies copies.entry.now) (C.hosts copies.entry.now) (C.drops copies.entry.now) (C.outcomes copies.entry.now)) user.now) openings.now) }
 {
     let mut out = Vec::new(alloc);
     push_outcomes(alloc, copies, waiting, &mut out)?;
@@ -362,18 +436,25 @@ impl Session {
     /// submission that waited and has one now, and then of each open wavelet of which there is a copy, in order of opening, its deltas
     /// that weren't sent, or, where the user is no participant at its head or the copy is dropped, that it is closed. A peer is sent, for
     /// each wavelet hosted here that has a delta, in byte order of names, its deltas that weren't sent where an address of its domain is
-    /// a participant at the head, else once that it is dropped. After want of memory the session is as it was.
+    /// a participant at the head, else once that it is dropped. Deltas are lent, each with its place in its history. Each wavelet that a
+    /// user has open is sent up to its head then. After want of memory the session is as it was.
     #[tactic(auto, using(crate::proofs::Access::all_may_see))]
-    pub fn deliver<C: Copies>(&mut self, alloc: Global, copies: &C) -> Result<Vec<Message>, Memory>
-        ensures sent { IfOk result (λ out. out.items ≡ delivered (shown (C.copies copies.now) (C.hosts copies.now) (C.drops copies.now) (C.outcomes copies.now)) self.old) }
-        ensures after { OnOk result (self.new ≡ after_delivery (shown (C.copies copies.now) (C.hosts copies.now) (C.drops copies.now) (C.outcomes copies.now)) self.old) }
-        ensures access { IfOk result (λ out. All (MaySee (shown (C.copies copies.now) (C.hosts copies.now) (C.drops copies.now) (C.outcomes copies.now)) self.old.party) out.items) }
+    pub fn deliver<'a, C: Copies>(
+        &mut self,
+        alloc: Global,
+        copies: &'a C,
+    ) -> Result<Vec<News<'a>>, Memory>
+        ensures sent { IfOk result (λ out. messages_of out.items ≡ delivered (shown (C.copies copies.entry.now) (C.hosts copies.entry.now) (C.drops copies.entry.now) (C.outcomes copies.entry.now)) self.old) }
+        ensures after { OnOk result (self.new ≡ after_delivery (shown (C.copies copies.entry.now) (C.hosts copies.entry.now) (C.drops copies.entry.now) (C.outcomes copies.entry.now)) self.old) }
+        ensures access { IfOk result (λ out. All (MaySee (shown (C.copies copies.entry.now) (C.hosts copies.entry.now) (C.drops copies.entry.now) (C.outcomes copies.entry.now)) self.old.party) (messages_of out.items)) }
+        ensures placed { IfOk result (λ out. All (IsPlaced (shown (C.copies copies.entry.now) (C.hosts copies.entry.now) (C.drops copies.entry.now) (C.outcomes copies.entry.now))) out.items) }
+        ensures current { OnOk result (are_sent (shown (C.copies copies.entry.now) (C.hosts copies.entry.now) (C.drops copies.entry.now) (C.outcomes copies.entry.now)) self.new ≡ true) }
         ensures same { OnErr result (self.new ≡ self.old) }
     {
         match &self.party {
             Party::Nobody => Ok(Vec::new(alloc)),
             Party::User(user) => {
-                let out = user_messages(
+                let out = user_news(
                     alloc,
                     copies,
                     user,

@@ -4,12 +4,14 @@
 mod answers;
 mod deliver;
 mod lists;
+mod news;
 mod request;
 mod rules;
 mod session;
 
 pub use delta_history::Copies;
 pub use lists::{Domains, Openings, Tellings, Waitings};
+pub use news::{News, Reply};
 pub use request::{Request, SubmitAnswer};
 pub use rules::reason_of;
 pub use session::{Opening, Party, Session, Telling, Waiting};

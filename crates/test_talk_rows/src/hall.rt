@@ -5,12 +5,13 @@ use crate::messages::put_message;
 use crate::shelves::small;
 use crate::version::hashed;
 use delta_history::{Copies, History};
-use session_core::{Request, Session, SubmitAnswer};
+use session_core::{News, Reply, Request, Session, SubmitAnswer};
 use std::alloc::Global;
 use test_copies::{Held, MemoryCopies, Noted, Notes};
 use test_disk_rows::{filled, first_word, number, put, text_of};
 use test_wavelet_words::{delta_at, id};
 use wave_base::{Domain, HashedVersion, WaveletName};
+use wave_messages::Message;
 use wavelet_op::Verdict;
 
 /// A session, and the deltas of the wavelets that it may see, in turn.
@@ -136,7 +137,10 @@ fn attach(
     if !session.has_user() {
         return Err(Fault::BadRow);
     }
-    let reply = session.answer_attach(alloc, copies, name, from)?;
+    let reply = match session.answer_attach(alloc, copies, name, from)? {
+        Reply::Message(message) => message,
+        Reply::Snapshot(snapshot) => Message::Snapshot(snapshot.into_snapshot()),
+    };
     let told = word(alloc, &reply)?;
     Ok(put(out, told.as_str())?)
 }
@@ -154,6 +158,23 @@ fn have(
     Ok(session.answer_have(alloc, copies, name, from)?)
 }
 
+// What news stand for, as a message that owns its delta.
+fn message_of(alloc: Global, news: &News) -> Result<Message, Fault> {
+    match news {
+        News::Update { name, delta, .. } => {
+            let name = name.copy(alloc)?;
+            let delta = delta.copy(alloc)?;
+            Ok(Message::Update { name, delta })
+        }
+        News::Applied { name, delta, .. } => {
+            let name = name.copy(alloc)?;
+            let delta = delta.copy(alloc)?;
+            Ok(Message::Applied { name, delta })
+        }
+        News::Message(message) => Ok(message.copy(alloc)?),
+    }
+}
+
 // What a session is sent, in words.
 fn deliver(
     alloc: Global,
@@ -161,7 +182,11 @@ fn deliver(
     copies: &MemoryCopies,
     out: &mut String,
 ) -> Result<(), Fault> {
-    let messages = session.deliver(alloc, copies)?;
+    let news = session.deliver(alloc, copies)?;
+    let mut messages = Vec::new(alloc);
+    for one in news.as_slice() {
+        messages.push(message_of(alloc, one)?)?;
+    }
     let told = words(alloc, messages.as_slice())?;
     Ok(put(out, told.as_str())?)
 }

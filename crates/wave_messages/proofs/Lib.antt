@@ -1,4 +1,5 @@
 pub mod Lengths
+pub mod Frames
 pub mod Texts
 pub mod Floats
 pub mod Depths

@@ -18,7 +18,7 @@ use std::alloc::Global;
 
 // The value without white space, its members in byte order of their names. It is read back.
 #[tactic(auto, using(crate::proofs::Texts::is_data))]
-fn compact(alloc: Global, value: &Value) -> Result<Vec<u8>, Memory>
+pub(crate) fn compact(alloc: Global, value: &Value) -> Result<Vec<u8>, Memory>
     requires clear { has_float (view value.now) ≡ false }
     requires shallow { depth (view value.now) ≤ max_depth }
     ensures text { IfOk result (λ bytes. bytes.items ≡ compact_text (view value.now)) }

@@ -7,13 +7,13 @@ use Rattle.wavelet_shelf.specs.Shelves.{hosted_of}
 use Rattle.pipe_machine.proofs.Trying.{ended_memory, ended_done, stepped_done, tried_done, tried_refused}
 use Rattle.pipe_machine.proofs.reply.submit.Goals as goal
 
-pub returns-in_err-answer_submit-in-Ok-clause-moved : goal.returns-in_err-answer_submit-in-Ok-clause-moved
-returns-in_err-answer_submit-in-Ok-clause-moved g c =
+pub returns-in_err-message-in-Ok-clause-moved : goal.returns-in_err-message-in-Ok-clause-moved
+returns-in_err-message-in-Ok-clause-moved g c =
     let s = c.submit.ensures in
     taken_in c.args.shelf.now c.submit.new.self c.args.name.now s.others s.kept s.folder s.later c.args.submission.now c.args.time c.copies_are_hosted.ensures.ascending c.in-Ok.ensures.grown
 
-pub returns-in_ok-answer_submit-in-Ok-clause-moved : goal.returns-in_ok-answer_submit-in-Ok-clause-moved
-returns-in_ok-answer_submit-in-Ok-clause-moved g c =
+pub returns-in_ok-message-in-Ok-clause-moved : goal.returns-in_ok-message-in-Ok-clause-moved
+returns-in_ok-message-in-Ok-clause-moved g c =
     let s = c.submit.ensures in
     taken_in c.args.shelf.now c.submit.new.self c.args.name.now s.others s.kept s.folder s.later c.args.submission.now c.args.time c.copies_are_hosted.ensures.ascending c.in-Ok.ensures.grown
 
@@ -36,8 +36,8 @@ returns-in-Err-Memory-clause-moved g c =
     let s = c.submit.ensures in
     refused_in c.args.shelf.now c.submit.new.self c.args.name.now s.others s.kept s.folder s.later c.in-Err-Memory.ensures.same
 
-pub returns-in_err-answer_submit-in-Ok-clause-ended : goal.returns-in_err-answer_submit-in-Ok-clause-ended
-returns-in_err-answer_submit-in-Ok-clause-ended g c =
+pub returns-in_err-message-in-Ok-clause-ended : goal.returns-in_err-message-in-Ok-clause-ended
+returns-in_err-message-in-Ok-clause-ended g c =
     let p = err_from_is_err_and c.from_residual.result c.from_residual.ensures.1 in
     let after = after_submission (hosted_of c.args.shelf.now) c.args.name.now c.args.submission.now c.args.time in
     ended_memory c.args.shelf.now c.submit.new.self after c.from_residual.result p.0 p.1 p.2 (tried_done c.args.shelf.now c.submit.new.self after c.in-Ok.ensures.grown c.in-Ok.ensures.settled)

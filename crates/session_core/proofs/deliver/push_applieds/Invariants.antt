@@ -1,6 +1,12 @@
-use Rattle.std.proofs.Common.{◌≡◌, ◌++◌, drop}
+use Rattle.std.proofs.Common.{◌≡◌, ◌++◌, drop, Some}
+use Rattle.std.specs.List.{All}
+use Rattle.session_core.specs.Access.{Shown}
 use Rattle.session_core.specs.Deliveries.{applieds}
+use Rattle.session_core.specs.News.{messages_of, IsPlaced}
 use Rattle.session_core.proofs.deliver.push_applieds.Given as goal
 
-abbrev pub invariant-loop-delta : goal.invariant-loop-delta
-invariant-loop-delta l = l.fn.out.items ++ applieds l.name l.deltas ≡ l.out.items ++ applieds l.name (drop l.delta-index l.deltas)
+abbrev pub invariant-loop-place : goal.invariant-loop-place
+invariant-loop-place l = record {
+  sent : messages_of l.fn.out.items ++ applieds l.name (drop l.first l.deltas) ≡ messages_of l.out.items ++ applieds l.name (drop l.place l.deltas);
+  placed : (c : Shown) → c.copy l.name ≡ Some l.history → All (IsPlaced c) l.fn.out.items → All (IsPlaced c) l.out.items;
+}
