@@ -43,8 +43,8 @@ returns-in_err-message-in-Ok-clause-ended g c =
     ended_memory c.args.shelf.now c.submit.new.self after c.from_residual.result p.0 p.1 p.2 (tried_done c.args.shelf.now c.submit.new.self after c.in-Ok.ensures.grown c.in-Ok.ensures.settled)
     (stepped_done c.args.shelf.now c.submit.new.self c.args.name.now c.args.submission.now c.args.time c.copies_are_hosted.ensures.ascending c.submit.ensures.others c.submit.ensures.moments)
 
-pub returns-in_ok-answer_submit-in-Ok-clause-ended : goal.returns-in_ok-answer_submit-in-Ok-clause-ended
-returns-in_ok-answer_submit-in-Ok-clause-ended g c = ended_done c.args.shelf.now c.submit.new.self _ _ c.in-Ok.ensures.settled
+pub returns-in_ok-message-in-Ok-clause-ended : goal.returns-in_ok-message-in-Ok-clause-ended
+returns-in_ok-message-in-Ok-clause-ended g c = ended_done c.args.shelf.now c.submit.new.self _ _ c.in-Ok.ensures.settled
     (stepped_done c.args.shelf.now c.submit.new.self c.args.name.now c.args.submission.now c.args.time c.copies_are_hosted.ensures.ascending c.submit.ensures.others c.submit.ensures.moments)
 
 pub returns-in-Err-Memory-clause-ended : goal.returns-in-Err-Memory-clause-ended
