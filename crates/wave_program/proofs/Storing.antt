@@ -242,6 +242,7 @@ module _ {F D K : Type 0} (folder : folder_of.Ghosts F D) (disk : disk_of.Ghosts
   -- from the shelf a to the shelf m, whose files were loaded
   standing : (a m : Shelf F D folder disk) (f : F) → IsTrue disk.tells → in_folder a ≡ Some f → IsLoaded a m → AreStanding folder disk f (hosted_of m) (λ n. is_some (container_in m n))
   standing a m f tells is loaded = record {
+    ascending = shown_ascend (histories (entries_of m)) (hist_ascends deltas_of (entries_of m) m.containers.in_order.0);
     stand = stand_for a m f tells is loaded;
     are_loaded = are_loaded m;
     all = if_some_at _ _ f is (loaded.all tells);
@@ -398,6 +399,7 @@ module _ {F D K : Type 0} (folder : folder_of.Ghosts F D) (disk : disk_of.Ghosts
   -- over files that read the same
   same_standing : (f e : F) (hs : List Hosted) (loaded : Key → Bool) → ((m : List ℕ) → folder.files e m ≡ folder.files f m) → AreStanding folder disk e hs loaded → AreStanding folder disk f hs loaded
   same_standing f e hs loaded same s = record {
+    ascending = s.ascending;
     stand = λ n is. subst (λ (o : Option D). IsFileOf disk.view o n (deltas_in hs n)) (same (file_name_of n)) (s.stand n is);
     are_loaded = s.are_loaded;
     all = record {

@@ -14,7 +14,8 @@
 --     IsClosed a g              the disks of the shelf a were put back into the folder g
 --     IsShelfUnloaded, IsShelfRun   what follows, over shelves
 --     entered_at folder path f  the paths that the folder f was to enter, and this one behind them
---     AreStanding f hs loaded   the files of the folder f stand for these histories, and those of these names were loaded
+--     AreStanding f hs loaded   the files of the folder f stand for these histories, whose names ascend, and those of these names were
+--                               loaded
 --     IsStoredRun               lines answered over the files of a folder, by whose end these paths were entered
 --     IsReadRun P               histories looked at in the files of a folder, with P of them, and the files as before
 --     IsStoredAs                the one or the other, by the service
@@ -23,6 +24,7 @@ use Rattle.std.specs.Prelude.{◌≡◌, ◌≢◌, ◌⊎◌, ◌≤◌, ◌-�
 use Rattle.std.specs.List.{All}
 use Rattle.doc_items.specs.Maps.{Key}
 use Rattle.wavelet_op.specs.Deltas.{DeltaOf}
+use Rattle.delta_history.specs.Copying.{AreAscending}
 use Rattle.disk_model.specs.Disk.{DiskView, Kept}
 use Rattle.disk_model.specs.declared.disk.Disk as disk_of
 use Rattle.wave_outside.specs.declared.clock.Clock as clock_of
@@ -38,7 +40,7 @@ use Rattle.line_loop.specs.Turns.{Turn, lines_in}
 use Rattle.wavelet_shelf.specs.Entries.{BeganEmpty}
 use Rattle.wavelet_shelf.specs.FileNames.{file_name_of}
 use Rattle.wavelet_shelf.specs.Folders.{IsStill, IsStillIn}
-use Rattle.wavelet_shelf.specs.Hosting.{Hosted, deltas_in}
+use Rattle.wavelet_shelf.specs.Hosting.{Hosted, names_of, deltas_in}
 use Rattle.wavelet_shelf.specs.Loads.{IsReadFrom, IsStoredFile, IsSound, IsFirstRefused, HasAll}
 use Rattle.wavelet_shelf.specs.Shelves.{in_folder, entries_of, container_in, hosted_of, fault_count, IsKept, IsSettled, AreApart, HasFile}
 use Rattle.wavelet_shelf.specs.declared.shelf.Shelf.{Shelf}
@@ -150,6 +152,7 @@ module _ {F D : Type 0} (folder : folder_of.Ghosts F D) (disk : disk_of.Ghosts D
     pub entered : ((folder.log g).entries ≡ entries) ⊎ ((status ≡ 8) × ((folder.log g).entries ≡ (folder.log f).entries))
 
   pub record AreStanding (f : F) (hosted : List Hosted) (loaded : Key → Bool) : Type 0 where
+    pub ascending : AreAscending (names_of hosted)
     pub stand : (n : Key) → loaded n ≡ true → IsFileOf disk.view (folder.files f (file_name_of n)) n (deltas_in hosted n)
     pub are_loaded : (n : Key) → deltas_in hosted n ≢ [] → loaded n ≡ true
     pub all : HasAll disk.view (folder.files f) hosted
