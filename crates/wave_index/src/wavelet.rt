@@ -9,7 +9,7 @@ ghost use Rattle.wave_index.specs.Taken.{history_of};
 use crate::answers::{Hit, InboxLine};
 use crate::blips::{is_live, threads, title_of};
 use crate::changed::ChangedVersions;
-use crate::hits::put_hits;
+use crate::kept::{KeptWords, Way};
 use conversation::{Id, Node};
 use delta_history::{History, HistoryFault};
 use doc_items::Memory;
@@ -19,10 +19,11 @@ use std::marker::Model;
 use wave_base::{Address, BaseFault, DocumentName, WaveletName};
 use wavelet_op::AppliedDelta;
 
-/// A history, with the changed versions of its documents.
+/// A history, with the changed versions and the words of its documents.
 pub(crate) struct Wavelet {
     history: History,
     changed: ChangedVersions,
+    words: KeptWords,
 }
 
 impl Drop for Wavelet {
@@ -30,6 +31,7 @@ impl Drop for Wavelet {
         let Wavelet {
             history: _history,
             changed: _changed,
+            words: _words,
         } = self;
     }
 }
@@ -37,6 +39,8 @@ impl Drop for Wavelet {
 impl Model for Wavelet {
     ghost use Rattle.wavelet_op.specs.contracts.delta.AppliedDelta as delta_row;
     ghost use Rattle.wave_index.specs.Taken.{TakenOf, taken_code};
+    ghost use Rattle.delta_history.specs.Histories.{head_of};
+    ghost use Rattle.wave_index.specs.Counts.{AreKept};
     ghost use Rattle.wave_index.specs.Versions.{KeepsVersions};
 
     ghost Value = { TakenOf };
@@ -45,7 +49,7 @@ impl Model for Wavelet {
 
     ghost view = { λ w. record { name = w.history.name; deltas = w.history.deltas } };
 
-    ghost invariant = { λ w. KeepsVersions w.changed.map w.history.deltas };
+    ghost invariant = { λ w. record { versions : KeepsVersions w.changed.map w.history.deltas; words : AreKept w.words.places (head_of w.history).state } };
 }
 
 // The version after a delta.
@@ -64,6 +68,7 @@ impl Wavelet {
         Wavelet {
             history: History::new(alloc, name),
             changed: ChangedVersions::new(alloc),
+            words: KeptWords::new(alloc),
         }
     }
 
@@ -76,14 +81,22 @@ impl Wavelet {
         ensures named { self.new.name ≡ self.old.name }
     {
         let end = end_of(delta);
-        self.changed.reserve_all(alloc, delta.ops.as_slice())?;
+        let ops = delta.ops.as_slice();
+        self.changed.reserve_all(alloc, ops)?;
         let copy = delta.copy(alloc)?;
+        self.words.shift(alloc, self.history.state(), ops, Way::Out);
         match self.history.push_applied(alloc, copy) {
             Ok(()) => {
-                self.changed.note_all(delta.ops.as_slice(), end);
+                // The history is legal.
+                let _deltas = self.history.deltas();
+                self.changed.note_all(ops, end);
+                self.words.shift(alloc, self.history.state(), ops, Way::In);
                 Ok(())
             }
-            Err(fault) => Err(fault),
+            Err(fault) => {
+                self.words.shift(alloc, self.history.state(), ops, Way::In);
+                Err(fault)
+            }
         }
     }
 
@@ -173,7 +186,13 @@ impl Wavelet {
         ensures { OnOk result (hits.new.items ≡ hits.old.items ++ hits_for self.now user.now word.now) }
     {
         if self.is_seen_by(user) {
-            put_hits(alloc, self.history.name(), self.history.state(), word, hits)?;
+            self.words.put_hits(
+                alloc,
+                self.history.name(),
+                self.history.state(),
+                word,
+                hits,
+            )?;
         }
         Ok(())
     }
