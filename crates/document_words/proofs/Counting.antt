@@ -1,8 +1,10 @@
 -- How often words stand in documents, as the maps change.
 --     counts_at, no_counts     a count is put at a document; there is none
---     one_more, one_less       a count more or less by one
---     words_at                 a word's counts are put at it
-use Rattle.std.proofs.Common.{Less, ◌||◌, nat_lt, length, drop, get_or, drop-cons, add-one, arith, Result, Ok, Err, OnOk, ◌≡◌, ℕ, zero, suc, ◌+◌, ◌-◌, ◌<◌, ◌≤◌, Bool, true, false, cond, ◌&&◌, List, [], ◌∷◌, refl, sym, ap, subst, ◌∙◌, Option, Some, None, unwrap_or, is_some, is_eq, IsSome, true≢false}
+--     set_more, set_less       a count more or less by one
+--     value_more, value_less, value_gone, value_none, value_rest     what stands at a key, where that is counted further
+--     put_next, take_next      a word more is put in or taken out
+--     in_order, among          the documents that a word stands in
+use Rattle.std.proofs.Common.{Less, ◌||◌, nat_lt, length, drop, get_or, drop-cons, add-one, arith, Result, Ok, Err, OnOk, ◌≡◌, ℕ, ◌+◌, ◌-◌, ◌<◌, Bool, true, false, cond, ◌&&◌, List, [], ◌∷◌, refl, sym, ap, subst, ◌∙◌, Option, Some, None, unwrap_or, is_some, is_eq, IsSome, true≢false}
 use Rattle.std.specs.BTreeMap as tree
 use Rattle.std.specs.Cmp.Lexicographic.{slice_cmp, texts_ties, bytes_decides}
 use Rattle.std.specs.List.{AllByRecursion, filter, list_any}
@@ -14,10 +16,9 @@ use Rattle.std.proofs.lemmas.Map.Keys.{IsDistinct-from_sorted}
 use Rattle.std.specs.Option.{option_map_or}
 use Rattle.std.specs.Ordering.{nat_cmp, eq_by_cmp}
 use Rattle.doc_items.specs.Maps.{Key, same_text}
-use Rattle.document_words.specs.Places.{count_of, count_in}
+use Rattle.document_words.specs.Places.{count_at}
 use Rattle.document_words.specs.Words.{occurrences}
-use Rattle.document_words.specs.declared.counts.DocumentCounts.{DocumentCounts}
-use Rattle.document_words.specs.declared.places.WordPlaces.{WordPlaces}
+use Rattle.document_words.specs.declared.wavelets.WaveletCounts.{WaveletCounts}
 
 -- ---- counts by document
 
@@ -63,49 +64,72 @@ set_less f g k v h e q = h q ∙ go (same_text k q) refl
     go true t = e ∙ ap (λ z. f z - 1) ((bytes_decides k q).0 t)
     go false t = omega arith
 
--- ---- words
+-- ---- what is there
 
-abbrev pub Words : Type 0
-Words = tree.BTreeMap Key DocumentCounts
-
-abbrev pub in_words : Words → Key → Key → ℕ
-in_words m w d = option_map_or (λ c. count_of c d) (tree.get (slice_cmp nat_cmp) m w) 0
-
-picked : (b : Bool) (c o : Option DocumentCounts) (d : Key) → option_map_or (λ x. count_of x d) (cond b c o) 0 ≡ cond b (option_map_or (λ x. count_of x d) c 0) (option_map_or (λ x. count_of x d) o 0)
-picked true c o d = refl
-picked false c o d = refl
-
-pub words_at : (m n : Words) (k : Key) (c : Option DocumentCounts) → Answers m n k c → (w d : Key) → in_words n w d ≡ cond (same_text k w) (option_map_or (λ x. count_of x d) c 0) (in_words m w d)
-words_at m n k c u w d =
-    ap (λ (o : Option DocumentCounts). option_map_or (λ x. count_of x d) o 0) (u w)
-    ∙ picked (is_eq (slice_cmp nat_cmp k w)) c (tree.get (slice_cmp nat_cmp) m w) d
-    ∙ ap (λ b. cond b (option_map_or (λ x. count_of x d) c 0) (in_words m w d)) (sym (texts_ties k w))
-
--- a word's counts go from c to e
-pub word_more : (m n : Words) (k : Key) (c : Option DocumentCounts) (e : DocumentCounts) (a : Key) → tree.get (slice_cmp nat_cmp) m k ≡ c → Answers m n k (Some e)
-    → ((d : Key) → count_of e d ≡ option_map_or (λ x. count_of x d) c 0 + cond (same_text a d) 1 0)
-    → (w d : Key) → in_words n w d ≡ in_words m w d + cond (same_text k w && same_text a d) 1 0
-word_more m n k c e a g u h w d = words_at m n k (Some e) u w d ∙ go (same_text k w) refl
+pub any_there : {X : Type 0} (t : Key → Bool) (es : List (Key × X)) → list_any t (keys_of es) ≡ is_some (lookup t es)
+any_there t [] = refl
+any_there t (e ∷ es) = go (any_there t es) (t e.0)
   where
-    go : (b : Bool) → same_text k w ≡ b → cond b (count_of e d) (in_words m w d) ≡ in_words m w d + cond (b && same_text a d) 1 0
-    go true t = h d ∙ ap (λ (o : Option DocumentCounts). option_map_or (λ x. count_of x d) o 0 + cond (same_text a d) 1 0) (sym g ∙ ap (tree.get (slice_cmp nat_cmp) m) ((bytes_decides k w).0 t))
-    go false t = omega arith
+    go : list_any t (keys_of es) ≡ is_some (lookup t es) → (b : Bool) → (b || list_any t (keys_of es)) ≡ is_some (cond b (Some e.1) (lookup t es))
+    go again true = refl
+    go again false = again
 
-pub word_less : (m n : Words) (k : Key) (c : Option DocumentCounts) (e : DocumentCounts) (a : Key) → tree.get (slice_cmp nat_cmp) m k ≡ c → Answers m n k (Some e)
-    → ((d : Key) → count_of e d ≡ option_map_or (λ x. count_of x d) c 0 - cond (same_text a d) 1 0)
-    → (w d : Key) → in_words n w d ≡ in_words m w d - cond (same_text k w && same_text a d) 1 0
-word_less m n k c e a g u h w d = words_at m n k (Some e) u w d ∙ go (same_text k w) refl
-  where
-    go : (b : Bool) → same_text k w ≡ b → cond b (count_of e d) (in_words m w d) ≡ in_words m w d - cond (b && same_text a d) 1 0
-    go true t = h d ∙ ap (λ (o : Option DocumentCounts). option_map_or (λ x. count_of x d) o 0 - cond (same_text a d) 1 0) (sym g ∙ ap (tree.get (slice_cmp nat_cmp) m) ((bytes_decides k w).0 t))
-    go false t = omega arith
+none_of : {A : Type 0} (o : Option A) → is_some o ≡ false → o ≡ None
+none_of None e = refl
+none_of (Some x) e = absurd (true≢false e)
 
-pub word_gone : (m n : Words) (k : Key) (c : DocumentCounts) → tree.get (slice_cmp nat_cmp) m k ≡ Some c → Answers m n k None → ((d : Key) → count_of c d ≡ 0) → (w d : Key) → in_words n w d ≡ in_words m w d
-word_gone m n k c g u h w d = words_at m n k None u w d ∙ go (same_text k w) refl
-  where
-    go : (b : Bool) → same_text k w ≡ b → cond b 0 (in_words m w d) ≡ in_words m w d
-    go true t = sym (ap (λ (o : Option DocumentCounts). option_map_or (λ x. count_of x d) o 0) (ap (tree.get (slice_cmp nat_cmp) m) (sym ((bytes_decides k w).0 t)) ∙ g) ∙ h d)
-    go false t = refl
+none_there : {X : Type 0} (t : Key → Bool) (es : List (Key × X)) → list_any t (keys_of es) ≡ false → lookup t es ≡ None
+none_there t es h = none_of (lookup t es) (sym (any_there t es) ∙ h)
+
+-- ---- maps of what is counted further
+
+module _ {X Q : Type 0} (count : X → Q → ℕ) where
+  abbrev pub at : tree.BTreeMap Key X → Key → Q → ℕ
+  at m k q = option_map_or (λ x. count x q) (tree.get (slice_cmp nat_cmp) m k) 0
+
+  picked : (b : Bool) (c o : Option X) (q : Q) → option_map_or (λ x. count x q) (cond b c o) 0 ≡ cond b (option_map_or (λ x. count x q) c 0) (option_map_or (λ x. count x q) o 0)
+  picked true c o q = refl
+  picked false c o q = refl
+
+  pub values_at : (m n : tree.BTreeMap Key X) (k : Key) (c : Option X) → Answers m n k c → (w : Key) (q : Q) → at n w q ≡ cond (same_text k w) (option_map_or (λ x. count x q) c 0) (at m w q)
+  values_at m n k c u w q =
+      ap (λ (o : Option X). option_map_or (λ x. count x q) o 0) (u w)
+      ∙ picked (is_eq (slice_cmp nat_cmp k w)) c (tree.get (slice_cmp nat_cmp) m w) q
+      ∙ ap (λ b. cond b (option_map_or (λ x. count x q) c 0) (at m w q)) (sym (texts_ties k w))
+
+  -- what stands at a key goes from c to e
+  pub value_more : (m n : tree.BTreeMap Key X) (k : Key) (c : Option X) (e : X) (t : Q → Bool) → tree.get (slice_cmp nat_cmp) m k ≡ c → Answers m n k (Some e)
+      → ((q : Q) → count e q ≡ option_map_or (λ x. count x q) c 0 + cond (t q) 1 0) → (w : Key) (q : Q) → at n w q ≡ at m w q + cond (same_text k w && t q) 1 0
+  value_more m n k c e t g u h w q = values_at m n k (Some e) u w q ∙ go (same_text k w) refl
+    where
+      go : (b : Bool) → same_text k w ≡ b → cond b (count e q) (at m w q) ≡ at m w q + cond (b && t q) 1 0
+      go true f = h q ∙ ap (λ (o : Option X). option_map_or (λ x. count x q) o 0 + cond (t q) 1 0) (sym g ∙ ap (tree.get (slice_cmp nat_cmp) m) ((bytes_decides k w).0 f))
+      go false f = omega arith
+
+  pub value_less : (m n : tree.BTreeMap Key X) (k : Key) (c : Option X) (e : X) (t : Q → Bool) → tree.get (slice_cmp nat_cmp) m k ≡ c → Answers m n k (Some e)
+      → ((q : Q) → count e q ≡ option_map_or (λ x. count x q) c 0 - cond (t q) 1 0) → (w : Key) (q : Q) → at n w q ≡ at m w q - cond (same_text k w && t q) 1 0
+  value_less m n k c e t g u h w q = values_at m n k (Some e) u w q ∙ go (same_text k w) refl
+    where
+      go : (b : Bool) → same_text k w ≡ b → cond b (count e q) (at m w q) ≡ at m w q - cond (b && t q) 1 0
+      go true f = h q ∙ ap (λ (o : Option X). option_map_or (λ x. count x q) o 0 - cond (t q) 1 0) (sym g ∙ ap (tree.get (slice_cmp nat_cmp) m) ((bytes_decides k w).0 f))
+      go false f = omega arith
+
+  pub value_gone : (m n : tree.BTreeMap Key X) (k : Key) (c : X) → tree.get (slice_cmp nat_cmp) m k ≡ Some c → Answers m n k None → ((q : Q) → count c q ≡ 0) → (w : Key) (q : Q) → at n w q ≡ at m w q
+  value_gone m n k c g u h w q = values_at m n k None u w q ∙ go (same_text k w) refl
+    where
+      go : (b : Bool) → same_text k w ≡ b → cond b 0 (at m w q) ≡ at m w q
+      go true f = sym (ap (λ (o : Option X). option_map_or (λ x. count x q) o 0) (ap (tree.get (slice_cmp nat_cmp) m) (sym ((bytes_decides k w).0 f)) ∙ g) ∙ h q)
+      go false f = refl
+
+  pub value_none : (m : tree.BTreeMap Key X) → m.entries ≡ [] → (w : Key) (q : Q) → at m w q ≡ 0
+  value_none m e w q = ap (λ (es : List (Key × X)). option_map_or (λ x. count x q) (lookup (λ k. is_eq (slice_cmp nat_cmp w k)) es) 0) e
+
+  -- nothing stands at what isn't among the keys
+  pub value_rest : (m : tree.BTreeMap Key X) (w : Key) → list_any (eq_by_cmp (slice_cmp nat_cmp) w) (keys_of m.entries) ≡ false → (q : Q) → at m w q ≡ 0
+  value_rest m w h q = ap (λ (o : Option X). option_map_or (λ x. count x q) o 0) (none_there (eq_by_cmp (slice_cmp nat_cmp) w) m.entries h)
+
+abbrev pub by_document : WaveletCounts → Key × Key → ℕ
+by_document c q = count_at c q.0 q.1
 
 pub there_as : {A : Type 0} (o p : Option A) → o ≡ p → IsSome o → IsSome p
 there_as o p e h = subst (λ z. IsSome z) e h
@@ -136,13 +160,13 @@ less_left true false x y z t u p q r = omega arith
 less_left false true x y z t u p q r = omega arith
 less_left false false x y z t u p q r = omega arith
 
-pub put_next : (w d k a : Key) (ws : List Key) (i : ℕ) (x y u : ℕ) → i < length ws → k ≡ get_or ws i k → y ≡ x + cond (same_text k w && same_text a d) 1 0
-    → x + cond (same_text a d) (occurrences w (drop i ws)) 0 ≡ u → y + cond (same_text a d) (occurrences w (drop (i + 1) ws)) 0 ≡ u
-put_next w d k a ws i x y u h e p q = more_left (same_text a d) (same_text k w) x y _ _ u p q (next_word w k ws i h e)
+pub put_next : (w k : Key) (b : Bool) (ws : List Key) (i : ℕ) (x y u : ℕ) → i < length ws → k ≡ get_or ws i k → y ≡ x + cond (same_text k w && b) 1 0
+    → x + cond b (occurrences w (drop i ws)) 0 ≡ u → y + cond b (occurrences w (drop (i + 1) ws)) 0 ≡ u
+put_next w k b ws i x y u h e p q = more_left b (same_text k w) x y _ _ u p q (next_word w k ws i h e)
 
-pub take_next : (w d k a : Key) (ws : List Key) (i : ℕ) (x y u : ℕ) → i < length ws → k ≡ get_or ws i k → y ≡ x - cond (same_text k w && same_text a d) 1 0
-    → x - cond (same_text a d) (occurrences w (drop i ws)) 0 ≡ u → y - cond (same_text a d) (occurrences w (drop (i + 1) ws)) 0 ≡ u
-take_next w d k a ws i x y u h e p q = less_left (same_text a d) (same_text k w) x y _ _ u p q (next_word w k ws i h e)
+pub take_next : (w k : Key) (b : Bool) (ws : List Key) (i : ℕ) (x y u : ℕ) → i < length ws → k ≡ get_or ws i k → y ≡ x - cond (same_text k w && b) 1 0
+    → x - cond b (occurrences w (drop i ws)) 0 ≡ u → y - cond b (occurrences w (drop (i + 1) ws)) 0 ≡ u
+take_next w k b ws i x y u h e p q = less_left b (same_text k w) x y _ _ u p q (next_word w k ws i h e)
 
 -- ---- the documents that a word stands in
 
@@ -162,14 +186,6 @@ in_order p (e ∷ es) h = go (in_order p es h.1) (p e)
     go : IsStrictlySortedBy (slice_cmp nat_cmp) (keys_of (filter p es)) → (b : Bool) → IsStrictlySortedBy (slice_cmp nat_cmp) (keys_of (cond b (e ∷ filter p es) (filter p es)))
     go rest true = (none_below p e.0 es h.0, rest)
     go rest false = rest
-
-any_there : {X : Type 0} (t : Key → Bool) (es : List (Key × X)) → list_any t (keys_of es) ≡ is_some (lookup t es)
-any_there t [] = refl
-any_there t (e ∷ es) = go (any_there t es) (t e.0)
-  where
-    go : list_any t (keys_of es) ≡ is_some (lookup t es) → (b : Bool) → (b || list_any t (keys_of es)) ≡ is_some (cond b (Some e.1) (lookup t es))
-    go again true = refl
-    go again false = again
 
 some_above : (o : Option ℕ) → is_some (option_filter (nat_lt 0) o) ≡ nat_lt 0 (unwrap_or o 0)
 some_above None = refl

@@ -3,13 +3,12 @@
 --     occurrences-append          words are counted part by part
 --     moved_words                 how often a word stands in letters that are the same at the front and at the back
 --     at_most                     a stretch has no more
-use Rattle.std.proofs.Common.{arith, ◌≡◌, ℕ, zero, suc, ◌+◌, ◌-◌, ◌<◌, ◌≤◌, Bool, true, false, cond, nat_le, List, [], ◌∷◌, ◌++◌, length, take, drop, slice_get, min, encode_utf8, refl, sym, ap, subst, ◌∙◌, Option, Some, None, is_some, unwrap_or, true≢false}
-use Rattle.std.specs.Option.{option_map_or}
+use Rattle.std.proofs.Common.{arith, ◌≡◌, ℕ, zero, suc, ◌+◌, ◌-◌, ◌<◌, ◌≤◌, Bool, true, false, cond, nat_le, List, [], ◌∷◌, ◌++◌, length, take, drop, slice_get, encode_utf8, refl, sym, ap, subst, ◌∙◌, Option, Some, None, is_some, unwrap_or, true≢false}
 use Rattle.std.proofs.lemmas.Bool.{le-leb, leb-true}
 use Rattle.std.proofs.lemmas.List.{length-map, take-map, drop-map, length-drop, drop-drop, take-append-drop}
 use Rattle.std.proofs.Math.Seq.{take-add}
 use Rattle.doc_items.specs.Maps.{Key, same_text}
-use Rattle.document_words.specs.Stretches.{has_letter, begin_of, reach, end_of, fits, widened, stretch, IsSplit}
+use Rattle.document_words.specs.Stretches.{has_letter, begin_of, reach, end_of, widened, stretch, IsSplit}
 use Rattle.doc_items.specs.declared.item.Item.{Item}
 use Rattle.document_words.specs.Words.{CutOf, ended, letter_of, letters, occurrences, words, words_from, words_with}
 

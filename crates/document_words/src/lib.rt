@@ -6,6 +6,7 @@ mod cutter;
 mod letters;
 mod places;
 mod stretch;
+mod wavelets;
 mod word;
 
 pub use cutter::WordCutter;

@@ -54,11 +54,7 @@ fn put_new(words: &mut Vec<String>, others: Vec<String>) -> Result<(), Memory> {
 }
 
 // Puts the words of a state's documents after the others.
-fn put_words(
-    alloc: Global,
-    state: &WaveletState,
-    words: &mut Vec<String>,
-) -> Result<(), Memory> {
+fn put_words(alloc: Global, state: &WaveletState, words: &mut Vec<String>) -> Result<(), Memory> {
     for name in state.document_names(alloc)?.as_slice() {
         if let Some(document) = state.document(alloc, name)? {
             put_new(words, plain::words_of(alloc, &document)?)?;
@@ -167,6 +163,9 @@ pub fn call(alloc: Global, verb: &str, rest: &str, out: &mut String) -> Result<b
         searches,
         differ,
     } = counts;
-    write!(out, " => {deltas} deltas => {inboxes} inboxes => {searches} searches => {differ} differ")?;
+    write!(
+        out,
+        " => {deltas} deltas => {inboxes} inboxes => {searches} searches => {differ} differ"
+    )?;
     Ok(true)
 }

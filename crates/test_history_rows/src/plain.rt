@@ -159,7 +159,10 @@ fn put_line(alloc: Global, history: &History, mark: u64, out: &mut String) -> Re
     let title = first_title(alloc, history.state(), threads.as_slice())?;
     let name = history.name().text();
     let version = history.head().version;
-    Ok(write!(out, "{name} version {version} unread {unread} title {title}; ")?)
+    Ok(write!(
+        out,
+        "{name} version {version} unread {unread} title {title}; "
+    )?)
 }
 
 /// The lines of an inbox over histories that stand in byte order of their names.

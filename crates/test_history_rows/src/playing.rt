@@ -211,7 +211,10 @@ impl Play {
         }
         let moves = self.moves;
         let differ = self.differ;
-        Ok(write!(out, " => {deltas} deltas => {on} by next, {back} by back, {to} by goto => {moves} moves => {differ} differ")?)
+        Ok(write!(
+            out,
+            " => {deltas} deltas => {on} by next, {back} by back, {to} by goto => {moves} moves => {differ} differ"
+        )?)
     }
 }
 

@@ -11,7 +11,10 @@ pub fn shown_lines(alloc: Global, lines: &[InboxLine]) -> Result<String, Memory>
         let version = line.version;
         let unread = line.unread;
         let title = line.title.as_str();
-        write!(out, "{name} version {version} unread {unread} title {title}; ")?;
+        write!(
+            out,
+            "{name} version {version} unread {unread} title {title}; "
+        )?;
     }
     Ok(out)
 }

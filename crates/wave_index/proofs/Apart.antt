@@ -3,7 +3,7 @@
 --     op_apart         an operation that applies
 --     both_apart       one operation and then another
 --     run_apart        the operations of a delta
-use Rattle.std.proofs.Common.{◌⊎◌, inl, inr, arith, ◌≡◌, ℕ, zero, suc, ◌+◌, ◌-◌, ◌<◌, ◌≤◌, Bool, true, false, cond, nat_le, List, [], ◌∷◌, ◌++◌, length, take, drop, map, replicate, append-nil, refl, sym, ap, subst, ◌∙◌, Option, Some, None, unwrap_or, option_and_then, option_map}
+use Rattle.std.proofs.Common.{◌⊎◌, inl, inr, arith, ◌≡◌, ℕ, zero, suc, ◌+◌, ◌-◌, ◌<◌, ◌≤◌, Bool, true, false, cond, List, [], ◌∷◌, ◌++◌, length, take, drop, map, replicate, append-nil, refl, sym, ap, subst, ◌∙◌, Option, Some, None, unwrap_or, option_map}
 use Rattle.std.proofs.Math.Dec.{leb}
 use Rattle.std.proofs.Math.ListN.{drop_of_length-le}
 use Rattle.std.proofs.lemmas.Bool.Decides.{leb_tells}
@@ -13,14 +13,14 @@ use Rattle.doc_items.specs.Maps.{Key, same_text}
 use Rattle.doc_items.specs.declared.item.Content.{Content}
 use Rattle.doc_items.specs.declared.item.Content.TheVariants.{Character, Start, End}
 use Rattle.doc_items.specs.declared.item.Item.{Item}
-use Rattle.doc_op.specs.Actions.{AttributeChange, Unchanged, Update, Replace, Action, Keep, Ins, Del, Names, keep, insertion, deletion, new_values, old_values, actions, actions_from, component_actions, running_after}
+use Rattle.doc_op.specs.Actions.{AttributeChange, Unchanged, Update, Replace, Action, Keep, Ins, Del, Names, keep, insertion, deletion, new_values, old_values, actions, actions_from, running_after}
 use Rattle.doc_op.specs.Apply.{apply, keeps, kept, fits, put_content}
 use Rattle.doc_op.specs.declared.component.Component.{Component}
 use Rattle.doc_op.specs.declared.component.Component.TheVariants.{Retain, Characters, ElementStart, ElementEnd, DeleteCharacters, DeleteElementStart, DeleteElementEnd, ReplaceAttributes, UpdateAttributes, AnnotationBoundary}
 use Rattle.doc_op.proofs.Applying.{no_value, same_Some}
 use Rattle.document_words.specs.Stretches.{IsSplit}
 use Rattle.document_words.specs.Words.{letter_of, letters}
-use Rattle.wavelet_op.specs.Acts.{Act, Idle, Adds, Removes, Sets, Mutates, meaning, meanings}
+use Rattle.wavelet_op.specs.Acts.{Mutates, meaning, meanings}
 use Rattle.wavelet_op.specs.States.{State, document_of, with_document, is_structured, mutate, on_role, role_of, added, removed, role_set, apply_act, run}
 use Rattle.wavelet_op.specs.declared.op.WaveletOp.{WaveletOp}
 use Rattle.wavelet_op.specs.declared.op.WaveletOp.TheVariants.{NoOp, Add, Remove, Mutate, SetRole}
@@ -28,7 +28,7 @@ use Rattle.wavelet_op.specs.declared.role.Role.{Role}
 use Rattle.wavelet_op.proofs.Maps.{same_text_is, different}
 use Rattle.wavelet_op.proofs.Partial.{and_then_some}
 use Rattle.wavelet_op.proofs.Squares.{document_there, document_elsewhere}
-use Rattle.wave_index.specs.Edges.{untouched, longer, cut, step_over, edges_from, edges_of, smaller, joined, joined_with, both, edges_after, edges_over, edges_in, IsApartAt, IsApart}
+use Rattle.wave_index.specs.Edges.{untouched, longer, cut, edges_from, edges_of, smaller, joined, joined_with, both, edges_after, edges_over, edges_in, IsApartAt, IsApart}
 use Rattle.wave_index.specs.declared.edges.Edges.{Edges}
 
 abbrev pub Letters : Type 0
@@ -68,6 +68,7 @@ less_split p s q t ls ms h g x = record {
   where
     part : (n s t : ℕ) → t ≤ s → s ≤ n → (n - s) + (s - t) ≡ n - t
     part n s t g h = omega arith
+
     last_less : (ls ms : Letters) (s t : ℕ) → t ≤ s → s ≤ length ls → s ≤ length ms → drop (length ls - s) ls ≡ drop (length ms - s) ms → drop (length ls - t) ls ≡ drop (length ms - t) ms
     last_less ls ms s t g a b e =
         ap (λ n. drop n ls) (sym (part (length ls) s t g a)) ∙ sym (drop-drop (s - t) (length ls - s) ls) ∙ ap (drop (s - t)) e ∙ drop-drop (s - t) (length ms - s) ms ∙ ap (λ n. drop n ms) (part (length ms) s t g b)
@@ -83,6 +84,7 @@ split_more p s ls ms x h = record {
   where
     same : (ls x : Letters) (s : ℕ) → length (ls ++ x) - (s + length x) ≡ length ls - s
     same ls x s = let l = length-append ls x in omega arith
+
     place : (ls : Letters) (s : ℕ) → drop (length (ls ++ x) - (s + length x)) (ls ++ x) ≡ drop (length ls - s) (ls ++ x)
     place ls s = ap (λ n. drop n (ls ++ x)) (same ls x s)
 

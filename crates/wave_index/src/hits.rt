@@ -83,8 +83,8 @@ pub(crate) fn put_hits(
     Ok(())
 }
 
-/// Puts the documents of a state, but for the manifest, that have the word after the others, as the words of the state are kept. The
-/// error is want of memory.
+/// Puts the documents of a wavelet's state, but for the manifest, that have the word after the others, as words are kept. The error is
+/// want of memory.
 pub(crate) fn put_held(
     alloc: Global,
     name: &WaveletName,
@@ -93,10 +93,10 @@ pub(crate) fn put_held(
     word: &Word,
     hits: &mut Vec<Hit>,
 ) -> Result<(), Memory>
-    requires { (w d : Key) → count_in places.now w d ≡ counted state.now w d }
+    requires { (w d : Key) → count_in places.now w name.now d ≡ counted state.now w d }
     ensures { OnOk result (hits.new.items ≡ hits.old.items ++ map (hit_at name.now) (filter (is_hit state.now word.now) (keys state.now.documents))) }
 {
-    for document in places.holders(alloc, word)?.as_slice() {
+    for document in places.holders(alloc, word, name)?.as_slice() {
         let name = name.copy(alloc)?;
         let document = document.copy(alloc)?;
         hits.push(Hit { name, document })?;

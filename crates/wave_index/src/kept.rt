@@ -1,19 +1,14 @@
-// The words of a wavelet's documents, as they are kept.
-ghost use Rattle.std.specs.Prelude.{◌≡◌, ◌++◌, ◌+◌, ◌-◌, ◌<◌, ℕ, Bool, cond, map, take, length, Some, IfOk, OnOk, IfSome};
-ghost use Rattle.std.specs.FinMap.{keys};
-ghost use Rattle.std.specs.List.{filter};
+// The words of all documents, as they are kept.
+ghost use Rattle.std.specs.Prelude.{◌≡◌, ◌<◌, ℕ, ◌&&◌, cond, length, None, IfOk, OnOk, IfSome};
 ghost use Rattle.doc_items.specs.Maps.{Key, same_text};
 ghost use Rattle.document_words.specs.Places.{count_in};
 ghost use Rattle.document_words.specs.Words.{letters, occurrences};
-ghost use Rattle.wavelet_op.specs.States.{document_of, empty_state};
-ghost use Rattle.wave_index.specs.Counts.{touched_words, touched, moved, CountsAs, AreKept};
+ghost use Rattle.wavelet_op.specs.States.{document_of};
+ghost use Rattle.wave_index.specs.Counts.{touched_words, touched, moved, CountsAs};
 ghost use Rattle.wave_index.specs.Edges.{edges_in, is_first};
-ghost use Rattle.wave_index.specs.Inboxes.{is_hit, hit_at};
 
-use crate::answers::Hit;
 use crate::blips::is_manifest;
 use crate::edges::{edges_in, is_mutated};
-use crate::hits::{put_held, put_hits};
 use doc_items::Memory;
 use document_words::{Word, WordPlaces, stretch_words};
 use std::alloc::Global;
@@ -28,7 +23,7 @@ pub(crate) enum Way {
     In,
 }
 
-/// The words of the documents at the head, but for the manifest's; None after want of memory.
+/// The words of the documents at the heads of wavelets, but for the manifests'; None after want of memory.
 pub(crate) struct KeptWords {
     pub places: Option<WordPlaces>,
 }
@@ -63,17 +58,18 @@ fn move_words(
     alloc: Global,
     places: &mut WordPlaces,
     words: &[Word],
+    name: &WaveletName,
     document: &DocumentName,
     way: Way,
 ) -> Result<(), Memory>
-    ensures { OnOk result ((w d : Key) → count_in places.new w d ≡ moved way (count_in places.old w d) (cond (same_text document.now d) (occurrences w words.now) 0)) }
+    ensures { OnOk result ((w n d : Key) → count_in places.new w n d ≡ moved way (count_in places.old w n d) (cond (same_text name.now n && same_text document.now d) (occurrences w words.now) 0)) }
 {
     match way {
         Way::Out => {
-            places.take_out_all(words, document);
+            places.take_out_all(words, name, document);
             Ok(())
         }
-        Way::In => places.put_all(alloc, words, document),
+        Way::In => places.put_all(alloc, words, name, document),
     }
 }
 
@@ -81,32 +77,34 @@ fn move_words(
 fn move_document(
     alloc: Global,
     places: &mut WordPlaces,
+    name: &WaveletName,
     state: &WaveletState,
     document: &DocumentName,
     ops: &[WaveletOp],
     way: Way,
 ) -> Result<(), Memory>
-    ensures { OnOk result ((w d : Key) → count_in places.new w d ≡ moved way (count_in places.old w d) (cond (same_text document.now d) (touched state.now ops.now w d) 0)) }
+    ensures { OnOk result ((w n d : Key) → count_in places.new w n d ≡ moved way (count_in places.old w n d) (cond (same_text name.now n && same_text document.now d) (touched state.now ops.now w d) 0)) }
 {
     if is_manifest(document) {
         return Ok(());
     }
     let words = touched_words(alloc, state, document, ops)?;
-    move_words(alloc, places, words.as_slice(), document, way)
+    move_words(alloc, places, words.as_slice(), name, document, way)
 }
 
 // So of the document that the operation at a place is the first of all to be on.
 fn move_first(
     alloc: Global,
     places: &mut WordPlaces,
+    name: &WaveletName,
     state: &WaveletState,
     ops: &[WaveletOp],
     place: usize,
     way: Way,
 ) -> Result<(), Memory>
     requires { place < length ops.now }
-    ensures { OnOk result ((w d : Key) → count_in places.new w d
-        ≡ moved way (count_in places.old w d) (cond (is_first d ops.now place) (touched state.now ops.now w d) 0)) }
+    ensures { OnOk result ((w n d : Key) → count_in places.new w n d
+        ≡ moved way (count_in places.old w n d) (cond (same_text name.now n && is_first d ops.now place) (touched state.now ops.now w d) 0)) }
 {
     let WaveletOp::Mutate { document, .. } = &ops[place] else {
         return Ok(());
@@ -114,21 +112,22 @@ fn move_first(
     if is_mutated(document, &ops[..place]) {
         return Ok(());
     }
-    move_document(alloc, places, state, document, ops, way)
+    move_document(alloc, places, name, state, document, ops, way)
 }
 
 // The words of what operations touch are taken out or put in.
 fn move_all(
     alloc: Global,
     places: &mut WordPlaces,
+    name: &WaveletName,
     state: &WaveletState,
     ops: &[WaveletOp],
     way: Way,
 ) -> Result<(), Memory>
-    ensures { OnOk result ((w d : Key) → count_in places.new w d ≡ moved way (count_in places.old w d) (touched state.now ops.now w d)) }
+    ensures { OnOk result ((w n d : Key) → count_in places.new w n d ≡ moved way (count_in places.old w n d) (cond (same_text name.now n) (touched state.now ops.now w d) 0)) }
 {
     for place in 0..ops.len() {
-        move_first(alloc, places, state, ops, place, way)?;
+        move_first(alloc, places, name, state, ops, place, way)?;
     }
     Ok(())
 }
@@ -137,52 +136,51 @@ fn move_all(
 fn shifted(
     alloc: Global,
     mut places: WordPlaces,
+    name: &WaveletName,
     state: &WaveletState,
     ops: &[WaveletOp],
     way: Way,
 ) -> Option<WordPlaces>
-    ensures { IfSome result (λ p. (w d : Key) → count_in p w d ≡ moved way (count_in places w d) (touched state.now ops.now w d)) }
+    ensures { IfSome result (λ p. (w n d : Key) → count_in p w n d ≡ moved way (count_in places w n d) (cond (same_text name.now n) (touched state.now ops.now w d) 0)) }
 {
-    match move_all(alloc, &mut places, state, ops, way) {
+    match move_all(alloc, &mut places, name, state, ops, way) {
         Ok(()) => Some(places),
         Err(_) => None,
     }
 }
 
 impl KeptWords {
-    /// Those of a wavelet without deltas.
+    /// Those of no wavelet.
     pub fn new(alloc: Global) -> KeptWords
-        ensures { AreKept result.places empty_state }
+        ensures { CountsAs result.places (λ w n d. 0) }
     {
         KeptWords {
             places: Some(WordPlaces::new(alloc)),
         }
     }
 
-    /// The words of what operations touch of a state's documents are taken out or put in. Nothing is kept after want of memory.
-    pub fn shift(&mut self, alloc: Global, state: &WaveletState, ops: &[WaveletOp], way: Way)
-        ensures { (f : Key → Key → ℕ) → CountsAs self.old.places f → CountsAs self.new.places (λ w d. moved way (f w d) (touched state.now ops.now w d)) }
+    /// None are kept.
+    pub fn none() -> KeptWords
+        ensures { result.places ≡ None }
     {
-        if let Some(places) = self.places.take() {
-            self.places = shifted(alloc, places, state, ops, way);
-        }
+        KeptWords { places: None }
     }
 
-    /// Puts the documents, but for the manifest, that have the word after the others. The error is want of memory.
-    pub fn put_hits(
-        &self,
+    /// The words of what operations touch of the documents of a wavelet at a state are taken out or put in. None are kept after want
+    /// of memory.
+    pub fn shift(
+        &mut self,
         alloc: Global,
         name: &WaveletName,
         state: &WaveletState,
-        word: &Word,
-        hits: &mut Vec<Hit>,
-    ) -> Result<(), Memory>
-        requires { AreKept self.now.places state.now }
-        ensures { OnOk result (hits.new.items ≡ hits.old.items ++ map (hit_at name.now) (filter (is_hit state.now word.now) (keys state.now.documents))) }
+        ops: &[WaveletOp],
+        way: Way,
+    )
+        ensures { (f : Key → Key → Key → ℕ) → CountsAs self.old.places f
+            → CountsAs self.new.places (λ w n d. moved way (f w n d) (cond (same_text name.now n) (touched state.now ops.now w d) 0)) }
     {
-        match &self.places {
-            Some(places) => put_held(alloc, name, state, places, word, hits),
-            None => put_hits(alloc, name, state, word, hits),
+        if let Some(places) = self.places.take() {
+            self.places = shifted(alloc, places, name, state, ops, way);
         }
     }
 }

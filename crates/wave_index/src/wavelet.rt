@@ -1,29 +1,32 @@
 // A wavelet of an index.
-ghost use Rattle.std.specs.Prelude.{◌≡◌, ◌++◌, ◌∷◌, [], IfOk, IfErr, OnOk, OnErr};
+ghost use Rattle.std.specs.Prelude.{◌≡◌, ◌++◌, ◌∷◌, [], ℕ, cond, IfOk, IfErr, OnOk, OnErr};
+ghost use Rattle.doc_items.specs.Maps.{Key, same_text};
+ghost use Rattle.document_words.specs.Places.{count_in};
 ghost use Rattle.delta_history.specs.Pushes.{IsRefused};
 ghost use Rattle.wave_index.specs.Blips.{named_version, is_unread, unread};
 ghost use Rattle.wave_index.specs.Changes.{end_of_delta};
+ghost use Rattle.wave_index.specs.Counts.{counted, CountsAs, IsOf};
 ghost use Rattle.wave_index.specs.Inboxes.{sees, line, line_for, hits_for};
-ghost use Rattle.wave_index.specs.Taken.{history_of};
+ghost use Rattle.wave_index.specs.Taken.{history_of, point_of};
 
 use crate::answers::{Hit, InboxLine};
 use crate::blips::{is_live, threads, title_of};
 use crate::changed::ChangedVersions;
+use crate::hits::{put_held, put_hits};
 use crate::kept::{KeptWords, Way};
 use conversation::{Id, Node};
 use delta_history::{History, HistoryFault};
 use doc_items::Memory;
-use document_words::Word;
+use document_words::{Word, WordPlaces};
 use std::alloc::{AllocError, Global};
 use std::marker::Model;
 use wave_base::{Address, BaseFault, DocumentName, WaveletName};
 use wavelet_op::AppliedDelta;
 
-/// A history, with the changed versions and the words of its documents.
+/// A history, with the changed versions of its documents.
 pub(crate) struct Wavelet {
     history: History,
     changed: ChangedVersions,
-    words: KeptWords,
 }
 
 impl Drop for Wavelet {
@@ -31,7 +34,6 @@ impl Drop for Wavelet {
         let Wavelet {
             history: _history,
             changed: _changed,
-            words: _words,
         } = self;
     }
 }
@@ -39,8 +41,6 @@ impl Drop for Wavelet {
 impl Model for Wavelet {
     ghost use Rattle.wavelet_op.specs.contracts.delta.AppliedDelta as delta_row;
     ghost use Rattle.wave_index.specs.Taken.{TakenOf, taken_code};
-    ghost use Rattle.delta_history.specs.Histories.{head_of};
-    ghost use Rattle.wave_index.specs.Counts.{AreKept};
     ghost use Rattle.wave_index.specs.Versions.{KeepsVersions};
 
     ghost Value = { TakenOf };
@@ -49,7 +49,7 @@ impl Model for Wavelet {
 
     ghost view = { λ w. record { name = w.history.name; deltas = w.history.deltas } };
 
-    ghost invariant = { λ w. record { versions : KeepsVersions w.changed.map w.history.deltas; words : AreKept w.words.places (head_of w.history).state } };
+    ghost invariant = { λ w. KeepsVersions w.changed.map w.history.deltas };
 }
 
 // The version after a delta.
@@ -68,33 +68,59 @@ impl Wavelet {
         Wavelet {
             history: History::new(alloc, name),
             changed: ChangedVersions::new(alloc),
-            words: KeptWords::new(alloc),
         }
     }
 
-    /// The delta is after the others. The refusals are those of `push_applied`; after one, and after want of memory, the wavelet is as
-    /// it was.
-    pub fn take(&mut self, alloc: Global, delta: &AppliedDelta) -> Result<(), HistoryFault>
+    /// The delta is after the others, and the words that are kept of all wavelets go with it. The refusals are those of `push_applied`;
+    /// after one, and after want of memory, the wavelet is as it was.
+    pub fn take(
+        &mut self,
+        alloc: Global,
+        delta: &AppliedDelta,
+        words: &mut KeptWords,
+    ) -> Result<(), HistoryFault>
         ensures ok { OnOk result (self.new ≡ record { name = self.old.name; deltas = self.old.deltas ++ delta.now ∷ [] }) }
         ensures refused { IfErr result (IsRefused (history_of self.old) delta.now) }
         ensures same { OnErr result (self.new ≡ self.old) }
         ensures named { self.new.name ≡ self.old.name }
+        ensures words_ok { OnOk result ((f : Key → Key → Key → ℕ) → IsOf f self.old.name (point_of self.old).state → CountsAs words.old.places f
+            → CountsAs words.new.places (λ w n d. cond (same_text self.old.name n) (counted (point_of self.new).state w d) (f w n d))) }
+        ensures words_err { OnErr result ((f : Key → Key → Key → ℕ) → IsOf f self.old.name (point_of self.old).state → CountsAs words.old.places f
+            → CountsAs words.new.places f) }
     {
         let end = end_of(delta);
         let ops = delta.ops.as_slice();
         self.changed.reserve_all(alloc, ops)?;
         let copy = delta.copy(alloc)?;
-        self.words.shift(alloc, self.history.state(), ops, Way::Out);
+        words.shift(
+            alloc,
+            self.history.name(),
+            self.history.state(),
+            ops,
+            Way::Out,
+        );
         match self.history.push_applied(alloc, copy) {
             Ok(()) => {
                 // The history is legal.
                 let _deltas = self.history.deltas();
                 self.changed.note_all(ops, end);
-                self.words.shift(alloc, self.history.state(), ops, Way::In);
+                words.shift(
+                    alloc,
+                    self.history.name(),
+                    self.history.state(),
+                    ops,
+                    Way::In,
+                );
                 Ok(())
             }
             Err(fault) => {
-                self.words.shift(alloc, self.history.state(), ops, Way::In);
+                words.shift(
+                    alloc,
+                    self.history.name(),
+                    self.history.state(),
+                    ops,
+                    Way::In,
+                );
                 Err(fault)
             }
         }
@@ -175,7 +201,8 @@ impl Wavelet {
         Ok(())
     }
 
-    /// Puts the documents that have the word, if the user is a participant, after the others. The error is want of memory.
+    /// Puts the documents that have the word, if the user is a participant, after the others. The documents are read for it. The error
+    /// is want of memory.
     pub fn put_hits(
         &self,
         alloc: Global,
@@ -186,13 +213,26 @@ impl Wavelet {
         ensures { OnOk result (hits.new.items ≡ hits.old.items ++ hits_for self.now user.now word.now) }
     {
         if self.is_seen_by(user) {
-            self.words.put_hits(
-                alloc,
-                self.history.name(),
-                self.history.state(),
-                word,
-                hits,
-            )?;
+            put_hits(alloc, self.history.name(), self.history.state(), word, hits)?;
+        }
+        Ok(())
+    }
+
+    /// As `put_hits`, by the words that are kept.
+    pub fn put_held(
+        &self,
+        alloc: Global,
+        user: &Address,
+        places: &WordPlaces,
+        word: &Word,
+        hits: &mut Vec<Hit>,
+    ) -> Result<(), Memory>
+        requires { (w d : Key) → count_in places.now w self.now.name d ≡ counted (point_of self.now).state w d }
+        ensures { OnOk result (hits.new.items ≡ hits.old.items ++ hits_for self.now user.now word.now) }
+    {
+        if self.is_seen_by(user) {
+            let history = &self.history;
+            put_held(alloc, history.name(), history.state(), places, word, hits)?;
         }
         Ok(())
     }

@@ -1,5 +1,5 @@
-use Rattle.std.proofs.Common.{◌≡◌, List, IfOk, ap, subst, sym, ◌∙◌}
-use Rattle.document_words.specs.Words.{letters, words}
+use Rattle.std.proofs.Common.{◌≡◌, IfOk, subst, sym, ◌∙◌}
+use Rattle.document_words.specs.Words.{words}
 use Rattle.document_words.proofs.Stretching.{Letters, widened_items, unfit_items}
 use Rattle.document_words.proofs.stretch.stretch_words.Goals as goal
 

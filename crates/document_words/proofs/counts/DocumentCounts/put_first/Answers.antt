@@ -1,4 +1,4 @@
-use Rattle.std.proofs.Common.{Some, ◌≡◌, ap, subst, ◌∙◌, ℕ, cond}
+use Rattle.std.proofs.Common.{Some, ap, ◌∙◌, cond}
 use Rattle.doc_items.specs.Maps.{Key, same_text}
 use Rattle.document_words.specs.Places.{count_of}
 use Rattle.document_words.proofs.Counting.{counts_at}

@@ -1,4 +1,4 @@
-use Rattle.std.proofs.Common.{Some, sym, subst, ◌∙◌, ◌<◌, unwrap_or, Option, ap}
+use Rattle.std.proofs.Common.{Some}
 use Rattle.document_words.proofs.Counting.{counts_at, there_of}
 use Rattle.document_words.proofs.counts.DocumentCounts.set.Goals as goal
 
