@@ -3,7 +3,7 @@
 --     occurrences-append          words are counted part by part
 --     moved_words                 how often a word stands in letters that are the same at the front and at the back
 --     at_most                     a stretch has no more
-use Rattle.std.proofs.Common.{arith, ◌≡◌, ℕ, zero, suc, ◌+◌, ◌-◌, ◌<◌, ◌≤◌, Bool, true, false, cond, nat_le, List, [], ◌∷◌, ◌++◌, length, take, drop, slice_get, encode_utf8, refl, sym, ap, subst, ◌∙◌, Option, Some, None, is_some, unwrap_or, true≢false}
+use Rattle.std.proofs.Common.{append-nil, arith, ◌≡◌, ℕ, zero, suc, ◌+◌, ◌-◌, ◌<◌, ◌≤◌, Bool, true, false, cond, nat_le, List, [], ◌∷◌, ◌++◌, length, take, drop, slice_get, encode_utf8, refl, sym, ap, subst, ◌∙◌, Option, Some, None, is_some, unwrap_or, true≢false}
 use Rattle.std.proofs.lemmas.Bool.{le-leb, leb-true}
 use Rattle.std.proofs.lemmas.List.{length-map, take-map, drop-map, length-drop, drop-drop, take-append-drop}
 use Rattle.std.proofs.Math.Seq.{take-add}
@@ -23,10 +23,6 @@ same_item {x} e = ap (λ o. unwrap_or o x) e
 
 -- ---- one break
 
-append-assoc' : (a b c : List Key) → (a ++ b) ++ c ≡ a ++ (b ++ c)
-append-assoc' [] b c = refl
-append-assoc' (x ∷ a) b c = ap (λ l. x ∷ l) (append-assoc' a b c)
-
 ended_before : (v : Key) (a b : List Key) → ended v (a ++ b) ≡ ended v a ++ b
 ended_before [] a b = refl
 ended_before (x ∷ v) a b = refl
@@ -37,13 +33,9 @@ words_break v [] b = ended_before v [] (words b)
 words_break v (None ∷ a) b = ap (ended v) (words_break [] a b) ∙ ended_before v (words_from [] a) (words b)
 words_break v (Some c ∷ a) b = words_break (v ++ encode_utf8 c) a b
 
-append_none : (a : List Key) → a ++ [] ≡ a
-append_none [] = refl
-append_none (x ∷ a) = ap (λ l. x ∷ l) (append_none a)
-
 -- a break at the end is no word
 words_broken : (a : Letters) → words (a ++ None ∷ []) ≡ words a
-words_broken a = words_break [] a [] ∙ append_none (words a)
+words_broken a = words_break [] a [] ∙ append-nil (words a)
 
 -- ---- where a word begins
 
@@ -80,7 +72,7 @@ begin_before ls (suc n) = go (begin_before ls n) (has_letter ls n)
 -- ---- where a word ends
 
 reached : (v : Key) (xs : Letters) → words_from v xs ≡ words_from v (take (reach xs) xs) ++ words (drop (reach xs) xs)
-reached v [] = sym (append_none (ended v []))
+reached v [] = sym (append-nil (ended v []))
 reached v (None ∷ xs) = ended_before v [] (words xs)
 reached v (Some c ∷ xs) = reached (v ++ encode_utf8 c) xs
 
@@ -201,7 +193,7 @@ begin_taken : (ls : Letters) (k n : ℕ) → n ≤ k → begin_of (take k ls) n 
 begin_taken ls k zero h = refl
 begin_taken ls k (suc n) h = (λ i. cond (letter_taken ls k n (omega arith) i) (begin_taken ls k n (omega arith) i) (suc n))
 
-take_twice : (ls : Letters) (n k : ℕ) → n ≤ k → take n (take k ls) ≡ take n ls
+pub take_twice : (ls : Letters) (n k : ℕ) → n ≤ k → take n (take k ls) ≡ take n ls
 take_twice ls zero k h = refl
 take_twice ls (suc n) zero h = absurd (omega arith)
 take_twice [] (suc n) (suc k) h = refl

@@ -20,6 +20,7 @@ use Rattle.doc_op.specs.declared.component.Component.TheVariants.{Retain, Charac
 use Rattle.doc_op.proofs.Applying.{no_value, same_Some}
 use Rattle.document_words.specs.Stretches.{IsSplit}
 use Rattle.document_words.specs.Words.{letter_of, letters}
+use Rattle.document_words.proofs.Stretching.{Letters, take_twice}
 use Rattle.wavelet_op.specs.Acts.{Mutates, meaning, meanings}
 use Rattle.wavelet_op.specs.States.{State, document_of, with_document, is_structured, mutate, on_role, role_of, added, removed, role_set, apply_act, run}
 use Rattle.wavelet_op.specs.declared.op.WaveletOp.{WaveletOp}
@@ -31,9 +32,6 @@ use Rattle.wavelet_op.proofs.Squares.{document_there, document_elsewhere}
 use Rattle.wave_index.specs.Edges.{untouched, longer, cut, edges_from, edges_of, smaller, joined, joined_with, both, edges_after, edges_over, edges_in, IsApartAt, IsApart}
 use Rattle.wave_index.specs.declared.edges.Edges.{Edges}
 
-abbrev pub Letters : Type 0
-Letters = List (Option ℕ)
-
 -- ---- numbers and lists
 
 smaller_by : (a b : ℕ) → ((leb a b ≡ true) × (a ≤ b)) ⊎ ((leb a b ≡ false) × (b < a)) → (smaller a b ≤ a) × (smaller a b ≤ b)
@@ -42,12 +40,6 @@ smaller_by a b (inr t) = subst (λ (c : Bool). (cond c a b ≤ a) × (cond c a b
 
 smaller_than : (a b : ℕ) → (smaller a b ≤ a) × (smaller a b ≤ b)
 smaller_than a b = smaller_by a b (leb_tells a b)
-
-take_less : (xs : Letters) (n k : ℕ) → n ≤ k → take n (take k xs) ≡ take n xs
-take_less xs zero k h = refl
-take_less xs (suc n) zero h = absurd (omega arith)
-take_less [] (suc n) (suc k) h = refl
-take_less (x ∷ xs) (suc n) (suc k) h = ap (λ z. x ∷ z) (take_less xs n k (omega arith))
 
 -- ---- on the way
 
@@ -62,7 +54,7 @@ less_split : (p s q t : ℕ) (ls ms : Letters) → q ≤ p → t ≤ s → IsSpl
 less_split p s q t ls ms h g x = record {
   fits = let f = x.fits in omega arith;
   also = let f = x.also in omega arith;
-  front = sym (take_less ls q p h) ∙ ap (take q) x.front ∙ take_less ms q p h;
+  front = sym (take_twice ls q p h) ∙ ap (take q) x.front ∙ take_twice ms q p h;
   back = last_less ls ms s t g (let f = x.fits in omega arith) (let f = x.also in omega arith) x.back;
 }
   where

@@ -30,7 +30,7 @@ use Rattle.document_words.specs.Places.{count_in}
 use Rattle.document_words.specs.Stretches.{stretch, fits, widened}
 use Rattle.document_words.specs.Words.{letters, words, document_words, occurrences}
 use Rattle.document_words.specs.declared.places.WordPlaces.{WordPlaces}
-use Rattle.document_words.proofs.Stretching.{moved_words, at_most}
+use Rattle.document_words.proofs.Stretching.{Letters, moved_words, at_most}
 use Rattle.wavelet_op.specs.Acts.{meanings}
 use Rattle.wavelet_op.specs.States.{State, empty_state, document_of, kept, run}
 use Rattle.wavelet_op.specs.declared.op.WaveletOp.{WaveletOp}
@@ -51,7 +51,7 @@ use Rattle.wave_index.specs.declared.answers.Hit.{Hit}
 use Rattle.wave_index.specs.declared.edges.Edges.{Edges}
 use Rattle.wave_index.specs.declared.kept.Way.{Way}
 use Rattle.wave_index.specs.declared.kept.Way.TheVariants.{Out, In}
-use Rattle.wave_index.proofs.Apart.{Letters, run_apart}
+use Rattle.wave_index.proofs.Apart.{run_apart}
 
 -- ---- which operation is the first on a document
 

@@ -5,4 +5,3 @@ mod Keeping
 mod Taken
 mod Titles
 mod Versions
-mod Walks
