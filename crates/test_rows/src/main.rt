@@ -1,7 +1,7 @@
 //! Rows of text, each with what a public call answers to it.
 //!
 //! Each line of standard input is printed again, with the answer after it. A line that is empty or begins with `#` stays as it is.
-//! `test_op_rows`, `test_undo_rows`, `test_wavelet_rows` and `test_talk_rows` say which verbs there are.
+//! `test_op_rows`, `test_undo_rows`, `test_wavelet_rows`, `test_history_rows` and `test_talk_rows` say which verbs there are.
 #![tactic(auto)]
 
 use std::alloc::{AllocError, Global};
@@ -30,6 +30,13 @@ fn above(alloc: Global, row: &str) -> Result<Option<String>, AllocError> {
     }
 }
 
+fn asked(alloc: Global, row: &str) -> Result<Option<String>, AllocError> {
+    match test_history_rows::answer(alloc, row) {
+        Ok(answer) => Ok(answer),
+        Err(fault) => Ok(Some(format!(in alloc; " => {fault:?}")?)),
+    }
+}
+
 // Rows of these verbs leave something for the rows after them.
 fn talked(alloc: Global, talk: &mut Talk, row: &str) -> Result<Option<String>, AllocError> {
     match talk.answer(alloc, row) {
@@ -47,6 +54,9 @@ fn answer(alloc: Global, talk: &mut Talk, row: &str) -> Result<String, AllocErro
         return Ok(answer);
     }
     if let Some(answer) = above(alloc, row)? {
+        return Ok(answer);
+    }
+    if let Some(answer) = asked(alloc, row)? {
         return Ok(answer);
     }
     if let Some(answer) = talked(alloc, talk, row)? {

@@ -7,20 +7,19 @@ use Rattle.std.proofs.Common.{◌≡◌, ◌+◌, ◌<◌, ◌≤◌, ℕ, zero,
 use Rattle.std.specs.List.{list_any, list_all}
 use Rattle.std.proofs.Math.ListN.{drop_of_length-le}
 use Rattle.std.proofs.lemmas.List.Folds.{list_any-append}
-use Rattle.std.proofs.lemmas.Bool.{and_parts, and_from}
 use Rattle.doc_items.specs.Changes.{ChangeSet, none_running}
 use Rattle.doc_items.specs.Maps.{Key}
 use Rattle.doc_items.proofs.Maps.{or_false}
 use Rattle.change_view.specs.Sets.{same_changes}
 use Rattle.change_view.specs.Texts.{boundary_between}
 use Rattle.change_view.proofs.Sets.{same_changes-is, same_changes-refl}
-use Rattle.doc_op.specs.Actions.{AttributeChange, Unchanged, Update, Replace, Action, Keep, Ins, Del, keep, actions, actions_from}
+use Rattle.doc_op.specs.Actions.{Unchanged, Update, Replace, Action, Keep, Ins, Del, keep, actions}
 use Rattle.doc_op.specs.Normal.{normal_form, normal_from, in_front}
 use Rattle.doc_op.specs.declared.component.Component.{Component}
 use Rattle.doc_op.specs.declared.component.Component.TheVariants.{Retain, Characters, ElementStart, ElementEnd, DeleteCharacters, DeleteElementStart, DeleteElementEnd, ReplaceAttributes, UpdateAttributes, AnnotationBoundary}
 use Rattle.wavelet_op.specs.Deltas.{DeltaOf}
 use Rattle.delta_history.specs.Points.{acts_of}
-use Rattle.wave_index.specs.Changes.{is_idle, changes_by, is_changed, end_of_delta, changed_from, changed_version}
+use Rattle.wave_index.specs.Changes.{is_idle, changes_by, is_changed, end_of_delta, changed_from}
 use Rattle.wave_index.specs.Versions.{is_retain}
 
 idle_none : not (same_changes none_running none_running) ≡ false

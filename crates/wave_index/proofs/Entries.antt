@@ -3,7 +3,7 @@
 --     set-entries      a change at one key
 --     entries-entries  the entries, in their order
 --     absent, written, lent     a write to an entry that is there
-use Rattle.std.proofs.Common.{Less, ◌≡◌, ℕ, suc, cond, List, [], ◌∷◌, length, refl, sym, ap, ◌∙◌, Option, None, Some, BTreeMap, is_eq, IsSome, arith, subst, true≢false}
+use Rattle.std.proofs.Common.{Less, ◌≡◌, cond, List, [], ◌∷◌, length, refl, sym, ap, ◌∙◌, Option, None, Some, BTreeMap, is_eq, IsSome, arith, subst, true≢false}
 use Rattle.std.specs.Ordering.{nat_cmp, eq_by_cmp}
 use Rattle.std.specs.Cmp.Lexicographic.{slice_cmp}
 use Rattle.std.specs.List.Sorted.{IsStrictlySortedBy}

@@ -1,6 +1,7 @@
+mod Apart
 mod Changes
 mod Entries
+mod Keeping
 mod Taken
 mod Titles
 mod Versions
-mod Walks

@@ -6,13 +6,13 @@
 --     named_get         a history stands at its own name
 --     named_insert, put_itself, with_next, with_first    the histories after a delta
 --     ok_to, err_to     where a call is done, or refused
-use Rattle.std.proofs.Common.{◌≡◌, ◌≢◌, ℕ, Bool, true, false, cond, List, [], ◌∷◌, ◌++◌, refl, sym, ap, subst, ◌∙◌, Option, Some, None, Result, Ok, Err, OnOk, OnErr, IfErr, IfSome, IsSome}
+use Rattle.std.proofs.Common.{◌≡◌, ℕ, Bool, true, false, cond, List, [], ◌∷◌, ◌++◌, refl, sym, ap, subst, ◌∙◌, Option, Some, None, Result, Ok, Err, OnOk, OnErr, IfErr, IfSome}
 use Rattle.std.specs.Option.{option_map_or}
-use Rattle.std.specs.Ordering.{nat_cmp, eq_by_cmp}
+use Rattle.std.specs.Ordering.{nat_cmp}
 use Rattle.std.specs.Cmp.Lexicographic.{slice_cmp}
 use Rattle.std.specs.FinMap.{get, empty, insert, get-insert, get-empty}
 use Rattle.std.proofs.lemmas.Cmp.{nat_list_cmp_total}
-use Rattle.doc_items.specs.Maps.{Key, Map}
+use Rattle.doc_items.specs.Maps.{Key}
 use Rattle.doc_items.proofs.Maps.{tie, tied, alike}
 use Rattle.wavelet_op.specs.Deltas.{DeltaOf}
 use Rattle.delta_history.specs.Histories.{HistoryOf, IsSameHistory, IsGrown}
@@ -21,7 +21,7 @@ use Rattle.delta_history.specs.Pushes.{IsRefused}
 use Rattle.delta_history.specs.declared.fault.HistoryFault.{HistoryFault}
 use Rattle.delta_history.specs.declared.fault.HistoryFault.TheVariants.{NotNext, NotLegal, Memory}
 use Rattle.wave_index.specs.Changes.{is_changed, end_of_delta, changed_version}
-use Rattle.wave_index.specs.Taken.{TakenOf, Histories, history_of, deltas_in, history_in, with_delta, AreNamed}
+use Rattle.wave_index.specs.Taken.{TakenOf, Histories, history_of, deltas_in, with_delta, AreNamed}
 use Rattle.wave_index.specs.Versions.{Versions, version_in, KeepsAll, KeepsVersions}
 use Rattle.wave_index.proofs.Changes.{version_more}
 

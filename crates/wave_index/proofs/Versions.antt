@@ -4,7 +4,7 @@
 --     unchanged         nothing is put
 --     stays             what there is room for stays
 --     note_next, noted_all    an operation more is noted
-use Rattle.std.proofs.Common.{◌≡◌, ℕ, zero, suc, ◌+◌, ◌<◌, ◌≤◌, Bool, true, false, cond, ◌||◌, List, [], ◌∷◌, length, drop, get_or, drop-cons, add-one, refl, sym, ap, subst, ◌∙◌, Option, Some, None, unwrap_or, is_some, is_eq, IsSome, true≢false}
+use Rattle.std.proofs.Common.{◌≡◌, ℕ, ◌+◌, ◌<◌, ◌≤◌, Bool, true, false, cond, ◌||◌, List, ◌∷◌, length, drop, get_or, drop-cons, add-one, refl, sym, ap, subst, ◌∙◌, Option, Some, None, unwrap_or, is_some, is_eq, IsSome, true≢false}
 use Rattle.std.specs.BTreeMap as tree
 use Rattle.std.specs.Cmp.Lexicographic.{slice_cmp, texts_ties, bytes_decides}
 use Rattle.std.specs.List.{All}
@@ -13,15 +13,12 @@ use Rattle.std.specs.Ordering.{nat_cmp}
 use Rattle.std.proofs.Math.ListN.{drop_of_length-le}
 use Rattle.std.proofs.lemmas.List.Elements.{All-weaker}
 use Rattle.doc_items.specs.Maps.{Key, same_text}
+use Rattle.document_words.proofs.Counting.{counts_at}
 use Rattle.wavelet_op.specs.Acts.{meaning, meanings}
 use Rattle.wavelet_op.specs.declared.op.WaveletOp.{WaveletOp}
 use Rattle.wavelet_op.specs.declared.op.WaveletOp.TheVariants.{NoOp, Add, Remove, Mutate, SetRole}
 use Rattle.wave_index.specs.Changes.{changes, is_changed}
 use Rattle.wave_index.specs.Versions.{Versions, version_in, IsThere, KeepsAll, HasRoom}
-
-chosen : (b : Bool) (v : ℕ) (o : Option ℕ) → unwrap_or (cond b (Some v) o) 0 ≡ cond b v (unwrap_or o 0)
-chosen true v o = refl
-chosen false v o = refl
 
 there_still : (b : Bool) (v : ℕ) (o : Option ℕ) → IsSome o → IsSome (cond b (Some v) o)
 there_still true v o h = refl
@@ -32,7 +29,7 @@ abbrev pub Answers : Versions → Versions → Key → ℕ → Type 0
 Answers m n k v = (q : Key) → tree.get (slice_cmp nat_cmp) n q ≡ cond (is_eq (slice_cmp nat_cmp k q)) (Some v) (tree.get (slice_cmp nat_cmp) m q)
 
 pub put_version : (m n : Versions) (k : Key) (v : ℕ) → Answers m n k v → (q : Key) → version_in n q ≡ cond (same_text k q) v (version_in m q)
-put_version m n k v u q = ap (λ (o : Option ℕ). unwrap_or o 0) (u q) ∙ chosen (is_eq (slice_cmp nat_cmp k q)) v (tree.get (slice_cmp nat_cmp) m q) ∙ ap (λ b. cond b v (version_in m q)) (sym (texts_ties k q))
+put_version m n k v u q = counts_at m n k (Some v) u q
 
 pub put_stays : (m n : Versions) (k : Key) (v : ℕ) → Answers m n k v → (q : Key) → IsThere m q → IsThere n q
 put_stays m n k v u q h = subst (λ (o : Option ℕ). IsSome o) (sym (u q)) (there_still (is_eq (slice_cmp nat_cmp k q)) v (tree.get (slice_cmp nat_cmp) m q) h)

@@ -7,7 +7,7 @@
 --     title_of s ns          the title of the first blip that isn't deleted; empty where there is none
 --     is_unread ds mark n    a blip that isn't deleted, and whose document changed after the mark
 --     unread ds mark ns      how many there are
-use Rattle.std.specs.Prelude.{ℕ, ◌+◌, Bool, true, false, cond, ◌&&◌, not, nat_lt, codes, List, [], ◌∷◌}
+use Rattle.std.specs.Prelude.{ℕ, ◌+◌, Bool, false, cond, ◌&&◌, not, nat_lt, codes, List, [], ◌∷◌}
 use Rattle.doc_items.specs.Maps.{Key}
 use Rattle.doc_items.specs.declared.item.Item.{Item}
 use Rattle.wave_base.specs.Grammar.{is_id}

@@ -5,12 +5,12 @@
 --     end_of_delta d           the version after a delta
 --     changed_from d v ds      the changed version of a document after deltas, where it was v before them
 --     changed_version d ds     so from the start on; 0 where no delta changes it
-use Rattle.std.specs.Prelude.{ℕ, ◌+◌, Bool, true, false, cond, ◌&&◌, ◌||◌, not, List, [], ◌∷◌, length}
+use Rattle.std.specs.Prelude.{ℕ, ◌+◌, Bool, false, cond, ◌&&◌, ◌||◌, not, List, [], ◌∷◌, length}
 use Rattle.std.specs.List.{list_any}
 use Rattle.doc_items.specs.Changes.{none_running}
 use Rattle.doc_items.specs.Maps.{Key, same_text}
 use Rattle.change_view.specs.Sets.{same_changes}
-use Rattle.doc_op.specs.Actions.{AttributeChange, Unchanged, Update, Replace, Action, Keep, Ins, Del}
+use Rattle.doc_op.specs.Actions.{Unchanged, Update, Replace, Action, Keep, Ins, Del}
 use Rattle.wavelet_op.specs.Acts.{Act, Idle, Adds, Removes, Sets, Mutates}
 use Rattle.wavelet_op.specs.Deltas.{DeltaOf}
 use Rattle.delta_history.specs.Points.{acts_of}

@@ -10,8 +10,10 @@
 --     hits_of t w             the documents of a history that have the word, in byte order of their names
 --     all_hits ts user w      of histories in order
 --     search m user w         of all, in byte order of their names
-use Rattle.std.specs.Prelude.{ℕ, Bool, cond, ◌&&◌, not, nat_lt, is_some, List, [], ◌∷◌, ◌++◌, map, unwrap_or}
-use Rattle.std.specs.FinMap.{entries, keys}
+--     hits_at m user w n      those in the history of a name, if there is one
+use Rattle.std.specs.Prelude.{ℕ, Bool, cond, ◌&&◌, not, nat_lt, is_some, List, [], ◌∷◌, ◌++◌, map}
+use Rattle.std.specs.FinMap.{entries, get, keys}
+use Rattle.std.specs.Option.{option_map_or}
 use Rattle.std.specs.List.{filter}
 use Rattle.doc_items.specs.Maps.{Key, same_text}
 use Rattle.wavelet_op.specs.States.{State, role_of, document_of}
@@ -61,6 +63,9 @@ hits_for t user w = cond (sees t user) (hits_of t w) []
 abbrev pub hits_among : List (Key × TakenOf) → Key → Key → List Hit
 hits_among [] user w = []
 hits_among (e ∷ es) user w = hits_for e.1 user w ++ hits_among es user w
+
+abbrev pub hits_at : Histories → Key → Key → Key → List Hit
+hits_at m user w n = option_map_or (λ t. hits_for t user w) (get m n) []
 
 abbrev pub search : Histories → Key → Key → List Hit
 search m user w = hits_among (entries m) user w

@@ -1,5 +1,7 @@
 pub mod Blips
 pub mod Changes
+pub mod Counts
+pub mod Edges
 pub mod Inboxes
 pub mod Marks
 pub mod Taken

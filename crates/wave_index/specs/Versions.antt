@@ -6,7 +6,7 @@
 --     HasRoom m o            there is one for the document that an operation is on
 --     is_retain c            the component lets items stay
 --     KeepsVersions m ds     they are the changed versions after deltas
-use Rattle.std.specs.Prelude.{◌≡◌, ℕ, Bool, true, false, is_some, IsSome, unwrap_or, List}
+use Rattle.std.specs.Prelude.{◌≡◌, ℕ, Bool, true, false, IsSome, unwrap_or, List}
 use Rattle.std.specs.BTreeMap as tree
 use Rattle.std.specs.Cmp.Lexicographic.{slice_cmp}
 use Rattle.std.specs.Ordering.{nat_cmp}

@@ -2,31 +2,20 @@
 ghost use Rattle.std.specs.Prelude.{◌≡◌, ◌++◌, ◌∷◌, [], cond, map, nat_lt, IfOk, OnOk};
 ghost use Rattle.std.specs.FinMap.{keys};
 ghost use Rattle.std.specs.List.{filter};
+ghost use Rattle.doc_items.specs.Maps.{Key};
+ghost use Rattle.document_words.specs.Places.{count_in};
 ghost use Rattle.document_words.specs.Words.{document_words, occurrences};
+ghost use Rattle.wave_index.specs.Counts.{counted};
 ghost use Rattle.wave_index.specs.Inboxes.{is_hit, hit_at};
 
 use crate::answers::Hit;
 use crate::blips::is_manifest;
 use doc_items::Memory;
 use doc_rope::Rope;
-use document_words::{Word, WordCutter, letter};
+use document_words::{Word, WordPlaces, document_words};
 use std::alloc::Global;
 use wave_base::{DocumentName, WaveletName};
 use wavelet_state::WaveletState;
-
-// The words of a document, in order.
-fn document_words(alloc: Global, document: &Rope) -> Result<Vec<Word>, Memory>
-    ensures { IfOk result (λ v. v.items ≡ document_words document.now) }
-{
-    let mut cutter = WordCutter::new(alloc);
-    for place in 0..document.len() {
-        let Some(item) = document.item(place) else {
-            return cutter.finish();
-        };
-        cutter.put(letter(&item.content))?;
-    }
-    cutter.finish()
-}
 
 // Whether a document has the word.
 fn has_word(alloc: Global, document: &Rope, word: &Word) -> Result<bool, Memory>
@@ -90,6 +79,27 @@ pub(crate) fn put_hits(
     let documents = state.document_names(alloc)?;
     for document in documents.as_slice() {
         put_hit(alloc, name, state, document, word, hits)?;
+    }
+    Ok(())
+}
+
+/// Puts the documents of a wavelet's state, but for the manifest, that have the word after the others, as words are kept. The error is
+/// want of memory.
+pub(crate) fn put_held(
+    alloc: Global,
+    name: &WaveletName,
+    state: &WaveletState,
+    places: &WordPlaces,
+    word: &Word,
+    hits: &mut Vec<Hit>,
+) -> Result<(), Memory>
+    requires { (w d : Key) → count_in places.now w name.now d ≡ counted state.now w d }
+    ensures { OnOk result (hits.new.items ≡ hits.old.items ++ map (hit_at name.now) (filter (is_hit state.now word.now) (keys state.now.documents))) }
+{
+    for document in places.holders(alloc, word, name)?.as_slice() {
+        let name = name.copy(alloc)?;
+        let document = document.copy(alloc)?;
+        hits.push(Hit { name, document })?;
     }
     Ok(())
 }

@@ -1,19 +1,23 @@
 // A wavelet of an index.
-ghost use Rattle.std.specs.Prelude.{◌≡◌, ◌++◌, ◌∷◌, [], IfOk, IfErr, OnOk, OnErr};
+ghost use Rattle.std.specs.Prelude.{◌≡◌, ◌++◌, ◌∷◌, [], ℕ, cond, IfOk, IfErr, OnOk, OnErr};
+ghost use Rattle.doc_items.specs.Maps.{Key, same_text};
+ghost use Rattle.document_words.specs.Places.{count_in};
 ghost use Rattle.delta_history.specs.Pushes.{IsRefused};
 ghost use Rattle.wave_index.specs.Blips.{named_version, is_unread, unread};
 ghost use Rattle.wave_index.specs.Changes.{end_of_delta};
+ghost use Rattle.wave_index.specs.Counts.{counted, CountsAs, IsOf};
 ghost use Rattle.wave_index.specs.Inboxes.{sees, line, line_for, hits_for};
-ghost use Rattle.wave_index.specs.Taken.{history_of};
+ghost use Rattle.wave_index.specs.Taken.{history_of, point_of};
 
 use crate::answers::{Hit, InboxLine};
 use crate::blips::{is_live, threads, title_of};
 use crate::changed::ChangedVersions;
-use crate::hits::put_hits;
+use crate::hits::{put_held, put_hits};
+use crate::kept::{KeptWords, Way};
 use conversation::{Id, Node};
 use delta_history::{History, HistoryFault};
 use doc_items::Memory;
-use document_words::Word;
+use document_words::{Word, WordPlaces};
 use std::alloc::{AllocError, Global};
 use std::marker::Model;
 use wave_base::{Address, BaseFault, DocumentName, WaveletName};
@@ -67,23 +71,58 @@ impl Wavelet {
         }
     }
 
-    /// The delta is after the others. The refusals are those of `push_applied`; after one, and after want of memory, the wavelet is as
-    /// it was.
-    pub fn take(&mut self, alloc: Global, delta: &AppliedDelta) -> Result<(), HistoryFault>
+    /// The delta is after the others, and the words that are kept of all wavelets go with it. The refusals are those of `push_applied`;
+    /// after one, and after want of memory, the wavelet is as it was.
+    pub fn take(
+        &mut self,
+        alloc: Global,
+        delta: &AppliedDelta,
+        words: &mut KeptWords,
+    ) -> Result<(), HistoryFault>
         ensures ok { OnOk result (self.new ≡ record { name = self.old.name; deltas = self.old.deltas ++ delta.now ∷ [] }) }
         ensures refused { IfErr result (IsRefused (history_of self.old) delta.now) }
         ensures same { OnErr result (self.new ≡ self.old) }
         ensures named { self.new.name ≡ self.old.name }
+        ensures words_ok { OnOk result ((f : Key → Key → Key → ℕ) → IsOf f self.old.name (point_of self.old).state → CountsAs words.old.places f
+            → CountsAs words.new.places (λ w n d. cond (same_text self.old.name n) (counted (point_of self.new).state w d) (f w n d))) }
+        ensures words_err { OnErr result ((f : Key → Key → Key → ℕ) → IsOf f self.old.name (point_of self.old).state → CountsAs words.old.places f
+            → CountsAs words.new.places f) }
     {
         let end = end_of(delta);
-        self.changed.reserve_all(alloc, delta.ops.as_slice())?;
+        let ops = delta.ops.as_slice();
+        self.changed.reserve_all(alloc, ops)?;
         let copy = delta.copy(alloc)?;
+        words.shift(
+            alloc,
+            self.history.name(),
+            self.history.state(),
+            ops,
+            Way::Out,
+        );
         match self.history.push_applied(alloc, copy) {
             Ok(()) => {
-                self.changed.note_all(delta.ops.as_slice(), end);
+                // The history is legal.
+                let _deltas = self.history.deltas();
+                self.changed.note_all(ops, end);
+                words.shift(
+                    alloc,
+                    self.history.name(),
+                    self.history.state(),
+                    ops,
+                    Way::In,
+                );
                 Ok(())
             }
-            Err(fault) => Err(fault),
+            Err(fault) => {
+                words.shift(
+                    alloc,
+                    self.history.name(),
+                    self.history.state(),
+                    ops,
+                    Way::In,
+                );
+                Err(fault)
+            }
         }
     }
 
@@ -162,7 +201,8 @@ impl Wavelet {
         Ok(())
     }
 
-    /// Puts the documents that have the word, if the user is a participant, after the others. The error is want of memory.
+    /// Puts the documents that have the word, if the user is a participant, after the others. The documents are read for it. The error
+    /// is want of memory.
     pub fn put_hits(
         &self,
         alloc: Global,
@@ -174,6 +214,25 @@ impl Wavelet {
     {
         if self.is_seen_by(user) {
             put_hits(alloc, self.history.name(), self.history.state(), word, hits)?;
+        }
+        Ok(())
+    }
+
+    /// As `put_hits`, by the words that are kept.
+    pub fn put_held(
+        &self,
+        alloc: Global,
+        user: &Address,
+        places: &WordPlaces,
+        word: &Word,
+        hits: &mut Vec<Hit>,
+    ) -> Result<(), Memory>
+        requires { (w d : Key) → count_in places.now w self.now.name d ≡ counted (point_of self.now).state w d }
+        ensures { OnOk result (hits.new.items ≡ hits.old.items ++ hits_for self.now user.now word.now) }
+    {
+        if self.is_seen_by(user) {
+            let history = &self.history;
+            put_held(alloc, history.name(), history.state(), places, word, hits)?;
         }
         Ok(())
     }

@@ -1,5 +1,5 @@
 use Rattle.std.proofs.Common.{◌≡◌, drop, nat_lt}
-use Rattle.document_words.specs.Words.{document_words, occurrences}
+use Rattle.document_words.specs.Words.{occurrences}
 use Rattle.wave_index.proofs.hits.has_word.Given as goal
 
 abbrev pub invariant-loop-other : goal.invariant-loop-other

@@ -4,7 +4,7 @@ use Rattle.doc_items.specs.Maps.{Key}
 use Rattle.wave_index.specs.Inboxes.{hits_among}
 use Rattle.wave_index.specs.Taken.{TakenOf}
 use Rattle.wave_index.proofs.Entries.{entries-entries}
-use Rattle.wave_index.proofs.index.Index.hits.Goals as goal
+use Rattle.wave_index.proofs.index.Index.read_hits.Goals as goal
 
 pub returns : goal.returns
 returns c =
