@@ -3,7 +3,7 @@
 --     taken_for         what a message asks for is asked for by its session's user
 --     asked_for         what it is answered is meant for the session
 --     delivered_for     so is what is delivered
-use Rattle.std.proofs.Common.{◌≡◌, ℕ, Bool, true, false, not, ◌&&◌, cond, if◌then◌else◌, List, [], ◌∷◌, ◌++◌, map, Option, None, Some, refl, sym, ap, subst, ◌∙◌, is_some, option_map, option_and_then, true≢false}
+use Rattle.std.proofs.Common.{◌≡◌, ℕ, Bool, true, false, ◌&&◌, cond, if◌then◌else◌, List, [], ◌∷◌, ◌++◌, Option, None, Some, refl, sym, ap, subst, ◌∙◌, is_some}
 use Rattle.std.specs.List.{All}
 use Rattle.std.specs.Str.{chars, encode_utf8_all}
 use Rattle.std.proofs.lemmas.List.Elements.{All-nil, All-cons, All-append}
@@ -45,7 +45,7 @@ use Rattle.session_core.specs.declared.session.Session.{Session}
 use Rattle.session_core.specs.declared.request.Request.{Request}
 use Rattle.session_core.specs.declared.request.Request.TheVariants as ask
 use Rattle.session_core.specs.Access.{Shown, MaySee, seen_by, seen_from}
-use Rattle.session_core.specs.Answers.{with_sent, verdict_message, told_verdict, snapshot_of, is_sendable, attached_head, attached_hash, attached_seen, attached, seen_for}
+use Rattle.session_core.specs.Answers.{with_sent, verdict_message, told_verdict, snapshot_of, is_sendable, attached_hash, attached_seen, attached, seen_for}
 use Rattle.session_core.specs.Deliveries.{since, updates, applieds, outcomes_sent, still_waiting, opening_news, opening_sent, openings_sent, telling_of, host_news, after_host, hosts_sent, delivered_to, delivered, after_for, after_delivery}
 use Rattle.session_core.specs.Rules.{Taken, refused, with_party, is_new, is_user, is_peer, met, as_user, as_peer, is_reached, is_hosted, place_of, closed_at, submission_of, submitted_as, relay_by, taken}
 use Rattle.session_core.proofs.Access.{all_may_see, attached_may_see}

@@ -12,7 +12,6 @@ use Rattle.std.specs.declared.cmp.Ordering.{Ordering}
 use Rattle.std.proofs.lemmas.List.Elements.{All-nil, All-cons, All-append, All-map, All-set, All-weaker, All-from_recursion, recursion_from_All}
 use Rattle.doc_items.specs.Maps.{Key, same_text}
 use Rattle.delta_history.specs.Copying.{AscendFrom, AreAscending}
-use Rattle.wavelet_json.specs.declared.reason.BadReason.TheVariants as bad
 use Rattle.message_json.specs.declared.message.Message.{Message}
 use Rattle.message_json.specs.declared.message.Message.TheVariants.{Bad}
 use Rattle.wave_messages.specs.Read.{Refused, line_read}
@@ -21,7 +20,7 @@ use Rattle.session_core.specs.declared.session.Session.{Session}
 use Rattle.session_core.specs.declared.request.Request.{Request}
 use Rattle.session_core.specs.declared.request.Request.TheVariants as ask
 use Rattle.session_core.specs.Access.{Shown}
-use Rattle.session_core.specs.Deliveries.{delivered, after_delivery}
+use Rattle.session_core.specs.Deliveries.{delivered}
 use Rattle.session_core.specs.Rules.{taken, reason_of}
 use Rattle.wavelet_shelf.specs.Hosting.{Hosted, names_of, judged_in, with_added}
 use Rattle.wavelet_shelf.proofs.Growing.{grows_alone}
@@ -30,13 +29,13 @@ use Rattle.wavelet_op.specs.Deltas.{DeltaOf}
 use Rattle.std.specs.Prelude.{Option, Some, None}
 use Rattle.pipe_machine.specs.declared.seats.Seat.{Seat}
 use Rattle.pipe_machine.specs.Lines.{Sent, sent_to}
-use Rattle.pipe_machine.specs.Machine.{Pipe, Answer, start, shown_in, asked, replied, named, answered_read, answered, turn}
+use Rattle.pipe_machine.specs.Machine.{Pipe, Answer, shown_in, asked, replied, named, answered_read, answered, turn}
 use Rattle.pipe_machine.specs.Meant.{party_in, IsMeantFor, IsMeant, IsIdle, IsOrdered, SentIsMeant}
-use Rattle.pipe_machine.specs.Seats.{begun, place_in, is_at, inserted, seated, seat_in, with_session, seat_after, seats_sent, seats_after}
+use Rattle.pipe_machine.specs.Seats.{begun, place_in, is_at, inserted, seated, seat_in, with_session, seats_sent, seats_after}
 use Rattle.pipe_machine.proofs.Meaning.{asked_for, bad_to_all, delivered_for, idle_after, party_after, taken_for}
 use Rattle.pipe_machine.proofs.Seating.{seated_name}
 
-abbrev seat_names : List Seat → List Key
+abbrev pub seat_names : List Seat → List Key
 seat_names ss = map (λ s. s.name) ss
 
 -- ---- order
@@ -70,7 +69,7 @@ place_shift n i (s ∷ ss) = go (is_gt (slice_cmp nat_cmp n s.name)) (place_shif
     go true h = h
     go false h = refl
 
-next_place : (n : Key) (ss : List Seat) → place_in n (0 + 1) ss ≡ suc (place_in n 0 ss)
+pub next_place : (n : Key) (ss : List Seat) → place_in n (0 + 1) ss ≡ suc (place_in n 0 ss)
 next_place n ss = let e = place_shift n 0 ss in omega (arith, e)
 
 inserted_behind : (n : Key) (k : ℕ) (s : Seat) (ss : List Seat) → inserted n (suc k) (s ∷ ss) ≡ s ∷ inserted n k ss
@@ -107,7 +106,7 @@ seat_ascends n (s ∷ ss) a = go (is_gt (slice_cmp nat_cmp n s.name)) refl (same
     go false e true f = a
     go false e false f = (below n s.name e f, a)
 
-seated_ascends : (n : Key) (ss : List Seat) → AreAscending (seat_names ss) → AreAscending (seat_names (seated n ss))
+pub seated_ascends : (n : Key) (ss : List Seat) → AreAscending (seat_names ss) → AreAscending (seat_names (seated n ss))
 seated_ascends n ss a = subst (λ l. AreAscending (seat_names l)) (sym (seated_is n ss)) (seat_ascends n ss a)
 
 set_names : (n : Key) (x : Session) (i : ℕ) (ss : List Seat) → n ≡ (seat_in i ss).name → seat_names (slice_set ss i (record { name = n; session = x })) ≡ seat_names ss

@@ -5,7 +5,7 @@
 --     tried_refused     a submission was refused for a fault
 --     tried_as          the step leads to the same histories
 --     ended_memory      a step that there was no memory for
-use Rattle.std.proofs.Common.{◌≡◌, ◌≢◌, ◌⊎◌, inl, inr, ⊎_elim, ℕ, List, [], ◌∷◌, ◌++◌, Option, Some, None, IsSome, IfSome, Result, Ok, Err, OnErr, refl, sym, ap, subst, ◌∙◌, option_map}
+use Rattle.std.proofs.Common.{◌≡◌, ◌≢◌, ◌⊎◌, inl, inr, ⊎_elim, ℕ, List, [], ◌∷◌, ◌++◌, Option, Some, None, IfSome, Result, Err, refl, sym, ap, subst, ◌∙◌, option_map}
 use Rattle.std.specs.Map.{lookup}
 use Rattle.std.specs.Option.{option_map_or}
 use Rattle.doc_items.specs.Maps.{Key, same_text}
@@ -19,9 +19,9 @@ use Rattle.delta_journal.specs.declared.journal.Journal.{Journal}
 use Rattle.wave_outside.specs.declared.folder.Folder as folder_of
 use Rattle.wavelet_container.specs.Containers.{history_of, journal_of}
 use Rattle.wavelet_container.specs.Records.{StandsForHistory}
-use Rattle.wavelet_container.specs.Stores.{IsWithin, StandsForOneMore}
+use Rattle.wavelet_container.specs.Stores.{StandsForOneMore}
 use Rattle.wavelet_container.specs.declared.container.Container.{Container}
-use Rattle.wavelet_shelf.specs.Entries.{found, IsFileWithin, IsNamed, IsSafe}
+use Rattle.wavelet_shelf.specs.Entries.{IsFileWithin, IsNamed, IsSafe}
 use Rattle.wavelet_shelf.specs.Hosting.{Hosted, names_of, deltas_in, with_added, judged_in, after_submission}
 use Rattle.wavelet_shelf.specs.Shelves.{entries_of, container_in, hosted_of, IsKept, IsSettled}
 use Rattle.wavelet_shelf.specs.declared.filed.Filed.{Filed}
