@@ -6,7 +6,8 @@ front of a document of its wavelet, made on the last version that was told. Ever
 session has its wavelet open, so it is sent each delta of it. For 1, 4, 16 and 64 sessions on one wavelet and 64 sessions on 64, with
 and without a store, a line has the microseconds of processor time for one submission. Then so many sessions on one wavelet type at
 once: each submission of a round is made on the head before the round, so all but the first are late. What it costs to start the program and to open
-the wavelets is measured by a run without submissions and taken off. The client waits for each answer.
+the wavelets is measured by a run without submissions and taken off. The client waits for each answer. The last lines have what it takes
+for so many sessions to say hello, in a file that is read at once. `--bars` leaves out all but the runs that have a bar.
 """
 
 import json
@@ -16,9 +17,12 @@ import sys
 import tempfile
 from pathlib import Path
 
-PROGRAM = sys.argv[1] if len(sys.argv) > 1 else Path(__file__).resolve().parent.parent / "crates" / "wave" / "out" / "wave"
+WORDS = [word for word in sys.argv[1:] if word != "--bars"]
+PROGRAM = WORDS[0] if WORDS else Path(__file__).resolve().parent.parent / "crates" / "wave" / "out" / "wave"
+BARS = {(1, 1, False): 25, (64, 1, False): 100, (64, 64, False): 25, (1, 1, True): 80}
 RUNS = [(1, 1), (4, 1), (16, 1), (64, 1), (64, 64)]
 TOGETHER = [4, 16]
+HELLOS = [10_000, 50_000]
 SUBMISSIONS = 2_000
 
 
@@ -110,16 +114,34 @@ def measured_together(sessions, submissions):
     return pipe.end()
 
 
+def measured_hellos(sessions):
+    """The cost of so many sessions that say hello."""
+    with tempfile.TemporaryFile() as lines, open(os.devnull, "wb") as nowhere:
+        for number in range(sessions):
+            hello = {"session": f"s{number}", "message": {"type": "hello", "user": f"u{number}@a.com"}}
+            lines.write(json.dumps(hello, separators=(",", ":")).encode() + b"\n")
+        lines.seek(0)
+        process = subprocess.Popen([PROGRAM, "pipe"], stdin=lines, stdout=nowhere)
+        _, _, usage = os.wait4(process.pid, 0)
+        return usage.ru_utime + usage.ru_stime
+
+
 ZEROS = {f"a.com/w{number}/a.com/conv+root": zero_hash(f"a.com/w{number}/a.com/conv+root") for number in range(64)}
 for stored in (False, True):
     for sessions, wavelets in RUNS:
+        bar = BARS.get((sessions, wavelets, stored))
+        if bar is None and "--bars" in sys.argv:
+            continue
         with tempfile.TemporaryDirectory() as folder:
             words = ["pipe", "--store", os.path.join(folder, "a")] if stored else ["pipe"]
             idle = measured(sessions, wavelets, 0, words)
             words = ["pipe", "--store", os.path.join(folder, "b")] if stored else ["pipe"]
             busy = measured(sessions, wavelets, SUBMISSIONS, words)
         cost = (busy - idle) * 1e6 / SUBMISSIONS
-        print(f"{sessions} sessions on {wavelets} wavelets{' with a store' if stored else ''}: {cost:.0f} microseconds a submission")
-for sessions in TOGETHER:
+        told = f", of at most {bar}" if bar else ""
+        print(f"{sessions} sessions on {wavelets} wavelets{' with a store' if stored else ''}: {cost:.0f} microseconds a submission{told}")
+for sessions in [] if "--bars" in sys.argv else TOGETHER:
     cost = (measured_together(sessions, SUBMISSIONS) - measured_together(sessions, 0)) * 1e6 / SUBMISSIONS
     print(f"{sessions} sessions that type at once: {cost:.0f} microseconds a submission")
+for sessions in HELLOS:
+    print(f"{sessions} sessions say hello: {measured_hellos(sessions) * 1e6 / sessions:.0f} microseconds each")

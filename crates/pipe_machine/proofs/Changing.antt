@@ -1,8 +1,7 @@
 -- Whom a message of a session may leave something for.
 --     replied_others      a reply leaves the deltas of the wavelets that the message doesn't submit to
 --     changed_alone       so the others than the session that was answered, and those that have the wavelet open, lack nothing
-use Rattle.std.proofs.Common.{◌≡◌, ◌≢◌, ◌<◌, arith, ℕ, zero, suc, ◌+◌, Bool, true, false, cond, ◌&&◌, ◌||◌, ◌==◌, if◌then◌else◌, List, [], ◌∷◌, ◌++◌, length, take, drop, slice_get, slice_set, Option, None, Some, is_some, option_map, refl, sym, ap, subst, ◌∙◌, true≢false}
-use Rattle.std.specs.List.{list_all}
+use Rattle.std.proofs.Common.{◌≡◌, ◌≢◌, arith, ℕ, zero, suc, ◌+◌, Bool, true, false, cond, ◌||◌, ◌==◌, if◌then◌else◌, List, [], ◌∷◌, ◌++◌, take, drop, slice_get, slice_set, Option, None, Some, is_some, option_map, refl, sym, ap, ◌∙◌, true≢false}
 use Rattle.std.specs.Option.{option_map_or}
 use Rattle.std.specs.Cmp.Lexicographic.{bytes_decides}
 use Rattle.std.proofs.lemmas.Bool.{and_parts, and_from}
@@ -17,15 +16,15 @@ use Rattle.session_core.specs.declared.session.Party.TheVariants.{Nobody, User, 
 use Rattle.session_core.specs.declared.session.Opening.{Opening}
 use Rattle.session_core.specs.declared.session.Session.{Session}
 use Rattle.session_core.specs.Access.{Shown, shown}
-use Rattle.session_core.specs.Current.{is_opening_sent, are_sent_to, are_sent_for, are_sent}
+use Rattle.session_core.specs.Current.{is_opening_sent, are_sent_to, are_sent_for}
 use Rattle.session_core.specs.Rules.{place_of, taken}
-use Rattle.wavelet_shelf.specs.Hosting.{Hosted, deltas_in, copy_of, copy_in, judged_in, with_added}
+use Rattle.wavelet_shelf.specs.Hosting.{Hosted, deltas_in, copy_of, judged_in, with_added}
 use Rattle.wavelet_shelf.proofs.Growing.{grows_alone}
 use Rattle.pipe_machine.specs.declared.seats.Seat.{Seat}
-use Rattle.pipe_machine.specs.Due.{is_open, is_due, due_at, is_told, are_told, IsDueAlone}
+use Rattle.pipe_machine.specs.Due.{is_due, due_at, is_told, are_told, IsDueAlone}
 use Rattle.pipe_machine.specs.Keeping.{submits, asks_for}
-use Rattle.pipe_machine.specs.Machine.{shown_in, nothing_dropped, outcome_in, asked, replied}
-use Rattle.pipe_machine.specs.Seats.{begun, is_at, inserted, place_in, seated, IsPlain}
+use Rattle.pipe_machine.specs.Machine.{shown_in, nothing_dropped, asked, replied}
+use Rattle.pipe_machine.specs.Seats.{begun, is_at, place_in, seated, IsPlain}
 use Rattle.pipe_machine.proofs.Placing.{some_same, got_within, told_each, get_other}
 use Rattle.pipe_machine.proofs.Moving.{other_name}
 use Rattle.pipe_machine.proofs.Plain.{taken_good}

@@ -12,5 +12,6 @@ pub mod Delivering
 pub mod Trying
 pub mod Meaning
 pub mod Ordering
+pub mod Searching
 mod Serving
 mod Changing

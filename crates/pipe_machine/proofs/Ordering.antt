@@ -35,7 +35,7 @@ use Rattle.pipe_machine.specs.Seats.{begun, place_in, is_at, inserted, seated, s
 use Rattle.pipe_machine.proofs.Meaning.{asked_for, bad_to_all, delivered_for, idle_after, party_after, taken_for}
 use Rattle.pipe_machine.proofs.Seating.{seated_name}
 
-abbrev seat_names : List Seat → List Key
+abbrev pub seat_names : List Seat → List Key
 seat_names ss = map (λ s. s.name) ss
 
 -- ---- order
@@ -69,7 +69,7 @@ place_shift n i (s ∷ ss) = go (is_gt (slice_cmp nat_cmp n s.name)) (place_shif
     go true h = h
     go false h = refl
 
-next_place : (n : Key) (ss : List Seat) → place_in n (0 + 1) ss ≡ suc (place_in n 0 ss)
+pub next_place : (n : Key) (ss : List Seat) → place_in n (0 + 1) ss ≡ suc (place_in n 0 ss)
 next_place n ss = let e = place_shift n 0 ss in omega (arith, e)
 
 inserted_behind : (n : Key) (k : ℕ) (s : Seat) (ss : List Seat) → inserted n (suc k) (s ∷ ss) ≡ s ∷ inserted n k ss
@@ -106,7 +106,7 @@ seat_ascends n (s ∷ ss) a = go (is_gt (slice_cmp nat_cmp n s.name)) refl (same
     go false e true f = a
     go false e false f = (below n s.name e f, a)
 
-seated_ascends : (n : Key) (ss : List Seat) → AreAscending (seat_names ss) → AreAscending (seat_names (seated n ss))
+pub seated_ascends : (n : Key) (ss : List Seat) → AreAscending (seat_names ss) → AreAscending (seat_names (seated n ss))
 seated_ascends n ss a = subst (λ l. AreAscending (seat_names l)) (sym (seated_is n ss)) (seat_ascends n ss a)
 
 set_names : (n : Key) (x : Session) (i : ℕ) (ss : List Seat) → n ≡ (seat_in i ss).name → seat_names (slice_set ss i (record { name = n; session = x })) ≡ seat_names ss

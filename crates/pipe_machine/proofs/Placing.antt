@@ -7,14 +7,12 @@
 --     end_sent, end_after, quiet_from nothing is sent to those behind the last
 --     got_within .. none_behind       elements at places
 --     told_more, told_all             those who were sent all
-use Rattle.std.proofs.Common.{◌≡◌, ◌≢◌, ◌+◌, ◌<◌, ◌≤◌, ◌⊎◌, inl, inr, ℕ, zero, suc, Bool, true, false, cond, ◌&&◌, ◌||◌, ◌==◌, List, [], ◌∷◌, ◌++◌, length, map, take, drop, slice_get, slice_set, get_or, Result, Ok, Err, OnOk, Option, None, Some, refl, sym, ap, subst, ◌∙◌, arith, add-one, append_assoc, append-nil, true≢false}
-use Rattle.std.specs.List.{list_all, All}
+use Rattle.std.proofs.Common.{◌≡◌, ◌≢◌, ◌+◌, ◌<◌, ◌≤◌, ◌⊎◌, inl, inr, ℕ, zero, suc, Bool, true, false, cond, ◌||◌, ◌==◌, List, [], ◌∷◌, ◌++◌, length, map, take, drop, slice_get, slice_set, get_or, Result, Ok, Err, OnOk, Some, refl, sym, ap, subst, ◌∙◌, arith, add-one, append_assoc, append-nil, true≢false}
+use Rattle.std.specs.List.{All}
 use Rattle.std.proofs.lemmas.List.Elements.{All-head, All-tail}
 use Rattle.std.proofs.lemmas.Bool.{and_parts, and_from}
 use Rattle.std.proofs.lemmas.Bool.Decides.{nat_tests}
-use Rattle.doc_items.specs.Maps.{Key}
 use Rattle.session_core.specs.Access.{Shown}
-use Rattle.session_core.specs.Deliveries.{delivered}
 use Rattle.pipe_machine.specs.declared.due.Due.{Due}
 use Rattle.pipe_machine.specs.declared.due.Due.TheVariants.{Nobody, Seat as OwnSeat, Everybody}
 use Rattle.pipe_machine.specs.declared.seats.Seat.{Seat}

@@ -8,14 +8,15 @@
 --     with_session i x ss    it has another session
 --     seats_sent c ss        what each is sent of the copies, in order
 --     seats_after c ss       the seats then
+--     are_ordered ss         their names ascend in byte order
 --     is_idle ws             nothing waits
 --     IsPlain s              a session of a pipe: it has no domain, and speaks for none, and none of its submissions waits
 --     IsPlainSeat s          so is that of a seat
 --     AsksAsUser s r         only one with a user asks for a wavelet to be opened
-use Rattle.std.specs.Prelude.{◌≡◌, ℕ, ◌+◌, List, [], ◌∷◌, ◌++◌, take, drop, slice_get, slice_set, slice_index_or, map, Bool, true, false, cond, None, is_some}
+use Rattle.std.specs.Prelude.{◌≡◌, ℕ, ◌+◌, List, [], ◌∷◌, ◌++◌, take, drop, slice_get, slice_set, slice_index_or, map, Bool, true, false, ◌&&◌, cond, None, is_some}
 use Rattle.std.specs.Coded.{Coded-set, coded_bool, ×_prop}
 use Rattle.std.specs.Option.{option_map_or}
-use Rattle.std.specs.Ordering.{nat_cmp, is_gt}
+use Rattle.std.specs.Ordering.{nat_cmp, is_lt, is_gt}
 use Rattle.std.specs.Cmp.Lexicographic.{slice_cmp}
 use Rattle.doc_items.specs.Maps.{Key, same_text}
 use Rattle.session_core.specs.declared.session.Session.{Session}
@@ -49,6 +50,16 @@ seat_in i ss = slice_index_or ss i (begun [])
 
 abbrev pub with_session : ℕ → Session → List Seat → List Seat
 with_session i x ss = slice_set ss i (record { name = (seat_in i ss).name; session = x })
+
+-- ---- order
+
+abbrev pub ascend_from : Key → List Seat → Bool
+ascend_from n [] = true
+ascend_from n (s ∷ ss) = is_lt (slice_cmp nat_cmp n s.name) && ascend_from s.name ss
+
+abbrev pub are_ordered : List Seat → Bool
+are_ordered [] = true
+are_ordered (s ∷ ss) = ascend_from s.name ss
 
 -- ---- deliveries
 

@@ -52,6 +52,7 @@ fn deliver_to<'a, F: Folder>(
     ensures sent { OnOk result (out.new.items ≡ out.old.items ++ lines_of (map (sent_to seat.old.name) (delivered (shown_in (hosted_of shelf.entry.now)) seat.old.session))) }
     ensures after { OnOk result (seat.new ≡ seat_after (shown_in (hosted_of shelf.entry.now)) seat.old) }
     ensures told { OnOk result (is_told (shown_in (hosted_of shelf.entry.now)) seat.new ≡ true) }
+    ensures name { seat.new.name ≡ seat.old.name }
     ensures last { IfOk result (λ o. IsLast (shown_in (hosted_of shelf.entry.now)) o) }
     ensures plain { IsPlain seat.new.session }
 {
@@ -77,6 +78,7 @@ fn deliver_each<F: Folder>(
     ensures after { OnOk result (seats.new ≡ seats_after (shown_in (hosted_of shelf.now)) seats.old) }
     ensures told { OnOk result (are_told (shown_in (hosted_of shelf.now)) seats.new ≡ true) }
     ensures plain { All (λ s. IsPlain s.session) seats.new }
+    ensures names { map (λ s. s.name) seats.new ≡ map (λ s. s.name) seats.old }
 {
     let mut last = None;
     for place in places {
@@ -99,6 +101,7 @@ pub fn deliver<F: Folder>(
     ensures after { OnOk result (seats.new.items ≡ seats_after (shown_in (hosted_of shelf.now)) seats.old.items) }
     ensures told { OnOk result (are_told (shown_in (hosted_of shelf.now)) seats.new.items ≡ true) }
     ensures plain { All (λ s. IsPlain s.session) seats.new.items }
+    ensures names { map (λ s. s.name) seats.new.items ≡ map (λ s. s.name) seats.old.items }
 {
     deliver_each(alloc, shelf, seats.as_mut_slice(), places, out)
 }

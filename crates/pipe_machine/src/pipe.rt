@@ -4,7 +4,7 @@ ghost use Rattle.std.specs.List.{AllByRecursion, AllByRecursion-prop};
 ghost use Rattle.wavelet_shelf.specs.Shelves.{hosted_of};
 ghost use Rattle.pipe_machine.specs.Due.{are_told};
 ghost use Rattle.pipe_machine.specs.Machine.{shown_in};
-ghost use Rattle.pipe_machine.specs.Seats.{IsPlainSeat, IsPlainSeat-prop};
+ghost use Rattle.pipe_machine.specs.Seats.{are_ordered, IsPlainSeat, IsPlainSeat-prop};
 
 use crate::seats::Seat;
 use wave_outside::Folder;
@@ -17,6 +17,7 @@ pub struct PipeMachine<F: Folder> {
     // Whether a turn failed, after which sessions may lack what they were to be sent.
     pub(crate) behind: bool,
     ghost plain: { AllByRecursion IsPlainSeat seats.items } by { AllByRecursion-prop IsPlainSeat IsPlainSeat-prop seats.items },
+    ghost ordered: { are_ordered seats.items ≡ true } by { Coded-set coded_bool (are_ordered seats.items) true },
     ghost told: { behind || are_told (shown_in (hosted_of shelf)) seats.items ≡ true } by { Coded-set coded_bool (behind || are_told (shown_in (hosted_of shelf)) seats.items) true },
 }
 

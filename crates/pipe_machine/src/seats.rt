@@ -1,8 +1,8 @@
 // The sessions of a pipe, by name.
-ghost use Rattle.std.specs.Prelude.{◌≡◌, ◌≤◌, ◌<◌, length, IfOk, OnOk, OnErr};
+ghost use Rattle.std.specs.Prelude.{◌≡◌, ◌≤◌, ◌<◌, length, true, IfOk, OnOk, OnErr};
 ghost use Rattle.std.specs.Cmp.Lexicographic.{slice_cmp};
-ghost use Rattle.std.specs.Ordering.{nat_cmp};
-ghost use Rattle.pipe_machine.specs.Seats.{begun, place_in, is_at, seated, seat_in};
+ghost use Rattle.std.specs.Ordering.{nat_cmp, is_gt};
+ghost use Rattle.pipe_machine.specs.Seats.{are_ordered, begun, place_in, is_at, seated, seat_in};
 
 use doc_items::Memory;
 use session_core::Session;
@@ -32,19 +32,34 @@ fn compared(left: &SessionName, right: &SessionName) -> Ordering
     left.text().cmp(right.text())
 }
 
+// Whether the seat's name is before this one.
+fn is_before(seat: &Seat, name: &SessionName) -> bool
+    ensures { result ≡ is_gt (slice_cmp nat_cmp name.now seat.now.name) }
+{
+    match compared(name, &seat.name) {
+        Ordering::Greater => true,
+        Ordering::Equal => false,
+        Ordering::Less => false,
+    }
+}
+
 // The place of the first seat whose name isn't before this one.
 fn place_in(seats: &[Seat], name: &SessionName) -> usize
+    requires { are_ordered seats.now ≡ true }
     ensures value { result ≡ place_in name.now 0 seats.now }
     ensures within { result ≤ length seats.now }
 {
-    for place in 0..seats.len() {
-        match compared(name, &seats[place].name) {
-            Ordering::Greater => {}
-            Ordering::Equal => return place,
-            Ordering::Less => return place,
+    let mut low = 0usize;
+    let mut high = seats.len();
+    while low < high {
+        let middle = low + (high - low) / 2;
+        if is_before(&seats[middle], name) {
+            low = middle + 1;
+        } else {
+            high = middle;
         }
     }
-    seats.len()
+    low
 }
 
 // Whether the seat at the place has the name.
@@ -71,6 +86,7 @@ fn begun(alloc: Global, name: SessionName) -> Seat
 /// after which all is as it was.
 #[tactic(auto, using(crate::proofs::Seating::seated_within, crate::proofs::Seating::seated_name))]
 pub fn seat_of(alloc: Global, seats: &mut Vec<Seat>, name: SessionName) -> Result<usize, Memory>
+    requires { are_ordered seats.old.items ≡ true }
     ensures place { IfOk result (λ i. i ≡ place_in name 0 seats.old.items) }
     ensures seats { OnOk result (seats.new.items ≡ seated name seats.old.items) }
     ensures same { OnErr result (seats.new.items ≡ seats.old.items) }

@@ -2,7 +2,7 @@
 --     updates_on, applieds_on     the messages of one more
 --     place_of_delta              the place of one in the copy
 --     on_ok                       what follows where it went well
-use Rattle.std.proofs.Common.{◌≡◌, ◌+◌, ℕ, zero, suc, List, [], ◌∷◌, ◌++◌, drop, slice_get, Option, None, Some, Result, Ok, Err, OnOk, refl, sym, ap, ◌∙◌, add-one, append_assoc}
+use Rattle.std.proofs.Common.{◌≡◌, ◌+◌, ℕ, zero, suc, List, [], ◌∷◌, ◌++◌, drop, slice_get, Some, Result, Ok, Err, OnOk, sym, ap, ◌∙◌, add-one, append_assoc}
 use Rattle.doc_items.specs.Maps.{Key}
 use Rattle.wavelet_op.specs.Deltas.{DeltaOf}
 use Rattle.delta_history.specs.Histories.{HistoryOf}

@@ -1,4 +1,7 @@
 // What a session is sent, and what it is replied.
+ghost use Rattle.std.specs.Prelude.{◌≡◌};
+ghost use Rattle.session_core.specs.News.{reply_message};
+
 use std::alloc::Global;
 use wave_base::WaveletName;
 use wave_messages::{Message, WrittenSnapshot};
@@ -53,6 +56,18 @@ impl Drop for Reply {
         match self {
             Reply::Message(_message) => {}
             Reply::Snapshot(_snapshot) => {}
+        }
+    }
+}
+
+impl Reply {
+    /// The message of the reply.
+    pub fn into_message(self) -> Message
+        ensures { result ≡ reply_message self }
+    {
+        match self {
+            Reply::Message(message) => message,
+            Reply::Snapshot(snapshot) => Message::Snapshot(snapshot.into_snapshot()),
         }
     }
 }

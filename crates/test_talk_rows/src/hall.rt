@@ -137,10 +137,9 @@ fn attach(
     if !session.has_user() {
         return Err(Fault::BadRow);
     }
-    let reply = match session.answer_attach(alloc, copies, name, from)? {
-        Reply::Message(message) => message,
-        Reply::Snapshot(snapshot) => Message::Snapshot(snapshot.into_snapshot()),
-    };
+    let reply = session
+        .answer_attach(alloc, copies, name, from)?
+        .into_message();
     let told = word(alloc, &reply)?;
     Ok(put(out, told.as_str())?)
 }

@@ -3,7 +3,7 @@
 --     if_ok_to           one fact of what is given, for another
 --     message_read       what is written of a message is read as the message
 --     line_read_back     so of a line
-use Rattle.std.proofs.Common.{◌≡◌, ◌≤◌, ℕ, ◌+◌, Bool, true, false, cond, ◌&&◌, ◌||◌, nat_lt, if◌then◌else◌, List, [], ◌∷◌, ◌++◌, length, Option, Some, None, Ok, Err, refl, sym, ap, subst, ◌∙◌, arith, option_and_then, nat_le, length-append, Result, IfOk, codes}
+use Rattle.std.proofs.Common.{◌≡◌, ◌≤◌, ℕ, ◌+◌, Bool, true, false, cond, ◌&&◌, ◌||◌, nat_lt, if◌then◌else◌, List, [], ◌∷◌, ◌++◌, length, Option, Some, None, Ok, Err, refl, ap, subst, ◌∙◌, arith, option_and_then, nat_le, length-append, Result, IfOk, codes}
 use Rattle.std.specs.Option.{option_map, option_map_or, ok_or}
 use Rattle.std.specs.Str.{bytes_eq}
 use Rattle.std.specs.Cmp.Lexicographic.{bytes_decides}

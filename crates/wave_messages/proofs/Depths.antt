@@ -1,6 +1,6 @@
 -- How deep what is written nests.
 --     message_depth, line_depth     a message, and a line
-use Rattle.std.proofs.Common.{◌≡◌, ◌≤◌, ℕ, suc, List, [], ◌∷◌, Option, None, Some, map, refl, arith}
+use Rattle.std.proofs.Common.{◌≡◌, ◌≤◌, ℕ, List, [], ◌∷◌, Option, None, Some, map, refl, arith}
 use Rattle.std.specs.FinMap.{entries, keys}
 use Rattle.serde_json.specs.Data.{Data, depth, items_depth}
 use Rattle.serde_json.specs.Read.{max_depth}
@@ -12,7 +12,7 @@ use Rattle.doc_op.specs.declared.component.Component.{Component}
 use Rattle.doc_op.specs.declared.component.Component.TheVariants.{Retain, Characters, ElementStart, ElementEnd, DeleteCharacters, DeleteElementStart, DeleteElementEnd, ReplaceAttributes, UpdateAttributes, AnnotationBoundary}
 use Rattle.op_json.specs.Write as json
 use Rattle.wave_base.specs.Versions.{IdOf}
-use Rattle.wavelet_op.specs.States.{State, role_of, document_of}
+use Rattle.wavelet_op.specs.States.{State, document_of}
 use Rattle.wavelet_op.specs.declared.op.WaveletOp.{WaveletOp}
 use Rattle.wavelet_op.specs.declared.op.WaveletOp.TheVariants.{NoOp, Add, Remove, Mutate, SetRole}
 use Rattle.wavelet_op.specs.declared.role.Role.{Role}

@@ -1,10 +1,9 @@
 -- What is written has no float.
-use Rattle.std.proofs.Common.{◌≡◌, ℕ, List, Option, None, Some, false, refl}
+use Rattle.std.proofs.Common.{◌≡◌, ℕ, List, None, Some, false, refl}
 use Rattle.std.specs.FinMap.{keys}
-use Rattle.serde_json.specs.Data.{Data, Members}
 use Rattle.serde_json.specs.Written.{has_float}
 use Rattle.op_json.proofs.Floats.{op_clear}
-use Rattle.wavelet_op.specs.States.{State, role_of, document_of}
+use Rattle.wavelet_op.specs.States.{State, document_of}
 use Rattle.wavelet_op.specs.declared.verdict.Verdict.{Verdict}
 use Rattle.wavelet_op.specs.declared.verdict.Verdict.TheVariants as verdict
 use Rattle.wavelet_json.proofs.Floats.{list_clear, role_clear, ops_clear}

@@ -10,7 +10,7 @@
 --     named_session d    the session that a value names
 --     line_of d, line_read b     a value, and bytes, as a line: the session and its message; or the session that is named, and why
 --                        there is none
-use Rattle.std.specs.Prelude.{ℕ, suc, nat_lt, List, length, Bool, false, ◌&&◌, ◌||◌, if◌then◌else◌, Option, Some, None, is_some, option_and_then, Result, Ok, Err, codes}
+use Rattle.std.specs.Prelude.{ℕ, suc, nat_lt, List, length, Bool, false, ◌&&◌, ◌||◌, if◌then◌else◌, Option, Some, None, option_and_then, Result, Ok, Err, codes}
 use Rattle.std.specs.Option.{option_map_or, ok_or}
 use Rattle.std.specs.Str.{bytes_eq, is_utf8}
 use Rattle.serde_json.specs.Data.{Data, Items, no_items, item}

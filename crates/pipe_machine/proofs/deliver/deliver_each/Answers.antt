@@ -1,5 +1,4 @@
-use Rattle.std.proofs.Common.{rules, ◌≡◌, ◌+◌, ◌<◌, ◌≤◌, ◌++◌, ◌∷◌, [], Some, refl, sym, ap, subst, ◌∙◌, arith, append-nil, length, take, drop, slice_get, slice_set, slice_index_or}
-use Rattle.std.specs.List.{All}
+use Rattle.std.proofs.Common.{rules, ◌≡◌, ◌+◌, ◌<◌, ◌≤◌, ◌++◌, ◌∷◌, sym, ap, subst, ◌∙◌, arith, append-nil, length, take, drop, slice_set, slice_index_or, get_or}
 use Rattle.std.proofs.lemmas.List.Elements.{All-set}
 use Rattle.wavelet_shelf.specs.Shelves.{hosted_of}
 use Rattle.pipe_machine.specs.Due.{AreToldFrom, AreTheDue, reach}
@@ -7,6 +6,7 @@ use Rattle.pipe_machine.specs.Lines.{lines_of}
 use Rattle.pipe_machine.specs.Machine.{shown_in}
 use Rattle.pipe_machine.specs.Seats.{IsPlain, seats_sent, seats_after}
 use Rattle.pipe_machine.proofs.Delivering.{sent_on, after_on}
+use Rattle.pipe_machine.proofs.Searching.{same_names, other_default}
 use Rattle.pipe_machine.proofs.Placing.{read_get, next_place, reach_more, none_behind, quiet_from, gap_sent, gap_after, end_sent, end_after, due_set, told_more, told_on, told_all}
 use Rattle.pipe_machine.proofs.deliver.deliver_each.Goals as goal
 
@@ -25,6 +25,7 @@ loop-place-preserved g c =
     let due : (i ≤ p) × (p < length ss) × AreToldFrom shown i p ss × AreTheDue shown (p + 1) (drop (k + 1) ps) ss = subst (λ qs. AreTheDue shown i qs ss) next l.invariant.due in
     let on : reach 0 (take (k + 1) ps) ≡ p + 1 = reach_more 0 k p ps (drop (k + 1) ps) next in
     let quiet = quiet_from shown i p ss l.invariant.plain due.2 in
+    let named : x.name ≡ (get_or ss p c.index-seats-place.result).name = search rules in
     let sent = sent_on shown (c.args.out.now.items ++ lines_of (seats_sent shown c.args.seats.now)) l.out.items c.deliver_to.new.out.items ss p c.index-seats-place.result x due.1 (l.invariant.sent ∙ ap (λ z. l.out.items ++ lines_of z) (gap_sent shown i p ss due.0 quiet)) (search rules) in
     let after = after_on shown (seats_after shown c.args.seats.now) ss p c.index-seats-place.result x due.1 (l.invariant.after ∙ gap_after shown i p ss due.0 quiet) (search rules) in
     record {
@@ -33,6 +34,7 @@ loop-place-preserved g c =
       due = subst (λ n. AreTheDue shown n (drop (k + 1) ps) (slice_set ss p x)) (sym on) (due_set shown (p + 1) p (drop (k + 1) ps) ss x (omega arith) due.3);
       told = subst (λ n. AreToldFrom shown 0 n (slice_set ss p x)) (sym on) (told_more shown p ss x due.1 (told_on shown i p ss l.invariant.told due.2) c.in_ok-last.ensures.told);
       last = c.in_ok-last.ensures.last;
+      names = same_names p ss x (named ∙ ap (λ s. s.name) (other_default ss p c.index-seats-place.result x due.1)) ∙ l.invariant.names;
       plain = All-set (λ s. IsPlain s.session) ss p x c.in_ok-last.ensures.plain l.invariant.plain;
     }
 
@@ -62,3 +64,19 @@ returns-clause-told g c =
     let i = reach 0 (take l.place-index ps) in
     let told : AreToldFrom shown i (length l.seats) l.seats = subst (λ qs. AreTheDue shown i qs l.seats) (none_behind ps l.place-index (omega (arith, c.loop-place-test.false))) l.invariant.due in
     told_all shown l.seats (told_on shown i (length l.seats) l.seats l.invariant.told told)
+
+pub returns-in_err-last-clause-names : goal.returns-in_err-last-clause-names
+returns-in_err-last-clause-names g c =
+    let shown = shown_in (hosted_of c.args.shelf.now) in
+    let l = c.loop-place in
+    let ss = l.seats in
+    let ps = c.args.places.now in
+    let k = l.place-index in
+    let i = reach 0 (take k ps) in
+    let p = slice_index_or ps k 0 in
+    let x = c.deliver_to.new.seat in
+    let whole : k < length ps = omega (arith, c.loop-place-test.true, l.auto.place-index-end) in
+    let next : drop k ps ≡ p ∷ drop (k + 1) ps = next_place ps k p (read_get ps k 0 whole) in
+    let due : (i ≤ p) × (p < length ss) × AreToldFrom shown i p ss × AreTheDue shown (p + 1) (drop (k + 1) ps) ss = subst (λ qs. AreTheDue shown i qs ss) next l.invariant.due in
+    let named : x.name ≡ (get_or ss p c.index-seats-place.result).name = search rules in
+    same_names p ss x (named ∙ ap (λ s. s.name) (other_default ss p c.index-seats-place.result x due.1)) ∙ l.invariant.names

@@ -1,4 +1,4 @@
-use Rattle.std.proofs.Common.{◌≡◌, ◌++◌, take, drop}
+use Rattle.std.proofs.Common.{◌≡◌, ◌++◌, map, take, drop}
 use Rattle.std.specs.List.{All}
 use Rattle.wavelet_shelf.specs.Shelves.{hosted_of}
 use Rattle.pipe_machine.specs.Due.{AreToldFrom, AreTheDue, reach}
@@ -15,5 +15,6 @@ invariant-loop-place g l = record {
   due : AreTheDue (shown_in (hosted_of l.shelf)) (reach 0 (take l.place-index l.places)) (drop l.place-index l.places) l.seats;
   told : AreToldFrom (shown_in (hosted_of l.shelf)) 0 (reach 0 (take l.place-index l.places)) l.seats;
   last : IsLast (shown_in (hosted_of l.shelf)) l.last;
+  names : map (λ s. s.name) l.seats ≡ map (λ s. s.name) l.fn.seats;
   plain : All (λ s. IsPlain s.session) l.seats;
 }

@@ -6,6 +6,7 @@ use Rattle.pipe_machine.specs.Due.{is_due}
 use Rattle.pipe_machine.specs.Keeping.{submits}
 use Rattle.pipe_machine.specs.Seats.{begun, IsPlain}
 use Rattle.wavelet_shelf.specs.Hosting.{deltas_in}
+use Rattle.pipe_machine.proofs.Searching.{ordered_either, ordered_with}
 use Rattle.pipe_machine.proofs.Changing.{replied_others, changed_alone}
 use Rattle.wavelet_shelf.specs.Shelves.{hosted_of}
 use Rattle.pipe_machine.specs.Pipes.{pipe_of}
@@ -20,6 +21,8 @@ pub invariant_of-self-in-Break-branch-3 : goal.invariant_of-self-in-Break-branch
 invariant_of-self-in-Break-branch-3 g c = record {
   plain = plain_with c.seat_of.new.seats.items c.in_ok-place.place _ c.reply.ensures.plain
       (plain_either c.args.name c.args.self.now.seats.items c.seat_of.new.seats.items c.seat_of.result c.seat_of.ensures.seats c.seat_of.ensures.same c.args.self.now.plain);
+  ordered = ordered_with c.seat_of.new.seats.items c.in_ok-place.place c.index_mut-seat.result.now c.reply.new.session c.in_ok-place.ensures.within c.index_mut-seat.ensures.value
+      (ordered_either c.args.name c.args.self.now.seats.items c.seat_of.new.seats.items c.seat_of.result c.seat_of.ensures.seats c.seat_of.ensures.same c.args.self.now.ordered);
   told = refl;
 }
 
@@ -27,6 +30,8 @@ pub invariant_of-self-2 : goal.invariant_of-self-2
 invariant_of-self-2 g c = record {
   plain = plain_with c.seat_of.new.seats.items c.in_ok-place.place _ c.reply.ensures.plain
       (plain_either c.args.name c.args.self.now.seats.items c.seat_of.new.seats.items c.seat_of.result c.seat_of.ensures.seats c.seat_of.ensures.same c.args.self.now.plain);
+  ordered = ordered_with c.seat_of.new.seats.items c.in_ok-place.place c.index_mut-seat.result.now c.reply.new.session c.in_ok-place.ensures.within c.index_mut-seat.ensures.value
+      (ordered_either c.args.name c.args.self.now.seats.items c.seat_of.new.seats.items c.seat_of.result c.seat_of.ensures.seats c.seat_of.ensures.same c.args.self.now.ordered);
   told = refl;
 }
 
