@@ -5,7 +5,7 @@ use crate::messages::put_message;
 use crate::shelves::small;
 use crate::version::hashed;
 use delta_history::{Copies, History};
-use session_core::{News, Reply, Request, Session, SubmitAnswer};
+use session_core::{News, Request, Session, SubmitAnswer};
 use std::alloc::Global;
 use test_copies::{Held, MemoryCopies, Noted, Notes};
 use test_disk_rows::{filled, first_word, number, put, text_of};
