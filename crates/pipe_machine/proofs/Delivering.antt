@@ -13,6 +13,7 @@ use Rattle.pipe_machine.specs.declared.seats.Seat.{Seat}
 use Rattle.pipe_machine.specs.Lines.{sent_to, line_of, lines_of}
 use Rattle.pipe_machine.specs.Seats.{seat_after, seats_sent, seats_after}
 use Rattle.pipe_machine.proofs.Gathering.{lines_append}
+use Rattle.pipe_machine.proofs.Placing.{next_at}
 
 module _ (c : Shown) where
   here : (ss : List Seat) (i : ℕ) (d : Seat) → i < length ss → drop i ss ≡ get_or ss i d ∷ drop (i + 1) ss
@@ -36,19 +37,8 @@ module _ (c : Shown) where
       ∙ ap (λ l. l ++ seats_after c (drop (i + 1) ss)) (sym (take_more_set ss i x h))
       ∙ ap (λ l. take (i + 1) (slice_set ss i x) ++ seats_after c l) (sym (drop-set-lt (i + 1) ss i x (omega arith)))
 
-some_same : {A : Type 0} (x y : A) → Some x ≡ Some y → x ≡ y
-some_same x y e = cc
-
-next_item : (ns : List News) (i : ℕ) (n : News) → slice_get ns i ≡ Some n → drop i ns ≡ n ∷ drop (i + 1) ns
-next_item ns i n e = go ns i e ∙ ap (λ k. n ∷ drop k ns) (sym (add-one i))
-  where
-    go : (xs : List News) (j : ℕ) → slice_get xs j ≡ Some n → drop j xs ≡ n ∷ drop (suc j) xs
-    go [] j h = absurd cc
-    go (x ∷ xs) zero h = ap (λ y. y ∷ xs) (some_same x n h)
-    go (x ∷ xs) (suc j) h = go xs j h
-
 pub item_on : (all out out' name : List ℕ) (ns : List News) (i : ℕ) (n : News) → slice_get ns i ≡ Some n → all ≡ out ++ lines_of (map (sent_to name) (messages_of (drop i ns)))
     → out' ≡ out ++ line_of (sent_to name (message_of n)) → all ≡ out' ++ lines_of (map (sent_to name) (messages_of (drop (i + 1) ns)))
 item_on all out out' name ns i n got h e =
     let rest = lines_of (map (sent_to name) (messages_of (drop (i + 1) ns))) in
-    h ∙ ap (λ l. out ++ lines_of (map (sent_to name) (messages_of l))) (next_item ns i n got) ∙ sym (append_assoc out (line_of (sent_to name (message_of n))) rest) ∙ ap (λ l. l ++ rest) (sym e)
+    h ∙ ap (λ l. out ++ lines_of (map (sent_to name) (messages_of l))) (next_at ns i n got) ∙ sym (append_assoc out (line_of (sent_to name (message_of n))) rest) ∙ ap (λ l. l ++ rest) (sym e)

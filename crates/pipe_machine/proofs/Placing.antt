@@ -3,7 +3,7 @@
 --     due_alone .. due_none           those of one session, of all, and of none
 --     due_set                         sending to a seat in front changes nothing of those behind
 --     gap_sent, gap_after             nothing is sent to those between, and they stay
---     reach_more, next_place          the place behind one more; the place of one in the loop over all
+--     reach_more, next_at             the place behind one more; those from an element on
 --     end_sent, end_after, quiet_from nothing is sent to those behind the last
 --     got_within .. none_behind       elements at places
 --     told_more, told_all             those who were sent all
@@ -228,11 +228,11 @@ reach_more i k p ps rest e = ap (λ n. reach i (take n ps)) (add-one k) ∙ go i
     go j (suc n) [] h = absurd cc
     go j (suc n) (q ∷ qs) h = go (q + 1) n qs h
 
--- the place of one of them, from the loop over all
-pub next_place : (ps : List ℕ) (k p : ℕ) → slice_get ps k ≡ Some p → drop k ps ≡ p ∷ drop (k + 1) ps
-next_place ps k p e = go ps k e ∙ ap (λ n. p ∷ drop n ps) (sym (add-one k))
+-- those from an element on
+pub next_at : {A : Type 0} (xs : List A) (k : ℕ) (x : A) → slice_get xs k ≡ Some x → drop k xs ≡ x ∷ drop (k + 1) xs
+next_at {A} xs k x e = go xs k e ∙ ap (λ n. x ∷ drop n xs) (sym (add-one k))
   where
-    go : (qs : List ℕ) (n : ℕ) → slice_get qs n ≡ Some p → drop n qs ≡ p ∷ drop (suc n) qs
+    go : (ys : List A) (n : ℕ) → slice_get ys n ≡ Some x → drop n ys ≡ x ∷ drop (suc n) ys
     go [] n h = absurd cc
-    go (q ∷ qs) zero h = ap (λ x. x ∷ qs) (some_same q p h)
-    go (q ∷ qs) (suc n) h = go qs n h
+    go (y ∷ ys) zero h = ap (λ z. z ∷ ys) (some_same y x h)
+    go (y ∷ ys) (suc n) h = go ys n h

@@ -15,6 +15,7 @@ use Rattle.pipe_machine.specs.declared.seats.Seat.{Seat}
 use Rattle.pipe_machine.specs.Seats.{place_in, seated, ascend_from, are_ordered}
 use Rattle.pipe_machine.proofs.Ordering.{seat_names, next_place, seated_ascends}
 use Rattle.pipe_machine.proofs.Placing.{some_same}
+use Rattle.pipe_machine.proofs.Serving.{any_default}
 
 is_less : (o : Ordering) → is_lt o ≡ true → o ≡ Less
 is_less Less e = refl
@@ -54,16 +55,11 @@ same_names i [] s e = refl
 same_names zero (x ∷ ss) s e = ap (λ n. n ∷ seat_names ss) e
 same_names (suc i) (x ∷ ss) s e = ap (λ l. x.name ∷ l) (same_names i ss s e)
 
-pub other_default : (ss : List Seat) (i : ℕ) (a b : Seat) → i < length ss → get_or ss i a ≡ get_or ss i b
-other_default [] i a b h = absurd (omega (arith, h))
-other_default (x ∷ ss) zero a b h = refl
-other_default (x ∷ ss) (suc i) a b h = other_default ss i a b (omega (arith, h))
-
 -- another session at the place of a seat
 pub ordered_with : (ss : List Seat) (i : ℕ) (s : Seat) (x : Session) → i < length ss → s ≡ get_or ss i s → are_ordered ss ≡ true → are_ordered (slice_set ss i (record { name = s.name; session = x })) ≡ true
 ordered_with ss i s x within is o =
     let new : Seat = record { name = s.name; session = x } in
-    ordered_names ss (slice_set ss i new) (same_names i ss new (ap (λ z. z.name) (is ∙ other_default ss i s new within))) o
+    ordered_names ss (slice_set ss i new) (same_names i ss new (ap (λ z. z.name) (is ∙ any_default ss i s new within))) o
 
 -- ---- the place of a name
 

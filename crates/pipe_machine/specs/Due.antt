@@ -1,7 +1,7 @@
 -- Whom a turn may have something for.
 --     is_open n s             the session of a seat has the wavelet open
 --     is_due d i s            the seat at this place is due
---     due_at i o              whom there may be something for, once the session there was answered on what may change this wavelet
+--     due_at i o              whom there may be something for after the reply to the session there, where this wavelet may have changed
 --     is_told c s             the session of a seat was sent all that there is of what it has open, as the copies are
 --     are_told c ss           so was each
 --     AreToldFrom c i j ss    so was each from one place up to another

@@ -64,7 +64,7 @@ fn deliver_to<'a, F: Folder>(
     Ok(last)
 }
 
-// Appends what is new to each session of some seats, in order. The others than those at these places were sent all that there is.
+// Appends what is new to each session of some seats, in order. Only those at these places may lack something.
 fn deliver_each<F: Folder>(
     alloc: Global,
     shelf: &Shelf<F>,
@@ -87,7 +87,7 @@ fn deliver_each<F: Folder>(
     Ok(())
 }
 
-/// Appends what is new to each session, in order. The others than those at these places were sent all that there is.
+/// Appends what is new to each session, in order. Only those at these places may lack something.
 pub fn deliver<F: Folder>(
     alloc: Global,
     shelf: &Shelf<F>,

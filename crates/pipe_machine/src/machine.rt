@@ -39,7 +39,7 @@ fn refuse(
     }
 }
 
-// Whom there may be something for, once a session was answered on a message that may change this wavelet.
+// Whom there may be something for after the reply to a message that may change this wavelet.
 fn due_at(place: usize, changed: Option<WaveletName>) -> Due
     ensures { result ≡ due_at place changed }
 {
@@ -69,7 +69,7 @@ impl<F: Folder + Drop> PipeMachine<F> {
         }
     }
 
-    // Answers a message of a session, which is new where it wasn't there, and answers whom there may be something for.
+    // Replies to a message of a session, which is new where it wasn't there, and says whom there may be something for.
     fn serve(
         &mut self,
         alloc: Global,
@@ -93,7 +93,7 @@ impl<F: Folder + Drop> PipeMachine<F> {
         Ok(due_at(place, changed))
     }
 
-    // Answers a line, and answers whom there may be something for.
+    // Replies to a line, and says whom there may be something for.
     fn answer(
         &mut self,
         alloc: Global,
@@ -120,7 +120,7 @@ impl<F: Folder + Drop> PipeMachine<F> {
         }
     }
 
-    // Appends what is new to each session, of which the others than the due were sent all that there is.
+    // Appends what is new to each session. Only the due may lack something.
     fn deliver(&mut self, alloc: Global, due: &Due, out: &mut Vec<u8>) -> Result<(), Memory>
         requires { IsDueAlone (shown_in (hosted_of self.old.shelf)) due.now self.old.seats.items }
         ensures pipe { OnOk result (pipe_of self.new ≡ (delivered (pipe_of self.old)).pipe) }

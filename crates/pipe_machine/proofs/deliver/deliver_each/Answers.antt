@@ -6,8 +6,9 @@ use Rattle.pipe_machine.specs.Lines.{lines_of}
 use Rattle.pipe_machine.specs.Machine.{shown_in}
 use Rattle.pipe_machine.specs.Seats.{IsPlain, seats_sent, seats_after}
 use Rattle.pipe_machine.proofs.Delivering.{sent_on, after_on}
-use Rattle.pipe_machine.proofs.Searching.{same_names, other_default}
-use Rattle.pipe_machine.proofs.Placing.{read_get, next_place, reach_more, none_behind, quiet_from, gap_sent, gap_after, end_sent, end_after, due_set, told_more, told_on, told_all}
+use Rattle.pipe_machine.proofs.Searching.{same_names}
+use Rattle.pipe_machine.proofs.Serving.{any_default}
+use Rattle.pipe_machine.proofs.Placing.{read_get, next_at, reach_more, none_behind, quiet_from, gap_sent, gap_after, end_sent, end_after, due_set, told_more, told_on, told_all}
 use Rattle.pipe_machine.proofs.deliver.deliver_each.Goals as goal
 
 pub loop-place-preserved : goal.loop-place-preserved
@@ -21,7 +22,7 @@ loop-place-preserved g c =
     let p = slice_index_or ps k 0 in
     let x = c.deliver_to.new.seat in
     let whole : k < length ps = omega (arith, c.loop-place-test.true, l.auto.place-index-end) in
-    let next : drop k ps ≡ p ∷ drop (k + 1) ps = next_place ps k p (read_get ps k 0 whole) in
+    let next : drop k ps ≡ p ∷ drop (k + 1) ps = next_at ps k p (read_get ps k 0 whole) in
     let due : (i ≤ p) × (p < length ss) × AreToldFrom shown i p ss × AreTheDue shown (p + 1) (drop (k + 1) ps) ss = subst (λ qs. AreTheDue shown i qs ss) next l.invariant.due in
     let on : reach 0 (take (k + 1) ps) ≡ p + 1 = reach_more 0 k p ps (drop (k + 1) ps) next in
     let quiet = quiet_from shown i p ss l.invariant.plain due.2 in
@@ -34,7 +35,7 @@ loop-place-preserved g c =
       due = subst (λ n. AreTheDue shown n (drop (k + 1) ps) (slice_set ss p x)) (sym on) (due_set shown (p + 1) p (drop (k + 1) ps) ss x (omega arith) due.3);
       told = subst (λ n. AreToldFrom shown 0 n (slice_set ss p x)) (sym on) (told_more shown p ss x due.1 (told_on shown i p ss l.invariant.told due.2) c.in_ok-last.ensures.told);
       last = c.in_ok-last.ensures.last;
-      names = same_names p ss x (named ∙ ap (λ s. s.name) (other_default ss p c.index-seats-place.result x due.1)) ∙ l.invariant.names;
+      names = same_names p ss x (named ∙ ap (λ s. s.name) (any_default ss p c.index-seats-place.result x due.1)) ∙ l.invariant.names;
       plain = All-set (λ s. IsPlain s.session) ss p x c.in_ok-last.ensures.plain l.invariant.plain;
     }
 
@@ -76,7 +77,7 @@ returns-in_err-last-clause-names g c =
     let p = slice_index_or ps k 0 in
     let x = c.deliver_to.new.seat in
     let whole : k < length ps = omega (arith, c.loop-place-test.true, l.auto.place-index-end) in
-    let next : drop k ps ≡ p ∷ drop (k + 1) ps = next_place ps k p (read_get ps k 0 whole) in
+    let next : drop k ps ≡ p ∷ drop (k + 1) ps = next_at ps k p (read_get ps k 0 whole) in
     let due : (i ≤ p) × (p < length ss) × AreToldFrom shown i p ss × AreTheDue shown (p + 1) (drop (k + 1) ps) ss = subst (λ qs. AreTheDue shown i qs ss) next l.invariant.due in
     let named : x.name ≡ (get_or ss p c.index-seats-place.result).name = search rules in
-    same_names p ss x (named ∙ ap (λ s. s.name) (other_default ss p c.index-seats-place.result x due.1)) ∙ l.invariant.names
+    same_names p ss x (named ∙ ap (λ s. s.name) (any_default ss p c.index-seats-place.result x due.1)) ∙ l.invariant.names
