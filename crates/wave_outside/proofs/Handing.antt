@@ -14,6 +14,7 @@ untouched_file x d clocked same time = record {
   crash = same.crash;
   later = time.later;
   since = λ t c le left. ⊎_elim (λ was. was) (λ now. clocked.counts_now t c le (same.crash c now)) (time.nothing_else t c le left);
+  keeps = time.keeps;
 }
 
 pub same_file_twice : (x d e : DiskView) → IsSameFile x d → IsSameFile d e → IsSameFile x e
@@ -22,6 +23,7 @@ same_file_twice x d e first second = record {
   crash = λ c left. first.crash c (second.crash c left);
   later = omega (arith, first.later, second.later);
   since = λ t c le left. first.since t c le (second.since t c (omega (arith, le, first.later)) left);
+  keeps = λ t c le left. second.keeps t c (omega (arith, le, first.later)) (first.keeps t c le left);
 }
 
 pub handed_on : {D : Type 0} (view : D → DiskView) (o : Option D) (d e : DiskView) → IsHanded view o d → IsSameFile d e → IsHanded view o e

@@ -1,6 +1,6 @@
 -- Folders of files.
 --     AddsOnly f d P        the same file at two moments, and a crash between them left what it might have left before, or what has P
---     IsSameFile f d        a read of the disk d gives what one of f gave, and a crash now, or at a moment of before, leaves no more of it
+--     IsSameFile f d        a read of the disk d gives what one of f gave, a crash now leaves no more of it, and one since a moment of before just as much
 --     IsEmptyFile d         the disk reads as empty, and a crash leaves it empty
 --     IsHanded view o d     d is the disk of a file as it is handed out: the file's, or an empty one where there was none
 --     IsPutBack view d o    the disk d stands in the folder
@@ -30,6 +30,7 @@ pub record IsSameFile (f d : DiskView) : Type 0 where
   pub crash : (c : List ℕ) → d.may_leave c → f.may_leave c
   pub later : f.moment ≤ d.moment
   pub since : (t : ℕ) (c : List ℕ) → t ≤ f.moment → d.left_since t c → f.left_since t c
+  pub keeps : (t : ℕ) (c : List ℕ) → t ≤ f.moment → f.left_since t c → d.left_since t c
 
 pub record IsEmptyFile (d : DiskView) : Type 0 where
   pub seen : d.seen ≡ []

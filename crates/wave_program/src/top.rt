@@ -43,8 +43,9 @@ fn tell_load<W: Sink>(alloc: Global, count: u64, sink: &mut W) -> u8
 /// DIR: 5 where the folder or a file failed, and 6, with a line that tells of the first one, where a file with a journal's name isn't the
 /// journal of a legal history of its wavelet. On `play --store DIR --wavelet W` it answers commands that go through the history of W in
 /// that folder, which is empty where there is none, and on `inbox --store DIR --user U` commands on what U has there, with the same
-/// statuses; both end with 0 at the end of the input or at the line `quit`. On `load N`, with N up to 100,000, it runs the stated workload and writes its summary as a
-/// line: 0, 4 where the sink failed, 8 out of memory. With other words it writes the usage text and gives 2, or 8 out of memory.
+/// statuses; both end with 0 at the end of the input or at the line `quit`. On `load N`, with N up to 100,000, it runs the stated
+/// workload and writes its summary as a line: 0, 4 where the sink failed, 8 out of memory. With other words it writes the usage text
+/// and gives 2, or 8 out of memory.
 pub fn run<S: Source, W: Sink, F: Folder + Drop, C: Clock>(
     alloc: Global,
     words: &Vec<String>,
