@@ -12,7 +12,7 @@ use Rattle.std.specs.Option.{option_map}
 use Rattle.std.specs.Str.{is_utf8}
 use Rattle.doc_items.specs.Maps.{same_text}
 use Rattle.wave_base.specs.Grammar.{is_wavelet_name, before, behind}
-use Rattle.wave_terminal.specs.Commands.{number}
+use Rattle.wave_screen.specs.Numerals.{number}
 use Rattle.inbox_machine.specs.declared.command.Command.{Command}
 use Rattle.inbox_machine.specs.declared.command.Command.TheVariants.{Show, Search, Read, Quit}
 

@@ -7,7 +7,7 @@ use Rattle.std.specs.Prelude.{ℕ, List, ◌++◌, codes, decimal}
 use Rattle.std.specs.List.{flat_map}
 use Rattle.wave_index.specs.declared.answers.Hit.{Hit}
 use Rattle.wave_index.specs.declared.answers.InboxLine.{InboxLine}
-use Rattle.wave_terminal.specs.Escapes.{escaped}
+use Rattle.wave_screen.specs.Escapes.{escaped}
 
 abbrev pub line_text : InboxLine → List ℕ
 line_text l = l.name ++ codes " version " ++ decimal l.version ++ codes " unread " ++ decimal l.unread ++ codes " title " ++ escaped l.title ++ codes "\n"

@@ -1,6 +1,4 @@
 pub mod Commands
-pub mod Escapes
 pub mod Machines
 pub mod Play
 pub mod Runs
-pub mod Screen

@@ -9,7 +9,7 @@ use Rattle.wavelet_op.specs.States.{State}
 use Rattle.wave_playback.specs.Playing.{PlaybackOf, shown_at, forward, back, sought}
 use Rattle.wave_terminal.specs.Commands.{command_of, max_kept}
 use Rattle.wave_terminal.specs.Machines.{Told, Machine}
-use Rattle.wave_terminal.specs.Screen.{screen_text}
+use Rattle.wave_screen.specs.Screen.{screen_text}
 use Rattle.wave_terminal.specs.declared.command.Command.{Command}
 use Rattle.wave_terminal.specs.declared.command.Command.TheVariants.{Next, Back, Goto, Show, Quit}
 

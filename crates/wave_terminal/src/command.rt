@@ -1,6 +1,8 @@
 // Commands of a playback.
-ghost use Rattle.std.specs.Prelude.{◌≡◌, ◌<◌, ◌^◌};
-ghost use Rattle.wave_terminal.specs.Commands.{is_word, digits, number, goto_of, command_of};
+ghost use Rattle.std.specs.Prelude.{◌≡◌};
+ghost use Rattle.wave_terminal.specs.Commands.{is_word, goto_of, command_of};
+
+use wave_screen::number;
 
 /// A command of a playback.
 #[derive(Clone, Copy, Debug, Drop, PartialEq, Eq)]
@@ -21,40 +23,6 @@ fn is_word(line: &[u8], word: &str) -> bool
     ensures { result ≡ is_word line.now word.now }
 {
     line == word.as_bytes()
-}
-
-// The number that goes on with these digits.
-fn digits(number: u64, bytes: &[u8]) -> Option<u64>
-    ensures { result ≡ digits number bytes.now }
-{
-    let Some((byte, rest)) = bytes.split_first() else {
-        return Some(number);
-    };
-    if !byte.is_ascii_digit() {
-        return None;
-    }
-    let next = number as u128 * 10 + (*byte - b'0') as u128;
-    if next > u64::MAX as u128 {
-        return None;
-    }
-    digits(next as u64, rest)
-}
-
-/// Decimal digits without a leading zero, of at most 64 bits.
-pub fn number(bytes: &[u8]) -> Option<u64>
-    ensures { result ≡ number bytes.now }
-{
-    match bytes {
-        [] => None,
-        [_] => digits(0, bytes),
-        [first, ..] => {
-            if *first == b'0' {
-                None
-            } else {
-                digits(0, bytes)
-            }
-        }
-    }
 }
 
 fn goto_of(line: &[u8]) -> Option<Command>

@@ -3,19 +3,14 @@
 
 mod begun;
 mod command;
-mod document;
-mod escape;
 mod feed;
 mod machine;
 mod play;
 mod run;
-mod screen;
 mod stop;
 mod take;
 
-pub use command::number;
-pub use escape::push_text;
 pub use machine::CommandMachine;
 pub use play::play_run;
 pub use run::run_commands;
-pub use screen::write_screen;
+pub use wave_screen::{number, push_text, write_screen};

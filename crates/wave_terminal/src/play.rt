@@ -7,7 +7,7 @@ ghost use Rattle.wave_terminal.specs.Runs.{IsCommandStatus, IsObeyed};
 use crate::CommandMachine;
 use crate::command::{Command, command_of};
 use crate::run::run_commands;
-use crate::screen::write_screen;
+use wave_screen::write_screen;
 use doc_items::Memory;
 use std::alloc::Global;
 use wave_outside::{Sink, Source};

@@ -1,0 +1,5 @@
+mod Commanding
+mod Deltas
+mod Noting
+mod Placing
+mod Seating

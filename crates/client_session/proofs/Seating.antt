@@ -1,0 +1,62 @@
+-- A wavelet of a run, as its code keeps it.
+--     shown_is                a screen that is there
+--     chain_kept              the chain where nothing is to be noted
+--     fault_is                a refusal, and what is said of it
+--     edit_refused            an edit that is refused
+--     undo_at, undo_refused, undo_none     an undo
+use Rattle.std.proofs.Common.{◌≡◌, ℕ, Bool, List, [], ◌∷◌, map, Option, None, Some, Result, Ok, Err, refl, sym, ap, subst, ◌∙◌, slice_get, unwrap_or}
+use Rattle.std.specs.Result.{IfOk}
+use Rattle.std.proofs.lemmas.Result.{IfOk-weaker}
+use Rattle.wavelet_op.specs.Acts.{Act, meanings}
+use Rattle.wavelet_op.specs.States.{State, empty_state}
+use Rattle.wavelet_op.specs.declared.op.WaveletOp.{WaveletOp}
+use Rattle.follower_rules.specs.Followers.{FollowerOf, screen}
+use Rattle.follower_rules.specs.Submitting.{IsFault, edit, submit}
+use Rattle.follower_rules.specs.declared.fault.FollowerFault.{FollowerFault}
+use Rattle.follower_rules.specs.declared.fault.FollowerFault.TheVariants.{OpInvalid, EditFull, TooBig, NumbersSpent, Memory}
+use Rattle.client_control.specs.Parts.{Parts, follower_of}
+use Rattle.undo_control.specs.Chains.{ChainOf}
+use Rattle.undo_control.specs.Parts.{Chain, chain_of}
+use Rattle.client_session.specs.Editing.{edited_as, edit_seat, undone_as, undo_by, undo_seat, submitted_as, submit_seat, handed, IsUnsent}
+use Rattle.client_session.specs.Lines.{IsFaultSaid, fault_said}
+use Rattle.client_session.specs.Seats.{SeatOf, seat_of, shown, noted}
+use Rattle.client_session.specs.declared.acts.Handed.{Handed}
+use Rattle.client_session.specs.declared.chain.Note.{Note}
+use Rattle.client_session.specs.declared.chain.Note.TheVariants as note
+use Rattle.client_session.specs.declared.said.Said.{Said}
+use Rattle.client_session.specs.declared.said.Said.TheVariants as said
+use Rattle.client_session.specs.declared.seat.Seat.{Seat}
+
+pub shown_is : (f : FollowerOf) (s : State) → screen f ≡ Some s → s ≡ shown f
+shown_is f s e = sym (ap (λ o. unwrap_or o empty_state) e)
+
+pub chain_kept : (s : Seat) → s.note ≡ note.Nothing → (seat_of s).chain ≡ chain_of s.chain
+chain_kept s e = ap (noted (follower_of s.follower) (chain_of s.chain)) e
+
+-- ---- refusals
+
+module _ {X : Type 0} where
+  pub fault_is : (x : Result X FollowerFault) (e : FollowerFault) (t : Said) → IsFault x e → IsFaultSaid e t → (x ≡ Err e) × (t ≡ fault_said e)
+  fault_is x (OpInvalid k) t f s = (f, s)
+  fault_is x EditFull t f s = (f, s)
+  fault_is x TooBig t f s = (f, s)
+  fault_is x NumbersSpent t f s = (f, s)
+  fault_is x Memory t f s = absurd s
+
+pub undo_at : (s : SeatOf) (es : List (List WaveletOp)) (x : List WaveletOp) → s.chain.entries ≡ map meanings es → Some x ≡ slice_get es 0 → undo_seat s ≡ undone_as s (edit s.follower (meanings x))
+undo_at s [] x c at = absurd (cc)
+undo_at s (y ∷ es) x c at = ap (undo_by s) c ∙ ap (λ z. undone_as s (edit s.follower (meanings z))) cc
+
+module _ {E : Type 0} (r : Result Said E) where
+  pub edit_refused : (s : SeatOf) (acts : List Act) (e : FollowerFault) → IsFault (edit s.follower acts) e → IfOk r (IsFaultSaid e) → IfOk r (λ t. (s, t) ≡ edit_seat s acts)
+  edit_refused s acts e f h = IfOk-weaker r (IsFaultSaid e) (λ t. (s, t) ≡ edit_seat s acts) (λ t q. let z = fault_is (edit s.follower acts) e t f q in ap (λ u. (s, u)) z.1 ∙ sym (ap (edited_as s acts) z.0)) h
+
+  pub undo_refused : (s : SeatOf) (es : List (List WaveletOp)) (x : List WaveletOp) (e : FollowerFault) → s.chain.entries ≡ map meanings es → Some x ≡ slice_get es 0 → IsFault (edit s.follower (meanings x)) e → IfOk r (IsFaultSaid e)
+      → IfOk r (λ t. (s, t) ≡ undo_seat s)
+  undo_refused s es x e c at f h =
+      IfOk-weaker r (IsFaultSaid e) (λ t. (s, t) ≡ undo_seat s)
+      (λ t q. let z = fault_is (edit s.follower (meanings x)) e t f q in ap (λ u. (s, u)) z.1 ∙ sym (ap (undone_as s) z.0) ∙ sym (undo_at s es x c at)) h
+
+pub undo_none : (s : SeatOf) (es : List (List WaveletOp)) → s.chain.entries ≡ map meanings es → None ≡ slice_get es 0 → (s, said.NothingToUndo) ≡ undo_seat s
+undo_none s [] c at = sym (ap (undo_by s) c)
+undo_none s (y ∷ es) c at = absurd (cc)

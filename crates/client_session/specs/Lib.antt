@@ -1,0 +1,6 @@
+pub mod Answers
+pub mod Editing
+pub mod Lines
+pub mod Machine
+pub mod Seats
+pub mod Taking

@@ -1,0 +1,3 @@
+pub mod Escapes
+pub mod Numerals
+pub mod Screen

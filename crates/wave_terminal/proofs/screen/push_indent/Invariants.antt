@@ -1,6 +1,0 @@
-use Rattle.std.proofs.Common.{◌≡◌, ◌++◌, ◌-◌, string_bytes}
-use Rattle.wave_terminal.specs.Screen.{indent}
-use Rattle.wave_terminal.proofs.screen.push_indent.Given as goal
-
-abbrev pub invariant-loop : goal.invariant-loop
-invariant-loop l = string_bytes l.out ++ indent (l.depth - l.counter) ≡ string_bytes l.fn.out ++ indent l.depth
