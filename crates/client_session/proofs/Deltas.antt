@@ -1,11 +1,12 @@
 -- What a follower's answer to a delta tells.
 --     Holds f d r, holds      only where it advances does the follower change, and then the delta is structured
 --     noted_own, noted_other  what is to be noted where the follower advances
---     update_*                a delta, by the answer to it
+--     answer_told, ask_told, ask_kept, advance_told      a delta, by the answer to it
+--     unchanged               what an answer tells
 use Rattle.std.proofs.Common.{◌≡◌, ℕ, Bool, true, false, List, [], ◌∷◌, length, Option, None, Some, Result, Ok, Err, refl, sym, ap, subst, ◌∙◌, nat_lt}
 use Rattle.std.specs.Option.{option_map}
-use Rattle.std.specs.Result.{IfOk}
-use Rattle.std.proofs.lemmas.Result.{IfOk-weaker}
+use Rattle.std.specs.Result.{IfOk, OnErr}
+use Rattle.std.proofs.lemmas.Result.{IfOk-weaker, on_err_weaker}
 use Rattle.wave_base.specs.Versions.{same_id}
 use Rattle.wavelet_op.specs.Acts.{Act, meanings, AreStructuredActs}
 use Rattle.wavelet_op.specs.Deltas.{DeltaOf}
@@ -19,10 +20,16 @@ use Rattle.follower_rules.specs.declared.received.Received.{Received}
 use Rattle.follower_rules.specs.declared.received.Received.TheVariants as received
 use Rattle.client_control.proofs.Pending.{run_structured}
 use Rattle.undo_control.specs.Chains.{ChainOf}
-use Rattle.client_session.specs.Seats.{SeatOf, noted, with_follower}
-use Rattle.client_session.specs.Taking.{Told, Rebasing, IsLeft, IsNoteOf, flies, chain_after, chain_moved, updated, update_seat}
+use Rattle.client_control.specs.Parts.{Parts, follower_of}
+use Rattle.client_session.specs.Answers.{quiet}
+use Rattle.client_session.specs.Seats.{SeatOf, seat_of, noted, with_follower}
+use Rattle.client_session.specs.Taking.{Rebasing, IsLeft, IsNoteOf, ask, flies, chain_after, chain_moved, updated, update_seat}
 use Rattle.client_session.specs.declared.chain.Note.{Note}
 use Rattle.client_session.specs.declared.chain.Note.TheVariants as note
+use Rattle.client_session.specs.declared.acts.Acts.{Acts}
+use Rattle.client_session.specs.declared.said.Said.{Said}
+use Rattle.client_session.specs.declared.seat.Seat.{Seat}
+use Rattle.client_session.proofs.Seating.{with_parts, follower_moved, with_note}
 
 abbrev pub Holds : FollowerOf → DeltaOf → Answered → Type 0
 Holds f d (received.Old, g) = g ≡ f
@@ -102,8 +109,34 @@ others r g d e h = IfOk-weaker r (IsLeft (rebase (pending g) (acts_of d))) (IsNo
 
 -- ---- a delta
 
-pub update_by : (s : SeatOf) (d : DeltaOf) (a : Received) (f : FollowerOf) → (a, f) ≡ receive s.follower d → updated s d (a, f) ≡ update_seat s d
-update_by s d a f e = ap (updated s d) e
-
 pub advanced : (s : SeatOf) (d : DeltaOf) (f : FollowerOf) (n : Note) → IsNoteOf s.follower d n → (received.Advanced, f) ≡ receive s.follower d → noted f s.chain n ≡ chain_moved s d f
 advanced s d f n is e = is (holds s.follower d (received.Advanced, f) e) f s.chain
+
+module _ (m : Seat) (old : SeatOf) (e : seat_of m ≡ old) (n : m.note ≡ note.Nothing) (f : Parts) (d : DeltaOf) (a : Received) (h : (a, follower_of f) ≡ receive (follower_of m.follower) d) where
+  received_so : (a, follower_of f) ≡ receive old.follower d
+  received_so = h ∙ ap (λ (s : SeatOf). receive s.follower d) e
+
+  by_answer : updated old d (a, follower_of f) ≡ update_seat old d
+  by_answer = ap (updated old d) received_so
+
+  pub answer_told : (t : Acts) → updated old d (a, follower_of f) ≡ (with_follower old (follower_of f) old.chain, t) → (seat_of (with_parts m f m.note), t) ≡ update_seat old d
+  answer_told t u = ap (λ s. (s, t)) (follower_moved m old e n f) ∙ sym u ∙ by_answer
+
+  pub ask_told : {E : Type 0} (q : Result Acts E) (k : Seat) (t : Said) → updated old d (a, follower_of f) ≡ ask (with_follower old (follower_of f) old.chain) t
+      → IfOk q (λ x. (seat_of k, x) ≡ ask (seat_of (with_parts m f m.note)) t) → IfOk q (λ x. (seat_of k, x) ≡ update_seat old d)
+  ask_told q k t u r =
+      IfOk-weaker q (λ x. (seat_of k, x) ≡ ask (seat_of (with_parts m f m.note)) t) (λ x. (seat_of k, x) ≡ update_seat old d)
+      (λ x p. p ∙ ap (λ s. ask s t) (follower_moved m old e n f) ∙ sym u ∙ by_answer) r
+
+  pub ask_kept : {E : Type 0} (q : Result Acts E) (k : Seat) → follower_of f ≡ follower_of m.follower → OnErr q (seat_of k ≡ seat_of (with_parts m f m.note)) → OnErr q (seat_of k ≡ old)
+  ask_kept q k s r = on_err_weaker q (λ p. p ∙ follower_moved m old e n f ∙ ap (λ z. with_follower old z old.chain) (s ∙ ap (λ (z : SeatOf). z.follower) e)) r
+
+  pub advance_told : (x : Note) → IsNoteOf (follower_of m.follower) d x → a ≡ received.Advanced → (seat_of (with_parts m f x), quiet) ≡ update_seat old d
+  advance_told x is c =
+      ap (λ z. (z, quiet)) (with_note m old e n f x)
+      ∙ ap (λ z. (with_follower old (follower_of f) z, quiet)) (advanced old d (follower_of f) x (subst (λ (s : SeatOf). IsNoteOf s.follower d x) e is) (ap (λ y. (y, follower_of f)) (sym c) ∙ received_so))
+      ∙ sym (ap (λ y. updated old d (y, follower_of f)) c)
+      ∙ by_answer
+
+pub unchanged : (g : FollowerOf) (d : DeltaOf) (f : FollowerOf) (a b : Received) → (a, f) ≡ receive g d → a ≡ b → Holds g d (b, f)
+unchanged g d f a b h e = subst (λ x. Holds g d (x, f)) e (holds g d (a, f) h)

@@ -1,15 +1,15 @@
 -- The wavelets of a run at their places.
 --     set_same                what stands at a place is set there
 --     moved_there, moved_past the wavelet at a place moves; there is none
---     on_there, on_current_there, on_current_past     so where a call gives what follows
+--     on_there                so where a call gives what follows
 --     same_there              the wavelet at a place is as it was
---     halted_there            its submission was taken, or not
+--     either_there            it moved, or is as it was
 use Rattle.std.proofs.Common.{◌≡◌, ◌⊎◌, inl, inr, ◌≤◌, ℕ, zero, suc, List, [], ◌∷◌, length, map, slice_get, slice_set, Option, None, Some, Result, Ok, Err, refl, sym, ap, subst, ◌∙◌, option_map}
-use Rattle.std.specs.Result.{IfOk, OnErr}
+use Rattle.std.specs.Result.{IfOk}
 use Rattle.std.proofs.lemmas.List.{map-set}
 use Rattle.std.proofs.lemmas.Option.{slice_get-map, slice_get_past}
-use Rattle.std.proofs.lemmas.Result.{IfOk-weaker, on_err_weaker}
-use Rattle.client_session.specs.Machine.{MachineOf, with_seats, seat_moved, on_place, on_found, on_current, seat_at, current_seat}
+use Rattle.std.proofs.lemmas.Result.{IfOk-weaker}
+use Rattle.client_session.specs.Machine.{MachineOf, with_seats, seat_moved, on_place, IsEither}
 use Rattle.client_session.specs.Seats.{SeatOf, seat_of}
 use Rattle.client_session.specs.declared.seat.Seat.{Seat}
 
@@ -26,7 +26,7 @@ module _ (m : MachineOf) (ss : List Seat) (i : ℕ) (all : m.seats ≡ map seat_
   pub seat_past : length ss ≤ i → slice_get m.seats i ≡ None
   seat_past h = ap (λ z. slice_get z i) all ∙ slice_get-map seat_of ss i ∙ ap (option_map seat_of) (slice_get_past ss i h)
 
-  set_seats : (t : Seat) → map seat_of (slice_set ss i t) ≡ slice_set m.seats i (seat_of t)
+  pub set_seats : (t : Seat) → map seat_of (slice_set ss i t) ≡ slice_set m.seats i (seat_of t)
   set_seats t = map-set seat_of ss i t ∙ ap (λ z. slice_set z i (seat_of t)) (sym all)
 
   pub same_there : (s t : Seat) → slice_get ss i ≡ Some s → seat_of t ≡ seat_of s → with_seats m (map seat_of (slice_set ss i t)) m.current ≡ m
@@ -43,26 +43,7 @@ module _ (m : MachineOf) (ss : List Seat) (i : ℕ) (all : m.seats ≡ map seat_
     pub on_there : {E : Type 0} (q : Result R E) (s t : Seat) → slice_get ss i ≡ Some s → IfOk q (λ r. (seat_of t, r) ≡ g (seat_of s)) → IfOk q (λ r. (with_seats m (map seat_of (slice_set ss i t)) m.current, r) ≡ on_place i g d m)
     on_there q s t got h = IfOk-weaker q (λ r. (seat_of t, r) ≡ g (seat_of s)) (λ r. (with_seats m (map seat_of (slice_set ss i t)) m.current, r) ≡ on_place i g d m) (λ r is. moved_there s t r got is) h
 
-    pub on_current_there : {E : Type 0} (q : Result R E) (s t : Seat) → m.current ≡ Some i → slice_get ss i ≡ Some s → IfOk q (λ r. (seat_of t, r) ≡ g (seat_of s))
-        → IfOk q (λ r. (with_seats m (map seat_of (slice_set ss i t)) m.current, r) ≡ on_current g d m)
-    on_current_there q s t e got h =
-        IfOk-weaker q (λ r. (with_seats m (map seat_of (slice_set ss i t)) m.current, r) ≡ on_place i g d m) (λ r. (with_seats m (map seat_of (slice_set ss i t)) m.current, r) ≡ on_current g d m)
-        (λ r is. is ∙ sym (ap (λ o. on_found o g d m) e)) (on_there q s t got h)
-
-    pub on_current_past : m.current ≡ Some i → length ss ≤ i → (m, d) ≡ on_current g d m
-    on_current_past e h = moved_past h ∙ sym (ap (λ o. on_found o g d m) e)
-
-    pub halted_there : (s t : Seat) → m.current ≡ Some i → slice_get ss i ≡ Some s → (seat_of t ≡ seat_of s) ⊎ (seat_of t ≡ (g (seat_of s)).0)
-        → (with_seats m (map seat_of (slice_set ss i t)) m.current ≡ m) ⊎ (with_seats m (map seat_of (slice_set ss i t)) m.current ≡ (on_current g d m).0)
-    halted_there s t e got (inl h) = inl (same_there s t got h)
-    halted_there s t e got (inr h) =
-        inr (ap (λ z. with_seats m z m.current) (set_seats t ∙ ap (slice_set m.seats i) h) ∙ sym (ap (λ o. (seat_moved m i d (option_map g o)).0) (seat_there s got)) ∙ sym (ap (λ o. (on_found o g d m).0) e))
-
-  pub seat_now : (s : Seat) → m.current ≡ Some i → slice_get ss i ≡ Some s → current_seat m ≡ Some (seat_of s)
-  seat_now s e got = ap (seat_at m.seats) e ∙ seat_there s got
-
-  pub seat_nowhere : m.current ≡ Some i → length ss ≤ i → current_seat m ≡ None
-  seat_nowhere e h = ap (seat_at m.seats) e ∙ seat_past h
-
-pub on_nothing : {R : Type 0} (m : MachineOf) (g : SeatOf → SeatOf × R) (d : R) → m.current ≡ None → (m, d) ≡ on_current g d m
-on_nothing m g d e = sym (ap (λ o. on_found o g d m) e)
+    pub either_there : (s t : Seat) → slice_get ss i ≡ Some s → (seat_of t ≡ seat_of s) ⊎ (seat_of t ≡ (g (seat_of s)).0) → IsEither m (on_place i g d m).0 (with_seats m (map seat_of (slice_set ss i t)) m.current)
+    either_there s t got (inl h) = inl (same_there s t got h)
+    either_there s t got (inr h) =
+        inr (ap (λ z. with_seats m z m.current) (set_seats t ∙ ap (slice_set m.seats i) h) ∙ sym (ap (λ o. (seat_moved m i d (option_map g o)).0) (seat_there s got)))

@@ -4,6 +4,7 @@
 --     fault_is                a refusal, and what is said of it
 --     edit_refused            an edit that is refused
 --     undo_at, undo_refused, undo_none     an undo
+--     follower_moved, with_note, edit_step, undo_step     a call that moved the follower
 use Rattle.std.proofs.Common.{◌≡◌, ℕ, Bool, List, [], ◌∷◌, map, Option, None, Some, Result, Ok, Err, refl, sym, ap, subst, ◌∙◌, slice_get, unwrap_or}
 use Rattle.std.specs.Result.{IfOk}
 use Rattle.std.proofs.lemmas.Result.{IfOk-weaker}
@@ -19,7 +20,7 @@ use Rattle.undo_control.specs.Chains.{ChainOf}
 use Rattle.undo_control.specs.Parts.{Chain, chain_of}
 use Rattle.client_session.specs.Editing.{edited_as, edit_seat, undone_as, undo_by, undo_seat, submitted_as, submit_seat, handed, IsUnsent}
 use Rattle.client_session.specs.Lines.{IsFaultSaid, fault_said}
-use Rattle.client_session.specs.Seats.{SeatOf, seat_of, shown, noted}
+use Rattle.client_session.specs.Seats.{SeatOf, seat_of, shown, after_edit, after_undo, noted, with_follower}
 use Rattle.client_session.specs.declared.acts.Handed.{Handed}
 use Rattle.client_session.specs.declared.chain.Note.{Note}
 use Rattle.client_session.specs.declared.chain.Note.TheVariants as note
@@ -60,3 +61,33 @@ module _ {E : Type 0} (r : Result Said E) where
 pub undo_none : (s : SeatOf) (es : List (List WaveletOp)) → s.chain.entries ≡ map meanings es → None ≡ slice_get es 0 → (s, said.NothingToUndo) ≡ undo_seat s
 undo_none s [] c at = sym (ap (undo_by s) c)
 undo_none s (y ∷ es) c at = absurd (cc)
+
+-- ---- calls of a follower
+
+-- a seat with another follower and note
+pub with_parts : Seat → Parts → Note → Seat
+with_parts s f n = record { follower = f; chain = s.chain; note = n; created = s.created; asked = s.asked; waits = s.waits }
+
+module _ (m : Seat) (old : SeatOf) (e : seat_of m ≡ old) (n : m.note ≡ note.Nothing) where
+  -- with another follower alone
+  pub follower_moved : (f : Parts) → seat_of (with_parts m f m.note) ≡ with_follower old (follower_of f) old.chain
+  follower_moved f = (λ i. record { follower = follower_of f; chain = noted (follower_of f) (chain_of m.chain) (n i); created = m.created; asked = m.asked; waits = m.waits }) ∙ (λ i. record { follower = follower_of f; chain = kept i; created = (e i).created; asked = (e i).asked; waits = (e i).waits })
+    where
+      kept : chain_of m.chain ≡ old.chain
+      kept = sym (chain_kept m n) ∙ ap (λ (s : SeatOf). s.chain) e
+
+  -- and with something to note
+  pub with_note : (f : Parts) (x : Note) → seat_of (with_parts m f x) ≡ with_follower old (follower_of f) (noted (follower_of f) old.chain x)
+  with_note f x = (λ i. record { follower = follower_of f; chain = noted (follower_of f) (sym (chain_kept m n) i) x; created = m.created; asked = m.asked; waits = m.waits }) ∙ (λ i. record { follower = follower_of f; chain = noted (follower_of f) (e i).chain x; created = (e i).created; asked = (e i).asked; waits = (e i).waits })
+
+  pub edit_step : (f : Parts) (ops copy : List WaveletOp) → edit (follower_of m.follower) (meanings ops) ≡ Ok (follower_of f) → copy ≡ ops → (seat_of (with_parts m f (note.Edit copy)), said.Nothing) ≡ edit_seat old (meanings ops)
+  edit_step f ops copy ok c =
+      subst (λ z. (seat_of (with_parts m f (note.Edit copy)), said.Nothing) ≡ edit_seat z (meanings ops)) e
+      ((λ i. (record { follower = follower_of f; chain = after_edit (sym (chain_kept m n) i) (meanings (c i)); created = m.created; asked = m.asked; waits = m.waits }, said.Nothing)) ∙ sym (ap (edited_as (seat_of m) (meanings ops)) ok))
+
+  pub undo_step : (f : Parts) (es : List (List WaveletOp)) (ops copy : List WaveletOp) → m.chain.entries ≡ es → Some ops ≡ slice_get es 0 → copy ≡ ops → edit (follower_of m.follower) (meanings copy) ≡ Ok (follower_of f)
+      → (seat_of (with_parts m f note.Undone), said.Nothing) ≡ undo_seat old
+  undo_step f es ops copy c at k ok =
+      subst (λ z. (seat_of (with_parts m f note.Undone), said.Nothing) ≡ undo_seat z) e
+      ((λ i. (record { follower = follower_of f; chain = after_undo (sym (chain_kept m n) i); created = m.created; asked = m.asked; waits = m.waits }, said.Nothing))
+      ∙ sym (undo_at (seat_of m) es ops (ap (λ (z : ChainOf). z.entries) (chain_kept m n) ∙ ap (map meanings) c) at ∙ ap (undone_as (seat_of m)) (ap (λ z. edit (follower_of m.follower) (meanings z)) (sym k) ∙ ok)))

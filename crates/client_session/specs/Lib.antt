@@ -1,5 +1,6 @@
 pub mod Answers
 pub mod Editing
+pub mod Laws
 pub mod Lines
 pub mod Machine
 pub mod Seats

@@ -5,9 +5,8 @@
 --     on_place i g r m        what g makes of the wavelet at a place; r where there is none
 --     on_current              so of the current one
 --     opened m n, created m n     the wavelet of a name becomes the current one
---     here s c b              what a command does to the current wavelet; b is what its edit asks for
---     commanded m c b         what a command itself does
---     IsAsked m c b           b is what its edit asks for at the current screen
+--     IsHere s c r            what a command does to the current wavelet
+--     IsDone m c r            what a command itself does
 --     finished tells r        after that: a submission of the current wavelet, where one is taken
 --     IsCommanded m c r       all that a command does
 --     IsCutShort m c n        what a command may leave where memory gave out
@@ -28,13 +27,10 @@ use Rattle.follower_rules.specs.Followers.{ClientOf, pending}
 use Rattle.client_control.specs.Parts.{settled}
 use Rattle.client_commands.specs.declared.command.Command.{Command}
 use Rattle.client_commands.specs.declared.command.Command.TheVariants as command
-use Rattle.client_commands.specs.declared.command.Edit.{Edit}
-use Rattle.client_edits.specs.Asked.{IsBuilt}
-use Rattle.client_edits.specs.declared.built.Built.{Built}
 use Rattle.client_session.specs.Answers.{acts, quiet, says, syncing, leaving}
-use Rattle.client_session.specs.Editing.{edit_seat, edit_built, undo_seat, drop_seat, screen_of, handed, submit_seat}
+use Rattle.client_session.specs.Editing.{edit_seat, IsEdited, undo_seat, drop_seat, screen_of, handed, submit_seat}
 use Rattle.client_session.specs.Lines.{verdict_said, bad_said}
-use Rattle.client_session.specs.Seats.{SeatOf, seat_of, new_seat, answered, shown}
+use Rattle.client_session.specs.Seats.{SeatOf, seat_of, new_seat, answered}
 use Rattle.client_session.specs.Taking.{Told, reopen, ack_seat, snapshot_seat, update_seat, refuse_seat, unopen_seat, close_seat}
 use Rattle.client_session.specs.declared.acts.Acts.{Acts}
 use Rattle.client_session.specs.declared.acts.Handed.{Handed}
@@ -98,8 +94,11 @@ with_seat m s = with_seats m (m.seats ++ s ∷ []) (Some (length m.seats))
 abbrev pub seated : MachineOf → Told → Acted
 seated m r = (with_seat m r.0, r.1)
 
+abbrev pub opened_by : ℕ → MachineOf × List Message → Acted
+opened_by i r = (with_seats r.0 r.0.seats (Some i), acts r.1 said.Nothing)
+
 abbrev pub opened_place : MachineOf → ℕ → Acted
-opened_place m i = on_place i (λ s. sending (reopen s)) quiet (with_seats m m.seats (Some i))
+opened_place m i = opened_by i (on_place i reopen [] m)
 
 abbrev pub opened_at : MachineOf → Key → Option ℕ → Acted
 opened_at m name None = seated m (sending (reopen (new_seat name (client_of m) false)))
@@ -120,63 +119,39 @@ created m name = created_at m name (place_of name m.seats)
 abbrev pub no_wavelet : Acts
 no_wavelet = says said.NoWavelet
 
--- of the current wavelet; the first two and the last are no commands of it
-abbrev pub here : SeatOf → Command → Built → Told
-here s (command.Create name) b = (s, quiet)
-here s (command.Open name) b = (s, quiet)
-here s (command.Edit e) b = saying (edit_built s b)
-here s command.Undo b = saying (undo_seat s)
-here s command.Show b = (s, says (said.Screen (screen_of s)))
-here s command.Sync b = (s, syncing)
-here s command.Drop b = (drop_seat s, quiet)
-here s command.Quit b = (s, quiet)
-
-abbrev pub IsAskedHere : SeatOf → Command → Built → Type 0
-IsAskedHere s (command.Create name) b = Unit {0}
-IsAskedHere s (command.Open name) b = Unit {0}
-IsAskedHere s (command.Edit e) b = IsBuilt (shown s.follower) e b
-IsAskedHere s command.Undo b = Unit {0}
-IsAskedHere s command.Show b = Unit {0}
-IsAskedHere s command.Sync b = Unit {0}
-IsAskedHere s command.Drop b = Unit {0}
-IsAskedHere s command.Quit b = Unit {0}
-
+-- what a command does to the current wavelet; the first two and the last are no commands of it
 abbrev pub IsHere : SeatOf → Command → Told → Type 0
-IsHere s c r = (b : Built) × IsAskedHere s c b × (r ≡ here s c b)
+IsHere s (command.Create name) r = r ≡ (s, quiet)
+IsHere s (command.Open name) r = r ≡ (s, quiet)
+IsHere s (command.Edit e) r = (t : SeatOf × Said) × IsEdited s e t × (r ≡ saying t)
+IsHere s command.Undo r = r ≡ saying (undo_seat s)
+IsHere s command.Show r = r ≡ (s, says (said.Screen (screen_of s)))
+IsHere s command.Sync r = r ≡ (s, syncing)
+IsHere s command.Drop r = r ≡ (drop_seat s, quiet)
+IsHere s command.Quit r = r ≡ (s, quiet)
 
-abbrev pub commanded : MachineOf → Option Command → Built → Acted
-commanded m None b = (m, says said.Unknown)
-commanded m (Some (command.Create name)) b = created m name
-commanded m (Some (command.Open name)) b = opened m name
-commanded m (Some (command.Edit e)) b = on_current (λ s. here s (command.Edit e) b) no_wavelet m
-commanded m (Some command.Undo) b = on_current (λ s. here s command.Undo b) no_wavelet m
-commanded m (Some command.Show) b = on_current (λ s. here s command.Show b) no_wavelet m
-commanded m (Some command.Sync) b = on_current (λ s. here s command.Sync b) no_wavelet m
-commanded m (Some command.Drop) b = on_current (λ s. here s command.Drop b) no_wavelet m
-commanded m (Some command.Quit) b = (m, leaving)
+abbrev pub IsFoundHere : MachineOf → ℕ → Command → Option SeatOf → Acted → Type 0
+IsFoundHere m i c None r = r ≡ (m, no_wavelet)
+IsFoundHere m i c (Some s) r = (t : Told) × IsHere s c t × (r ≡ seat_moved m i no_wavelet (Some t))
 
-abbrev pub seat_at : List SeatOf → Option ℕ → Option SeatOf
-seat_at ss None = None
-seat_at ss (Some i) = slice_get ss i
+abbrev pub IsHereAt : MachineOf → Option ℕ → Command → Acted → Type 0
+IsHereAt m None c r = r ≡ (m, no_wavelet)
+IsHereAt m (Some i) c r = IsFoundHere m i c (slice_get m.seats i) r
 
-abbrev pub current_seat : MachineOf → Option SeatOf
-current_seat m = seat_at m.seats m.current
-
-abbrev pub IsAskedAt : Option SeatOf → Command → Built → Type 0
-IsAskedAt None c b = Unit {0}
-IsAskedAt (Some s) c b = IsAskedHere s c b
-
-abbrev pub IsAsked : MachineOf → Option Command → Built → Type 0
-IsAsked m None b = Unit {0}
-IsAsked m (Some c) b = IsAskedAt (current_seat m) c b
-
--- of the current wavelet, or without one
 abbrev pub IsCurrent : MachineOf → Command → Acted → Type 0
-IsCurrent m c r = (b : Built) × IsAskedAt (current_seat m) c b × (r ≡ on_current (λ s. here s c b) no_wavelet m)
+IsCurrent m c r = IsHereAt m m.current c r
 
 -- what a command itself does
 abbrev pub IsDone : MachineOf → Option Command → Acted → Type 0
-IsDone m c r = (b : Built) × IsAsked m c b × (r ≡ commanded m c b)
+IsDone m None r = r ≡ (m, says said.Unknown)
+IsDone m (Some (command.Create name)) r = r ≡ created m name
+IsDone m (Some (command.Open name)) r = r ≡ opened m name
+IsDone m (Some (command.Edit e)) r = IsCurrent m (command.Edit e) r
+IsDone m (Some command.Undo) r = IsCurrent m command.Undo r
+IsDone m (Some command.Show) r = IsCurrent m command.Show r
+IsDone m (Some command.Sync) r = IsCurrent m command.Sync r
+IsDone m (Some command.Drop) r = IsCurrent m command.Drop r
+IsDone m (Some command.Quit) r = r ≡ (m, leaving)
 
 -- ---- submissions
 
@@ -205,8 +180,11 @@ abbrev pub IsCommanded : MachineOf → Option Command → Acted → Type 0
 IsCommanded m c r = (p : Acted) × IsDone m c p × IsFinished p r
 
 -- where memory gave out after a step: before its submission was taken, or after
+abbrev pub IsEither : MachineOf → MachineOf → MachineOf → Type 0
+IsEither m k n = (n ≡ m) ⊎ (n ≡ k)
+
 abbrev pub IsHalted : MachineOf → MachineOf → Type 0
-IsHalted m n = (n ≡ m) ⊎ (n ≡ (submitted m).0)
+IsHalted m n = IsEither m (submitted m).0 n
 
 abbrev pub IsCutShort : MachineOf → Option Command → MachineOf → Type 0
 IsCutShort m c n = (n ≡ m) ⊎ ((p : Acted) × IsDone m c p × IsHalted p.0 n)
@@ -288,8 +266,12 @@ greeted_with m r = (r.0, acts (message.Hello (chars m.user) ∷ r.1) said.Nothin
 abbrev pub greeted : MachineOf → Acted
 greeted m = greeted_with m (on_current reopen [] m)
 
+abbrev pub seat_at : List SeatOf → Option ℕ → Option SeatOf
+seat_at ss None = None
+seat_at ss (Some i) = slice_get ss i
+
 abbrev pub is_open_end : SeatOf → Bool
 is_open_end s = not (settled (pending s.follower)) || s.waits
 
 abbrev pub is_waiting : MachineOf → Bool
-is_waiting m = option_map_or is_open_end (current_seat m) false
+is_waiting m = option_map_or is_open_end (seat_at m.seats m.current) false

@@ -6,6 +6,7 @@ mod acts;
 mod chain;
 mod edits;
 mod key;
+mod laws;
 mod messages;
 mod opening;
 mod said;
@@ -14,6 +15,7 @@ mod state;
 mod taking;
 
 pub use acts::Acts;
+pub use laws::chains_follow;
 pub use messages::Messages;
 pub use said::{Reason, Said, ShownText};
 pub use state::ClientState;

@@ -4,9 +4,11 @@ ghost use Rattle.doc_items.specs.Limits.{max_count};
 ghost use Rattle.wavelet_op.specs.declared.op.WaveletOp.TheVariants.{Add};
 ghost use Rattle.client_commands.specs.Lines.{command_of};
 ghost use Rattle.client_session.specs.Answers.{quiet};
-ghost use Rattle.client_session.specs.Machine.{machine_of, new_machine, client_of, with_seat, place_of, on_place, on_current, IsCurrent, opened_place, opened_at, opened, created_at, created, IsDone, submitted, finished, IsCommanded, IsHalted, IsCutShort, told_by, parted, taken_at, all_answered, bad_in, bad_as, taken_by, received, IsMessageCutShort, greeted, is_waiting};
+ghost use Rattle.client_session.specs.Machine.{machine_of, new_machine, client_of, with_seat, place_of, on_place, on_current, IsHereAt, IsCurrent, IsEither, opened_place, opened_at, opened, created_at, created, IsDone, submitted, finished, IsCommanded, IsHalted, IsCutShort, told_by, parted, taken_at, all_answered, bad_in, bad_as, taken_by, received, IsMessageCutShort, greeted, is_waiting};
+ghost use Rattle.client_session.specs.Editing.{handed, submit_seat};
 ghost use Rattle.client_session.specs.Seats.{seat_of, new_seat};
 ghost use Rattle.client_session.specs.Taking.{reopen};
+ghost use Rattle.client_session.specs.declared.said.Said.TheVariants.{Nothing};
 
 use crate::about::{bad_in, is_close, name_in};
 use crate::acts::{Acts, Handed};
@@ -69,17 +71,36 @@ impl ClientState {
 
     // ---- the current wavelet
 
-    // What a command does to the current wavelet. After want of memory all is as it was, here and below.
+    // What a command does to the wavelet at a place. After want of memory all is as it was, here and below.
+    fn here_at(&mut self, alloc: Global, place: usize, command: &Command) -> Result<Acts, Memory>
+        ensures ok { IfOk result (λ a. IsHereAt (machine_of self.old) (Some place) command.now (machine_of self.new, a)) }
+        ensures same { OnErr result (machine_of self.new ≡ machine_of self.old) }
+    {
+        match self.seats.get_mut(place) {
+            Some(seat) => seat.command(alloc, command),
+            None => Ok(Acts::says(alloc, Said::NoWavelet)),
+        }
+    }
+
+    // What a command does to the current wavelet.
     fn here(&mut self, alloc: Global, command: &Command) -> Result<Acts, Memory>
         ensures ok { IfOk result (λ a. IsCurrent (machine_of self.old) command.now (machine_of self.new, a)) }
         ensures same { OnErr result (machine_of self.new ≡ machine_of self.old) }
     {
-        let Some(place) = self.current else {
-            return Ok(Acts::says(alloc, Said::NoWavelet));
-        };
-        match self.seats.get_mut(place) {
-            Some(seat) => seat.command(alloc, command),
+        match self.current {
+            Some(place) => self.here_at(alloc, place, command),
             None => Ok(Acts::says(alloc, Said::NoWavelet)),
+        }
+    }
+
+    // The wavelet at a place is opened anew.
+    fn reopen_at(&mut self, alloc: Global, place: usize) -> Result<Messages, Memory>
+        ensures ok { IfOk result (λ ms. (machine_of self.new, ms) ≡ on_place place reopen [] (machine_of self.old)) }
+        ensures same { OnErr result (machine_of self.new ≡ machine_of self.old) }
+    {
+        match self.seats.get_mut(place) {
+            Some(seat) => seat.reopen(alloc),
+            None => Ok(Messages::new(alloc)),
         }
     }
 
@@ -88,25 +109,30 @@ impl ClientState {
         ensures ok { IfOk result (λ ms. (machine_of self.new, ms) ≡ on_current reopen [] (machine_of self.old)) }
         ensures same { OnErr result (machine_of self.new ≡ machine_of self.old) }
     {
-        let Some(place) = self.current else {
-            return Ok(Messages::new(alloc));
-        };
-        match self.seats.get_mut(place) {
-            Some(seat) => seat.reopen(alloc),
+        match self.current {
+            Some(place) => self.reopen_at(alloc, place),
             None => Ok(Messages::new(alloc)),
         }
     }
 
-    // A submission of the current wavelet, where one is taken. After want of memory all is as it was, or it was taken.
+    // A submission of the wavelet at a place, where one is taken. After want of memory all is as it was, or it was taken.
+    fn submit_at(&mut self, alloc: Global, place: usize) -> Result<Handed, Memory>
+        ensures ok { IfOk result (λ h. (machine_of self.new, h) ≡ on_place place submit_seat (handed [] Nothing) (machine_of self.old)) }
+        ensures err { OnErr result (IsEither (machine_of self.old) (on_place place submit_seat (handed [] Nothing) (machine_of self.old)).0 (machine_of self.new)) }
+    {
+        match self.seats.get_mut(place) {
+            Some(seat) => seat.submit(alloc),
+            None => Ok(Handed::new(Messages::new(alloc), Said::Nothing)),
+        }
+    }
+
+    // A submission of the current wavelet.
     fn submit(&mut self, alloc: Global) -> Result<Handed, Memory>
         ensures ok { IfOk result (λ h. (machine_of self.new, h) ≡ submitted (machine_of self.old)) }
         ensures err { OnErr result (IsHalted (machine_of self.old) (machine_of self.new)) }
     {
-        let Some(place) = self.current else {
-            return Ok(Handed::new(Messages::new(alloc), Said::Nothing));
-        };
-        match self.seats.get_mut(place) {
-            Some(seat) => seat.submit(alloc),
+        match self.current {
+            Some(place) => self.submit_at(alloc, place),
             None => Ok(Handed::new(Messages::new(alloc), Said::Nothing)),
         }
     }
@@ -156,17 +182,9 @@ impl ClientState {
         ensures ok { IfOk result (λ a. (machine_of self.new, a) ≡ opened_place (machine_of self.old) place) }
         ensures same { OnErr result (machine_of self.new ≡ machine_of self.old) }
     {
-        match self.seats.get_mut(place) {
-            Some(seat) => {
-                let send = seat.reopen(alloc)?;
-                self.current = Some(place);
-                Ok(Acts::new(send, Said::Nothing))
-            }
-            None => {
-                self.current = Some(place);
-                Ok(Acts::quiet(alloc))
-            }
-        }
+        let send = self.reopen_at(alloc, place)?;
+        self.current = Some(place);
+        Ok(Acts::new(send, Said::Nothing))
     }
 
     fn create_new(&mut self, alloc: Global, name: &WaveletName) -> Result<Acts, Memory>

@@ -240,10 +240,8 @@ fn pending_of(alloc: Global, follower: &Follower) -> Result<Vec<Ops>, Memory>
     ensures { IfOk result (λ v. v.items ≡ ops_pending follower.now) }
 {
     let mut entries = Vec::new(alloc);
-    let mut place = 0;
-    while let Some(ops) = follower.pending(place) {
+    while let Some(ops) = follower.pending(entries.len() as u64) {
         entries.push(ops.copy(alloc)?)?;
-        place += 1;
     }
     Ok(entries)
 }
