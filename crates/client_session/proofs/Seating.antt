@@ -4,7 +4,8 @@
 --     fault_is                a refusal, and what is said of it
 --     edit_refused            an edit that is refused
 --     undo_at, undo_refused, undo_none     an undo
---     follower_moved, with_note, edit_step, undo_step     a call that moved the follower
+--     follower_moved, with_note, edit_step, undo_step, submit_step      a call that moved the follower
+--     stays, edit_failed, undo_failed, submit_failed      one that didn't
 use Rattle.std.proofs.Common.{◌≡◌, ℕ, Bool, List, [], ◌∷◌, map, Option, None, Some, Result, Ok, Err, refl, sym, ap, subst, ◌∙◌, slice_get, unwrap_or}
 use Rattle.std.specs.Result.{IfOk}
 use Rattle.std.proofs.lemmas.Result.{IfOk-weaker}
@@ -18,7 +19,8 @@ use Rattle.follower_rules.specs.declared.fault.FollowerFault.TheVariants.{OpInva
 use Rattle.client_control.specs.Parts.{Parts, follower_of}
 use Rattle.undo_control.specs.Chains.{ChainOf}
 use Rattle.undo_control.specs.Parts.{Chain, chain_of}
-use Rattle.client_session.specs.Editing.{edited_as, edit_seat, undone_as, undo_by, undo_seat, submitted_as, submit_seat, handed, IsUnsent}
+use Rattle.wavelet_op.specs.declared.delta.Submission.{Submission}
+use Rattle.client_session.specs.Editing.{edited_as, edit_seat, undone_as, undo_by, undo_seat, sent_message, submitted_as, submit_seat, handed, IsUnsent}
 use Rattle.client_session.specs.Lines.{IsFaultSaid, fault_said}
 use Rattle.client_session.specs.Seats.{SeatOf, seat_of, shown, after_edit, after_undo, noted, with_follower}
 use Rattle.client_session.specs.declared.acts.Handed.{Handed}
@@ -91,3 +93,32 @@ module _ (m : Seat) (old : SeatOf) (e : seat_of m ≡ old) (n : m.note ≡ note.
       subst (λ z. (seat_of (with_parts m f note.Undone), said.Nothing) ≡ undo_seat z) e
       ((λ i. (record { follower = follower_of f; chain = after_undo (sym (chain_kept m n) i); created = m.created; asked = m.asked; waits = m.waits }, said.Nothing))
       ∙ sym (undo_at (seat_of m) es ops (ap (λ (z : ChainOf). z.entries) (chain_kept m n) ∙ ap (map meanings) c) at ∙ ap (undone_as (seat_of m)) (ap (λ z. edit (follower_of m.follower) (meanings z)) (sym k) ∙ ok)))
+
+  -- a call that was refused
+  pub stays : (f : Parts) → f ≡ m.follower → seat_of (with_parts m f m.note) ≡ old
+  stays f s = ap (λ z. seat_of (with_parts m z m.note)) s ∙ e
+
+  pub edit_failed : {E : Type 0} (q : Result Said E) (f : Parts) (ops : List WaveletOp) (x : FollowerFault) → f ≡ m.follower → IsFault (edit (follower_of m.follower) (meanings ops)) x → IfOk q (IsFaultSaid x)
+      → IfOk q (λ t. (seat_of (with_parts m f m.note), t) ≡ edit_seat old (meanings ops))
+  edit_failed q f ops x s h r =
+      subst (λ z. IfOk q (λ t. (z, t) ≡ edit_seat old (meanings ops))) (sym (stays f s))
+      (subst (λ z. IfOk q (λ t. (z, t) ≡ edit_seat z (meanings ops))) e (edit_refused q (seat_of m) (meanings ops) x h r))
+
+  pub undo_failed : {E : Type 0} (q : Result Said E) (f : Parts) (es : List (List WaveletOp)) (ops copy : List WaveletOp) (x : FollowerFault) → m.chain.entries ≡ es → Some ops ≡ slice_get es 0 → copy ≡ ops → f ≡ m.follower
+      → IsFault (edit (follower_of m.follower) (meanings copy)) x → IfOk q (IsFaultSaid x) → IfOk q (λ t. (seat_of (with_parts m f m.note), t) ≡ undo_seat old)
+  undo_failed q f es ops copy x c at k s h r =
+      subst (λ z. IfOk q (λ t. (z, t) ≡ undo_seat old)) (sym (stays f s))
+      (subst (λ z. IfOk q (λ t. (z, t) ≡ undo_seat z)) e
+      (undo_refused q (seat_of m) es ops x (ap (λ (z : ChainOf). z.entries) (chain_kept m n) ∙ ap (map meanings) c) at (subst (λ z. IsFault (edit (follower_of m.follower) (meanings z)) x) k h) r))
+
+  -- a submission that was taken, or not
+  pub submit_step : (f : Parts) (o : Option Submission) (h : Handed) → submit (follower_of m.follower) ≡ Ok (o, follower_of f) → h ≡ handed (sent_message old.follower.name o) said.Nothing → (seat_of (with_parts m f m.note), h) ≡ submit_seat old
+  submit_step f o h ok c =
+      ap (λ s. (s, h)) (follower_moved f) ∙ ap (λ z. (with_follower old (follower_of f) old.chain, z)) c
+      ∙ sym (ap (submitted_as old) (ap (λ (s : SeatOf). submit s.follower) (sym e) ∙ ok))
+
+  pub submit_failed : {E : Type 0} (q : Result Handed E) (f : Parts) (x : FollowerFault) → f ≡ m.follower → IsFault (submit (follower_of m.follower)) x → IfOk q (IsUnsent x) → IfOk q (λ h. (seat_of (with_parts m f m.note), h) ≡ submit_seat old)
+  submit_failed q f x s h r =
+      IfOk-weaker q (IsUnsent x) (λ y. (seat_of (with_parts m f m.note), y) ≡ submit_seat old)
+      (λ y u. let z = fault_is (submit (follower_of m.follower)) x u.0 h u.1 in
+        ap (λ s. (s, y)) (stays f s) ∙ ap (λ t. (old, t)) (u.2 ∙ ap (handed []) z.1) ∙ sym (ap (submitted_as old) (ap (λ (s : SeatOf). submit s.follower) (sym e) ∙ z.0))) r
