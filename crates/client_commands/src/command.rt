@@ -7,7 +7,6 @@ use wave_base::{Address, DocumentName, WaveletName};
 use wavelet_op::Role;
 
 /// A place in a document, counted in items.
-#[derive(Debug)]
 pub struct Spot {
     pub document: DocumentName,
     pub place: u64,
@@ -37,7 +36,6 @@ impl Spot {
 }
 
 /// So many items of a document, from a place on.
-#[derive(Debug)]
 pub struct Stretch {
     pub document: DocumentName,
     pub from: u64,
@@ -55,7 +53,6 @@ impl Drop for Stretch {
 }
 
 /// An edit of the current wavelet.
-#[derive(Debug)]
 pub enum Edit {
     /// The address becomes a participant.
     Add { address: Address },
@@ -136,7 +133,6 @@ impl Drop for Edit {
 }
 
 /// A command.
-#[derive(Debug)]
 pub enum Command {
     /// A new wavelet becomes the current one, unless there is one of the name.
     Create { name: WaveletName },
