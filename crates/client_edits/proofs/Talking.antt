@@ -2,9 +2,9 @@
 --     is_manifest             the items of the manifest
 --     talked, untalked        an edit of it, and one that is refused
 --     leads                   the edit of a manifest applies
---     anchored, unanchored    the anchor of an inline reply behind it, and one that is refused
+--     anchored, unanchored, led_anchor     the anchor of an inline reply behind it, and one that is refused
 --     inlined, not_inlined    an inline reply with its anchor, and one that is refused
-use Rattle.std.proofs.Common.{◌≡◌, ◌⊎◌, inl, inr, ℕ, List, [], ◌∷◌, length, Option, None, Some, IsSome, option_and_then, Result, Ok, Err, refl, sym, ap, subst, ◌∙◌}
+use Rattle.std.proofs.Common.{◌≡◌, ◌⊎◌, inl, inr, ℕ, true, List, [], ◌∷◌, length, Option, None, Some, IsSome, option_and_then, Result, Ok, Err, refl, sym, ap, subst, ◌∙◌}
 use Rattle.std.specs.Result.{IfOk}
 use Rattle.std.specs.Str.{chars}
 use Rattle.std.proofs.lemmas.Result.{IfOk-weaker}
@@ -43,7 +43,7 @@ module _ {E : Type 0} (r : Result Built E) (s : State) (xs : List Item) (d : Key
 
   pub untalked : (t : ConversationFault) (R : List Item → ConversationFault → Type 0) (P : List Item → Built → Type 0) → ((k : ℕ) → IsRefusedTalk (R xs) k → P xs (Refused k)) → R xs t
       → IfOk r (λ b. built (talk_number t) ≡ Some b) → IfOk r (P (manifest_of s))
-  untalked t R P g q h = subst (λ z. IfOk r (P z)) (is_manifest s xs d e f) (refused_as r (talk_number t) (P xs) (λ k n. g k (t, (n, q))) h)
+  untalked t R P g q h = subst (λ z. IfOk r (P z)) (is_manifest s xs d e f) (refused_as r (talk_number t) (P xs) (λ k n. g k (t, n, q)) h)
 
 -- ---- an inline reply
 
@@ -51,21 +51,26 @@ pub leads : (s : State) (d : Key) (cs : List Component) (o : Option (List Node))
 unfolding apply_act
 leads s d cs o t =
     let applies : apply (actions cs) (document_of s d) ≡ Some t.out = (passed _ (apply (actions cs) (document_of s d)) t.out t.makes).rest in
-    subst (λ (m : Option (List Item)). IsSome (option_and_then (λ items. Some (with_document s d items)) m)) (sym (mutates (actions cs) (document_of s d) t.out t.structured applies)) tt
+    subst (λ (m : Option (List Item)). IsSome (option_and_then (λ items. Some (with_document s d items)) m)) (sym (mutates (actions cs) (document_of s d) t.out t.structured applies)) refl
 
-module _ {E : Type 0} (r : Result Built E) (s x : State) (p : Spot) (t : Key) (xs : List Item) (first : WaveletOp) (led : apply_act s (meaning first) ≡ Some x) (e : xs ≡ document_of x p.document) where
-  pub anchored : (m : Map Key) (cs : List Component) (out : List Item) (second : WaveletOp) → m ≡ anchor_attributes t → CanInsert xs p.place 2 → IsEdit cs (adding_element xs p.place (chars anchor_kind) m) xs out
-      → second ≡ op.Mutate p.document cs → IfOk r (λ b. b ≡ Ops (first ∷ second ∷ [])) → IfOk r (IsAnchoredAfter s p t (meaning first))
-  anchored m cs out second a can edit g h =
-      built_as r (Ops (first ∷ second ∷ [])) (IsAnchoredAfter s p t (meaning first))
-      (x, (led, (subst (λ z. CanInsert z p.place 2) e can, ap (λ o. meaning first ∷ meaning o ∷ []) g ∙ ap (λ z. meaning first ∷ Mutates p.document z ∷ []) (edit.is ∙ ap (adding_element xs p.place (chars anchor_kind)) a ∙ ap (λ z. adding_element z p.place (chars anchor_kind) (anchor_attributes t)) e))))
+module _ {E : Type 0} (r : Result Built E) (x : State) (p : Spot) (t : Key) (xs : List Item) (first : WaveletOp) (e : xs ≡ document_of x p.document) where
+  pub anchored : (m : Map Key) (cs : List Component) (out : List Item) → m ≡ anchor_attributes t → CanInsert xs p.place 2 → IsEdit cs (adding_element xs p.place (chars anchor_kind) m) xs out
+      → IfOk r (λ b. b ≡ Ops (first ∷ op.Mutate p.document cs ∷ [])) → IfOk r (IsAnchored x p t (meaning first))
+  anchored m cs out a can edit h =
+      built_as r (Ops (first ∷ op.Mutate p.document cs ∷ [])) (IsAnchored x p t (meaning first))
+      (subst (λ z. CanInsert z p.place 2) e can, ap (λ z. meaning first ∷ Mutates p.document z ∷ []) (edit.is ∙ ap (adding_element xs p.place (chars anchor_kind)) a ∙ ap (λ z. adding_element z p.place (chars anchor_kind) (anchor_attributes t)) e))
       h
 
-  pub unanchored : (b : BuildFault) → IsInsertingRefused b xs p.place 2 → IfOk r (λ y. built (build_number b) ≡ Some y) → IfOk r (IsAnchoredAfter s p t (meaning first))
-  unanchored b q h = refused_as r (build_number b) (IsAnchoredAfter s p t (meaning first)) (λ k n. (x, (led, (b, (n, subst (λ z. IsInsertingRefused b z p.place 2) e q))))) h
+  pub unanchored : (b : BuildFault) → IsInsertingRefused b xs p.place 2 → IfOk r (λ y. built (build_number b) ≡ Some y) → IfOk r (IsAnchored x p t (meaning first))
+  unanchored b q h = refused_as r (build_number b) (IsAnchored x p t (meaning first)) (λ k n. (b, n, subst (λ z. IsInsertingRefused b z p.place 2) e q)) h
+
+pub led_anchor : {E : Type 0} (r : Result Built E) (s x : State) (p : Spot) (t d : Key) (cs : List Component) (first : WaveletOp) → first ≡ op.Mutate d cs → apply_act s (meaning first) ≡ Some x → IfOk r (IsAnchored x p t (meaning first))
+    → IfOk r (IsAnchoredAfter s p t (Mutates d (actions cs)))
+led_anchor r s x p t d cs first e led h =
+    subst (λ o. IfOk r (IsAnchoredAfter s p t (meaning o))) e (IfOk-weaker r (IsAnchored x p t (meaning first)) (IsAnchoredAfter s p t (meaning first)) (λ b a. (x, led, a)) h)
 
 pub not_inlined : {E : Type 0} (r : Result Built E) (s : State) (p : Spot) (t n : Key) (f : ConversationFault) → IsReplyRefused (manifest_of s) p.document t n f → IfOk r (λ b. built (talk_number f) ≡ Some b) → IfOk r (IsInline s p t n)
-not_inlined r s p t n f q h = refused_as r (talk_number f) (IsInline s p t n) (λ k e. inr (f, (e, q))) h
+not_inlined r s p t n f q h = refused_as r (talk_number f) (IsInline s p t n) (λ k e. inr (f, e, q)) h
 
 pub inlined : {E : Type 0} (r : Result Built E) (s : State) (p : Spot) (t n : Key) (cs : List Component) → IsReply (manifest_of s) true p.document t n cs
     → IfOk r (IsAnchoredAfter s p t (Mutates manifest_name (actions cs))) → IfOk r (IsInline s p t n)

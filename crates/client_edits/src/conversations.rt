@@ -1,8 +1,12 @@
 // Edits of conversations.
-ghost use Rattle.std.specs.Prelude.{◌≡◌, Some, IsSome, IfOk};
-ghost use Rattle.wavelet_op.specs.Acts.{meaning};
+ghost use Rattle.std.specs.Prelude.{◌≡◌, ◌∷◌, [], true, Some, IsSome, IfOk};
+ghost use Rattle.wave_base.specs.Grammar.{is_id};
+ghost use Rattle.doc_op.specs.Actions.{actions};
+ghost use Rattle.wavelet_op.specs.Acts.{Mutates, meaning};
+ghost use Rattle.wavelet_op.specs.declared.op.WaveletOp.TheVariants.{Mutate};
 ghost use Rattle.wavelet_op.specs.States.{apply_act};
-ghost use Rattle.client_edits.specs.Asked.{manifest_name, manifest_of, anchor_attributes, IsReplied, IsContinued, IsDeleted, IsAnchoredAfter, IsInline};
+ghost use Rattle.client_edits.specs.Asked.{manifest_name, manifest_of, anchor_attributes, IsReplied, IsContinued, IsDeleted, IsAnchored, IsAnchoredAfter, IsInline};
+ghost use Rattle.client_edits.specs.declared.built.Built.TheVariants.{Ops as BuiltOps};
 
 use crate::Built;
 use crate::built::{mutated, mutation, refused, refused_talk, two};
@@ -10,6 +14,7 @@ use crate::documents::document;
 use client_commands::{Phrase, Spot};
 use conversation::{continue_thread, delete_blip, inline_reply, reply_to};
 use doc_items::{Attributes, Memory};
+use doc_op::DocOp;
 use doc_rope::Rope;
 use op_build::insert_element;
 use std::alloc::{AllocError, Global};
@@ -17,16 +22,24 @@ use wave_base::{BaseFault, DocumentName};
 use wavelet_op::{WaveletFault, WaveletOp};
 use wavelet_state::{WaveletState, apply_op};
 
-// The name of the manifest.
-fn manifest_name(alloc: Global) -> Result<DocumentName, Memory>
-    ensures { IfOk result (λ n. n ≡ manifest_name) }
+// The name of a document, of a text that is one.
+fn parsed(alloc: Global, text: &str) -> Result<DocumentName, Memory>
+    requires { is_id text.now ≡ true }
+    ensures { IfOk result (λ n. n ≡ text.now) }
 {
-    match DocumentName::parse(alloc, "conversation") {
+    match DocumentName::parse(alloc, text) {
         Ok(name) => Ok(name),
         Err(BaseFault::BadName) => unreachable!(),
         Err(BaseFault::BadAddress) => unreachable!(),
         Err(BaseFault::Memory) => Err(AllocError),
     }
+}
+
+// The name of the manifest.
+fn manifest_name(alloc: Global) -> Result<DocumentName, Memory>
+    ensures { IfOk result (λ n. n ≡ manifest_name) }
+{
+    parsed(alloc, "conversation")
 }
 
 /// A blip has a thread more, with a blip. The error is want of memory, here and below.
@@ -116,28 +129,53 @@ fn led(alloc: Global, screen: &WaveletState, op: &WaveletOp) -> Result<WaveletSt
     }
 }
 
-// The anchor of a thread behind the edit of the manifest.
+// An operation, and then one on a document.
+fn both(
+    alloc: Global,
+    first: WaveletOp,
+    document: &DocumentName,
+    op: DocOp,
+) -> Result<Built, Memory>
+    ensures { IfOk result (λ b. b ≡ BuiltOps (first ∷ Mutate document.now op ∷ [])) }
+{
+    let second = mutation(alloc, document, op)?;
+    two(alloc, first, second)
+}
+
+// The anchor of a thread at the state after the first operation.
+fn place_anchor(
+    alloc: Global,
+    after: &WaveletState,
+    spot: &Spot,
+    thread: &Phrase,
+    first: WaveletOp,
+) -> Result<Built, Memory>
+    ensures { IfOk result (IsAnchored after.now spot.now thread.now (meaning first)) }
+{
+    let attributes = anchor_attributes(alloc, thread)?;
+    let empty = Rope::new(alloc);
+    let document = document(after, &empty, &spot.document);
+    match insert_element(alloc, document, spot.place, "reply", &attributes) {
+        Ok(op) => both(alloc, first, &spot.document, op),
+        Err(fault) => refused(fault),
+    }
+}
+
+// The operation on the manifest, which is valid there, and then the anchor of a thread.
 fn anchored(
     alloc: Global,
     screen: &WaveletState,
     spot: &Spot,
     thread: &Phrase,
-    first: WaveletOp,
+    manifest: &DocumentName,
+    op: DocOp,
 ) -> Result<Built, Memory>
-    requires { IsSome (apply_act screen.now (meaning first)) }
-    ensures { IfOk result (IsAnchoredAfter screen.now spot.now thread.now (meaning first)) }
+    requires { IsSome (apply_act screen.now (Mutates manifest.now (actions op))) }
+    ensures { IfOk result (IsAnchoredAfter screen.now spot.now thread.now (Mutates manifest.now (actions op))) }
 {
+    let first = mutation(alloc, manifest, op)?;
     let after = led(alloc, screen, &first)?;
-    let attributes = anchor_attributes(alloc, thread)?;
-    let empty = Rope::new(alloc);
-    let document = document(&after, &empty, &spot.document);
-    match insert_element(alloc, document, spot.place, "reply", &attributes) {
-        Ok(op) => {
-            let second = mutation(alloc, &spot.document, op)?;
-            two(alloc, first, second)
-        }
-        Err(fault) => refused(fault),
-    }
+    place_anchor(alloc, &after, spot, thread, first)
 }
 
 /// The blip of a document has an inline thread more, with a blip, and an anchor in that document. It copies the state, since
@@ -161,10 +199,7 @@ pub(crate) fn reply_inline(
         thread.as_str(),
         new_blip.as_str(),
     ) {
-        Ok(op) => {
-            let first = mutation(alloc, &name, op)?;
-            anchored(alloc, screen, spot, thread, first)
-        }
+        Ok(op) => anchored(alloc, screen, spot, thread, &name, op),
         Err(fault) => refused_talk(fault),
     }
 }

@@ -23,7 +23,7 @@ pub(crate) fn document<'a>(
     empty: &'a Rope,
     name: &DocumentName,
 ) -> &'a Rope
-    requires { empty.entry.now ≡ [] }
+    requires { empty.now ≡ [] }
     ensures value { result.now ≡ document_of screen.entry.now name.now }
     ensures balanced { Balanced (document_of screen.entry.now name.now) }
 {

@@ -21,7 +21,7 @@ module _ (m : MachineOf) (c : Command) (ss : List Seat) (i : ℕ) (all : m.seats
   here_there q s t got h =
       IfOk-weaker q (λ a. IsHere (seat_of s) c (seat_of t, a)) (λ a. IsHereAt m (Some i) c (with_seats m (map seat_of (slice_set ss i t)) m.current, a))
       (λ a x. subst (λ o. IsFoundHere m i c o (with_seats m (map seat_of (slice_set ss i t)) m.current, a)) (sym (seat_there m ss i all s got))
-      ((seat_of t, a), (x, ap (λ z. (with_seats m z m.current, a)) (set_seats m ss i all t)))) h
+      ((seat_of t, a), x, ap (λ z. (with_seats m z m.current, a)) (set_seats m ss i all t))) h
 
 -- ---- a whole command
 
@@ -30,10 +30,10 @@ module _ (m : MachineOf) (c d : Option Command) (p : Acted) (same : c ≡ d) (do
   done_so = subst (λ o. IsDone m o p) same done
 
   pub leaves : p.1.ends ≡ true → IsCommanded m d p
-  leaves e = (p, (done_so, sym (ap (λ b. finished_unless b p) e)))
+  leaves e = (p, done_so, sym (ap (λ b. finished_unless b p) e))
 
   pub goes_on : {E : Type 0} (q : Result Acts E) (n : MachineOf) → p.1.ends ≡ false → IfOk q (λ a. (n, a) ≡ finished true p) → IfOk q (λ a. IsCommanded m d (n, a))
-  goes_on q n e h = IfOk-weaker q (λ a. (n, a) ≡ finished true p) (λ a. IsCommanded m d (n, a)) (λ a x. (p, (done_so, x ∙ sym (ap (λ b. finished_unless b p) e)))) h
+  goes_on q n e h = IfOk-weaker q (λ a. (n, a) ≡ finished true p) (λ a. IsCommanded m d (n, a)) (λ a x. (p, done_so, x ∙ sym (ap (λ b. finished_unless b p) e))) h
 
   pub stops : {E : Type 0} (q : Result Acts E) (n : MachineOf) → OnErr q (IsHalted p.0 n) → OnErr q (IsCutShort m d n)
-  stops q n h = on_err_weaker q (λ x. inr (p, (done_so, x))) h
+  stops q n h = on_err_weaker q (λ x. inr (p, done_so, x)) h

@@ -12,10 +12,14 @@ pub struct Messages {
 }
 
 impl Model for Messages {
+    ghost use Rattle.std.specs.Coded.{coded_list};
     ghost use Rattle.std.specs.Prelude.{List};
+    ghost use Rattle.message_json.specs.contracts.message.Message as message_row;
     ghost use Rattle.message_json.specs.declared.message.Message.{Message};
 
     ghost Value = { List Message };
+
+    ghost coded = { coded_list message_row.the_row.coded };
 
     ghost view = { λ m. m.list.items };
 }

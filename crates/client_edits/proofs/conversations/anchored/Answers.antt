@@ -1,12 +1,11 @@
-use Rattle.client_edits.proofs.Talking.{anchored, unanchored}
+use Rattle.std.proofs.Common.{IsSome, sym, subst}
+use Rattle.wavelet_op.specs.Acts.{meaning}
+use Rattle.wavelet_op.specs.States.{apply_act}
+use Rattle.client_edits.proofs.Talking.{led_anchor}
 use Rattle.client_edits.proofs.conversations.anchored.Goals as goal
 
-pub returns-in-Ok : goal.returns-in-Ok
-returns-in-Ok c =
-    anchored c.two.result c.args.screen.now c.in_ok-after.after c.args.spot.now c.args.thread.now _ c.args.first c.in_ok-after.ensures c.document-document.ensures.value
-    c.in_ok-attributes.attributes c.in-Ok.op _ c.in_ok-second.second c.in_ok-attributes.ensures c.in-Ok.ensures.can c.in-Ok.ensures.edit c.in_ok-second.ensures c.two.ensures
+pub led-requires : goal.led-requires
+led-requires c = subst (λ o. IsSome (apply_act c.args.screen.now (meaning o))) (sym c.in_ok-first.ensures) c.requires
 
-pub returns-in-Err : goal.returns-in-Err
-returns-in-Err c =
-    unanchored c.refused.result c.args.screen.now c.in_ok-after.after c.args.spot.now c.args.thread.now _ c.args.first c.in_ok-after.ensures c.document-document.ensures.value
-    c.in-Err.fault c.in-Err.ensures.refused c.refused.ensures
+pub returns : goal.returns
+returns c = led_anchor c.place_anchor.result c.args.screen.now c.in_ok-after.after c.args.spot.now c.args.thread.now c.args.manifest.now c.args.op c.in_ok-first.first c.in_ok-first.ensures c.in_ok-after.ensures c.place_anchor.ensures

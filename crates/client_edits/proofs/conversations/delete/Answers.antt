@@ -13,8 +13,8 @@ returns-in-Ok c =
     (λ z cs. IsTreeEdit cs z (deleted c.args.blip.now (thread_tree z))) (λ z. IsDeleted z c.args.blip.now) (λ ops on. on)
     (rw (c.as_str.ensures) at c.in-Ok.ensures.edit) c.mutated.ensures
 
-pub returns-in-Err : goal.returns-in-Err
-returns-in-Err c =
+pub returns : goal.returns
+returns c =
     untalked c.refused_talk.result c.args.screen.now _ c.in_ok-name.name c.in_ok-name.ensures c.document-manifest.ensures.value c.in-Err.fault
     (λ z. IsDeleteRefused z c.args.blip.now) (λ z. IsDeleted z c.args.blip.now) (λ k q. q)
     (rw (c.as_str.ensures) at c.in-Err.ensures.refused) c.refused_talk.ensures

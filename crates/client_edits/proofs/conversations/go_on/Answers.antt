@@ -13,8 +13,8 @@ returns-in-Ok c =
     (λ z cs. IsTreeEdit cs z (continued c.args.thread.now c.args.new_blip.now (thread_tree z)) × (is_taken c.args.new_blip.now (thread_tree z) ≡ false)) (λ z. IsContinued z c.args.thread.now c.args.new_blip.now) (λ ops on. on)
     (rw (c.as_str.ensures, c.as_str-2.ensures) at c.in-Ok.ensures.edit, rw (c.as_str-2.ensures) at c.in-Ok.ensures.new) c.mutated.ensures
 
-pub returns-in-Err : goal.returns-in-Err
-returns-in-Err c =
+pub returns : goal.returns
+returns c =
     untalked c.refused_talk.result c.args.screen.now _ c.in_ok-name.name c.in_ok-name.ensures c.document-manifest.ensures.value c.in-Err.fault
     (λ z. IsNextRefused z c.args.thread.now c.args.new_blip.now) (λ z. IsContinued z c.args.thread.now c.args.new_blip.now) (λ k q. q)
     (rw (c.as_str.ensures, c.as_str-2.ensures) at c.in-Err.ensures.refused) c.refused_talk.ensures

@@ -1,4 +1,4 @@
-use Rattle.std.proofs.Common.{List}
+use Rattle.std.proofs.Common.{false, List}
 use Rattle.doc_items.specs.declared.item.Item.{Item}
 use Rattle.conversation.specs.Edits.{continued, deleted, is_taken}
 use Rattle.conversation.specs.Refusals.{IsTreeEdit, IsReplyRefused, IsNextRefused, IsDeleteRefused}
@@ -13,8 +13,8 @@ returns-in-Ok c =
     (λ z. IsReply z false c.args.blip.now c.args.thread.now c.args.new_blip.now) (λ z. IsReplied z c.args.blip.now c.args.thread.now c.args.new_blip.now) (λ ops on. on)
     (rw (c.as_str.ensures, c.as_str-2.ensures, c.as_str-3.ensures) at c.in-Ok.ensures.edit, rw (c.as_str-2.ensures, c.as_str-3.ensures) at c.in-Ok.ensures.new) c.mutated.ensures
 
-pub returns-in-Err : goal.returns-in-Err
-returns-in-Err c =
+pub returns : goal.returns
+returns c =
     untalked c.refused_talk.result c.args.screen.now _ c.in_ok-name.name c.in_ok-name.ensures c.document-manifest.ensures.value c.in-Err.fault
     (λ z. IsReplyRefused z c.args.blip.now c.args.thread.now c.args.new_blip.now) (λ z. IsReplied z c.args.blip.now c.args.thread.now c.args.new_blip.now) (λ k q. q)
     (rw (c.as_str.ensures, c.as_str-2.ensures, c.as_str-3.ensures) at c.in-Err.ensures.refused) c.refused_talk.ensures
