@@ -23,7 +23,8 @@ use Rattle.wavelet_shelf.proofs.Growing.{grows_alone}
 use Rattle.pipe_machine.specs.declared.seats.Seat.{Seat}
 use Rattle.pipe_machine.specs.Due.{is_due, due_at, is_told, are_told, IsDueAlone}
 use Rattle.pipe_machine.specs.Keeping.{submits, asks_for}
-use Rattle.pipe_machine.specs.Machine.{shown_in, nothing_dropped, asked, replied}
+use Rattle.hosted_copies.specs.Shown.{shown_in, nothing_dropped}
+use Rattle.pipe_machine.specs.Machine.{asked, replied}
 use Rattle.pipe_machine.specs.Seats.{begun, is_at, place_in, seated, IsPlain}
 use Rattle.pipe_machine.proofs.Placing.{some_same, got_within, told_each, get_other}
 use Rattle.pipe_machine.proofs.Moving.{other_name}

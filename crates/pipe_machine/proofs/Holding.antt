@@ -57,7 +57,8 @@ use Rattle.pipe_machine.specs.declared.seats.Seat.{Seat}
 use Rattle.pipe_machine.specs.Held.{IsIn, HasOf, IsHead, IsHeld}
 use Rattle.pipe_machine.specs.Keeping.{Begins}
 use Rattle.pipe_machine.specs.Lines.{Sent, sent_to}
-use Rattle.pipe_machine.specs.Machine.{Pipe, Reply, Answer, outcome_in, shown_in, asked, replied, answered_read, answered, delivered as delivered_all, turn, sent, after}
+use Rattle.hosted_copies.specs.Shown.{outcome_in, shown_in}
+use Rattle.pipe_machine.specs.Machine.{Pipe, Reply, Answer, asked, replied, answered_read, answered, delivered as delivered_all, turn, sent, after}
 use Rattle.pipe_machine.specs.Seats.{place_in, seated, seat_in, seats_sent}
 use Rattle.pipe_machine.proofs.Moving.{begins_itself, begins_added, begins_on}
 

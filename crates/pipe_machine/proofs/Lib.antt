@@ -1,4 +1,3 @@
-pub mod Alike
 pub mod Plain
 pub mod Quiet
 pub mod Placing

@@ -51,7 +51,8 @@ use Rattle.session_core.specs.Rules.{Taken, refused, with_party, is_new, is_user
 use Rattle.session_core.proofs.Access.{all_may_see, attached_may_see}
 use Rattle.wavelet_shelf.specs.Hosting.{Hosted, names_of, deltas_in, judged_in, with_added, after_submission}
 use Rattle.wavelet_shelf.proofs.Growing.{grows_alone}
-use Rattle.pipe_machine.specs.Machine.{Reply, shown_in, asked}
+use Rattle.hosted_copies.specs.Shown.{shown_in}
+use Rattle.pipe_machine.specs.Machine.{Reply, asked}
 use Rattle.pipe_machine.specs.Meant.{IsAckTo, IsMeantFor}
 
 -- ---- acknowledgements

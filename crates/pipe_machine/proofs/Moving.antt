@@ -1,5 +1,4 @@
 -- How a shelf moves.
---     same_shown            what sessions see of it is what they see of its histories
 --     begins_itself, begins_added, begins_on     deltas that are the first of others
 --     other_name            names that differ
 --     stays                 one that stays as it is
@@ -7,32 +6,19 @@
 --     taken_in, refused_in  one that took a submission; one where it was refused
 use Rattle.std.proofs.Common.{◌≡◌, ◌≢◌, ◌⊎◌, inl, inr, ◌≤◌, ℕ, Bool, true, false, List, [], ◌∷◌, ◌++◌, Option, None, Some, refl, sym, ap, subst, ◌∙◌, option_map, append-nil, arith, true≢false, append_assoc}
 use Rattle.doc_items.specs.Maps.{Key, same_text}
-use Rattle.wave_base.specs.Versions.{IdOf}
 use Rattle.wavelet_op.specs.Deltas.{DeltaOf}
 use Rattle.wavelet_op.specs.declared.delta.Submission.{Submission}
-use Rattle.delta_history.specs.Copying.{AreAscending, kept_in}
-use Rattle.delta_history.specs.Histories.{HistoryOf}
-use Rattle.delta_history.specs.Points.{start}
-use Rattle.delta_history.specs.Verdicts.{kept}
+use Rattle.delta_history.specs.Copying.{AreAscending}
 use Rattle.disk_model.specs.declared.disk.Disk as disk_of
 use Rattle.wave_outside.specs.declared.folder.Folder as folder_of
-use Rattle.session_core.specs.Access.{shown}
 use Rattle.wavelet_shelf.specs.Folders.{IsUsedIn}
-use Rattle.wavelet_shelf.specs.Hosting.{Hosted, names_of, deltas_in, copy_in, IsCopyOf, judged_in, with_added, after_submission}
-use Rattle.wavelet_shelf.specs.Shelves.{acknowledged, in_folder, hosted_of, container_in, copies_of, outcome_of, fault_count, IsKept, IsNewFile}
+use Rattle.wavelet_shelf.specs.Hosting.{Hosted, names_of, deltas_in, judged_in, with_added, after_submission}
+use Rattle.wavelet_shelf.specs.Shelves.{in_folder, hosted_of, container_in, fault_count, IsKept, IsNewFile}
 use Rattle.wavelet_shelf.specs.declared.shelf.Shelf.{Shelf}
 use Rattle.wavelet_shelf.proofs.Growing.{grows_alone}
 use Rattle.wavelet_shelf.proofs.Names.{own, same_or_not}
 use Rattle.wavelet_shelf.proofs.Still.{used_as, used_more}
 use Rattle.pipe_machine.specs.Keeping.{Begins, IsFileAmong, IsMoved}
-use Rattle.pipe_machine.specs.Machine.{shown_in}
-use Rattle.pipe_machine.specs.Shows.{IsSameShown}
-
-kept_alike : (o p : Option HistoryOf) (i : IdOf) → IsCopyOf o p → kept_in o i ≡ kept_in p i
-kept_alike None None i e = refl
-kept_alike None (Some h) i e = absurd e
-kept_alike (Some g) None i e = absurd e
-kept_alike (Some g) (Some h) i e = (λ k. kept i (start (e.0 k)) (e.1 k))
 
 -- ---- histories
 
@@ -61,15 +47,6 @@ pub other_name : (n m : Key) → same_text n m ≡ false → m ≢ n
 other_name n m apart e = true≢false (sym (own n) ∙ ap (same_text n) (sym e) ∙ apart)
 
 module _ {F D : Type 0} {folder : folder_of.Ghosts F D} {disk : disk_of.Ghosts D} where
-  pub same_shown : (s : Shelf F D folder disk) → ((n : Key) → IsCopyOf (copies_of s n) (copy_in (hosted_of s) n))
-      → IsSameShown (shown (λ n. copies_of s n) (names_of (hosted_of s)) (λ _. false) (λ n i. outcome_of s n i)) (shown_in (hosted_of s))
-  same_shown s copies = record {
-    copy = copies;
-    hosts = refl;
-    drops = λ n. refl;
-    outcome = λ n i. ap (option_map acknowledged) (kept_alike (copies_of s n) (copy_in (hosted_of s) n) i (copies n));
-  }
-
   pub stays : (may : Key → Bool) (s : Shelf F D folder disk) → IsMoved may s s
   stays may s = record {
     grown = λ n. begins_itself (deltas_in (hosted_of s) n);

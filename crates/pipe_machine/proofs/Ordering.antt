@@ -29,7 +29,8 @@ use Rattle.wavelet_op.specs.Deltas.{DeltaOf}
 use Rattle.std.specs.Prelude.{Option, Some, None}
 use Rattle.pipe_machine.specs.declared.seats.Seat.{Seat}
 use Rattle.pipe_machine.specs.Lines.{Sent, sent_to}
-use Rattle.pipe_machine.specs.Machine.{Pipe, Answer, shown_in, asked, replied, named, answered_read, answered, turn}
+use Rattle.hosted_copies.specs.Shown.{shown_in}
+use Rattle.pipe_machine.specs.Machine.{Pipe, Answer, asked, replied, named, answered_read, answered, turn}
 use Rattle.pipe_machine.specs.Meant.{party_in, IsMeantFor, IsMeant, IsIdle, IsOrdered, SentIsMeant}
 use Rattle.pipe_machine.specs.Seats.{begun, place_in, is_at, inserted, seated, seat_in, with_session, seats_sent, seats_after}
 use Rattle.pipe_machine.proofs.Meaning.{asked_for, bad_to_all, delivered_for, idle_after, party_after, taken_for}

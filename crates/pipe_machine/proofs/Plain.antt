@@ -3,7 +3,7 @@
 --     taken_good          whatever message one takes
 --     attached_plain, attached_short      whatever an `open` is answered
 --     told_plain, told_short              whatever a submission is answered
---     sent_short, all_short       whatever is sent
+--     all_short           whatever is sent
 --     after_plain         whatever was sent
 --     plain_after, short_after    whatever a message is replied
 use Rattle.std.proofs.Common.{◌≡◌, ◌==◌, ℕ, Bool, true, false, ◌&&◌, if◌then◌else◌, List, [], ◌∷◌, Option, None, Some, Result, Ok, Err, IfOk, OnErr, refl, sym, ap, subst, true≢false}
@@ -40,9 +40,11 @@ use Rattle.session_core.specs.News.{message_of, messages_of}
 use Rattle.session_core.specs.declared.news.News.{News}
 use Rattle.session_core.specs.Rules.{Taken, party_is_user, party_is_peer, has_user, refused, with_party, is_new, is_user, greeted, as_user, in_domain, is_reached, place_of, closed_at, asked_open, submission_of, submitted_as, submitted, closed, taken}
 use Rattle.wavelet_shelf.specs.Hosting.{Hosted, judged_in}
+use Rattle.hosted_copies.proofs.Short.{attached_short, told_short, all_short as news_short}
 use Rattle.line_loop.specs.declared.line_machine.TurnFault.{TurnFault}
 use Rattle.pipe_machine.specs.Keeping.{asks_for, submits}
-use Rattle.pipe_machine.specs.Machine.{Reply, shown_in, reply_of, asked}
+use Rattle.hosted_copies.specs.Shown.{shown_in}
+use Rattle.pipe_machine.specs.Machine.{Reply, reply_of, asked}
 use Rattle.pipe_machine.specs.Seats.{is_idle, IsPlain, AsksAsUser}
 
 pub none_idle : (ws : List Waiting) → is_idle ws ≡ true → ws ≡ []
@@ -128,40 +130,25 @@ pub record IsWell (r : Session × Message) : Type 0 where
   pub plain : IsPlain r.0
   pub short : IsShort r.1
 
-choice_well : (t : Bool) (a b : Session × Message) → IsWell a → IsWell b → IsWell (if t then a else b)
-choice_well true a b p q = p
-choice_well false a b p q = q
+choice_plain : (t : Bool) (a b : Session × Message) → IsPlain a.0 → IsPlain b.0 → IsPlain (if t then a else b).0
+choice_plain true a b p q = p
+choice_plain false a b p q = q
 
 stays_plain : (s : Session) (name : Key) (v : ℕ) → IsPlain s → IsPlain (with_sent s name v)
 stays_plain s name v p = record { nowhere = p.nowhere; no_peer = p.no_peer; idle = p.idle }
 
-seen_well : (s : Session) (name : Key) (from : Option VersionAt) (o : Option HistoryOf) → IsPlain s → IsWell (attached_seen s name from o)
-seen_well s name from None p = record { plain = p; short = tt }
-seen_well s name None (Some h) p = choice_well (is_sendable (snapshot_of name h)) (with_sent s name (snapshot_of name h).at.version, Snapshot (snapshot_of name h)) (s, Unopened name unopened.TooLarge)
-    (record { plain = stays_plain s name (snapshot_of name h).at.version p; short = tt }) (record { plain = p; short = tt })
-seen_well s name (Some from) (Some h) p = go (hash_found h from.version)
+seen_plain : (s : Session) (name : Key) (from : Option VersionAt) (o : Option HistoryOf) → IsPlain s → IsPlain (attached_seen s name from o).0
+seen_plain s name from None p = p
+seen_plain s name None (Some h) p = choice_plain (is_sendable (snapshot_of name h)) (with_sent s name (snapshot_of name h).at.version, Snapshot (snapshot_of name h)) (s, Unopened name unopened.TooLarge)
+    (stays_plain s name (snapshot_of name h).at.version p) p
+seen_plain s name (Some from) (Some h) p = go (hash_found h from.version)
   where
-    go : (o : Option (List ℕ)) → IsWell (attached_hash s name from (head_of h).at o)
-    go None = record { plain = p; short = tt }
-    go (Some hash) = choice_well (pointwise ◌==◌ hash from.hash) (with_sent s name from.version, Opened name from.version) (s, Unopened name (unopened.WrongHash hash))
-        (record { plain = stays_plain s name from.version p; short = tt }) (record { plain = p; short = tt })
+    go : (o : Option (List ℕ)) → IsPlain (attached_hash s name from (head_of h).at o).0
+    go None = p
+    go (Some hash) = choice_plain (pointwise ◌==◌ hash from.hash) (with_sent s name from.version, Opened name from.version) (s, Unopened name (unopened.WrongHash hash)) (stays_plain s name from.version p) p
 
 pub attached_well : (c : Shown) (s : Session) (name : Key) (from : Option VersionAt) → IsPlain s → IsWell (attached c s name from)
-attached_well c s name from p = seen_well s name from (seen_for c s.party name) p
-
-verdict_short : (name : Key) (id : IdOf) (v : Verdict) → IsShort (verdict_message name id v)
-verdict_short name id (verdict.Ack place to) = tt
-verdict_short name id verdict.NotParticipant = tt
-verdict_short name id verdict.ReadOnly = tt
-verdict_short name id (verdict.UnknownVersion head) = tt
-verdict_short name id (verdict.WrongHash host) = tt
-verdict_short name id (verdict.Invalid index) = tt
-verdict_short name id (verdict.Full head) = tt
-
-told_short : (party : Party) (name : Key) (id : IdOf) (v : Verdict) → IsShort (told_verdict party name id v)
-told_short Nobody name id v = verdict_short name id v
-told_short (User user) name id v = verdict_short name id v
-told_short (Domain domain) name id v = tt
+attached_well c s name from p = record { plain = seen_plain s name from (seen_for c s.party name) p; short = attached_short c s name from }
 
 pub told_well : (s : Session) (name : Key) (id : IdOf) (v : Verdict) → IsPlain s → IsWell (answered s name id (answer.Verdict v))
 told_well s name id v p = record { plain = p; short = told_short s.party name id v }
@@ -169,44 +156,8 @@ told_well s name id v p = record { plain = p; short = told_short s.party name id
 -- ---- what is sent
 
 module _ (c : Shown) where
-  updates_short : (name : Key) (ds : List DeltaOf) → All IsShort (updates name ds)
-  updates_short name [] = All-nil IsShort
-  updates_short name (d ∷ ds) = All-cons IsShort (Update name d) (updates name ds) tt (updates_short name ds)
-
-  outcome_short : (w : Waiting) (o : Option Verdict) → All IsShort (outcome_sent w o)
-  outcome_short w None = All-nil IsShort
-  outcome_short w (Some v) = All-cons IsShort (verdict_message w.name w.id v) [] (verdict_short w.name w.id v) (All-nil IsShort)
-
-  outcomes_short : (ws : List Waiting) → All IsShort (outcomes_sent c ws)
-  outcomes_short [] = All-nil IsShort
-  outcomes_short (w ∷ ws) = All-append IsShort (outcome_sent w (c.outcome w.name w.id)) (outcomes_sent c ws) (outcome_short w (c.outcome w.name w.id)) (outcomes_short ws)
-
-  news_short : (o : Opening) (seen : Option HistoryOf) → All IsShort (opening_news o seen)
-  news_short o None = All-cons IsShort _ [] tt (All-nil IsShort)
-  news_short o (Some h) = updates_short o.name (since o.sent h)
-
-  opening_short : (user : Key) (o : Opening) (copy : Option HistoryOf) → All IsShort (opening_sent c user o copy)
-  opening_short user o None = All-nil IsShort
-  opening_short user o (Some h) = news_short o (seen_by c o.name user)
-
-  openings_short : (user : Key) (os : List Opening) → All IsShort (openings_sent c user os)
-  openings_short user [] = All-nil IsShort
-  openings_short user (o ∷ os) = All-append IsShort (opening_sent c user o (c.copy o.name)) (openings_sent c user os) (opening_short user o (c.copy o.name)) (openings_short user os)
-
-  pub sent_short : (s : Session) → IsPlain s → All IsShort (delivered c s)
-  sent_short s plain = go s.party plain.no_peer
-    where
-      go : (party : Party) → party_is_peer party ≡ false → All IsShort (delivered_to c s party)
-      go Nobody e = All-nil IsShort
-      go (User user) e = All-append IsShort (outcomes_sent c s.waiting) (openings_sent c user s.openings) (outcomes_short s.waiting) (openings_short user s.openings)
-      go (Domain domain) e = absurd (true≢false e)
-
   pub all_short : (s : Session) (ns : List News) → IsPlain s → messages_of ns ≡ delivered c s → All (λ n. IsShort (message_of n)) ns
-  all_short s ns plain e = each ns (subst (All IsShort) (sym e) (sent_short s plain))
-    where
-      each : (xs : List News) → All IsShort (messages_of xs) → All (λ n. IsShort (message_of n)) xs
-      each [] all = All-nil (λ n. IsShort (message_of n))
-      each (x ∷ xs) all = All-cons (λ n. IsShort (message_of n)) x xs (All-head IsShort (message_of x) (messages_of xs) all) (each xs (All-tail IsShort (message_of x) (messages_of xs) all))
+  all_short s ns plain e = news_short c s ns plain.no_peer e
 
   pub after_plain : (s : Session) → IsPlain s → IsPlain (after_delivery c s)
   after_plain s plain = go s.party plain.no_peer

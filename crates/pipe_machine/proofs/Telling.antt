@@ -19,10 +19,9 @@ use Rattle.session_core.specs.declared.news.News.{News}
 use Rattle.wavelet_shelf.specs.Hosting.{names_of, copy_in, IsCopyOf}
 use Rattle.wavelet_shelf.specs.Shelves.{hosted_of, copies_of, outcome_of}
 use Rattle.wavelet_shelf.specs.declared.shelf.Shelf.{Shelf}
-use Rattle.pipe_machine.specs.Machine.{shown_in}
-use Rattle.pipe_machine.specs.Seats.{IsPlain}
-use Rattle.pipe_machine.proofs.Alike.{attached_alike, delivered_alike, after_alike, told_alike, placed_alike}
-use Rattle.pipe_machine.proofs.Moving.{same_shown}
+use Rattle.hosted_copies.specs.Shown.{shown_in}
+use Rattle.hosted_copies.proofs.Alike.{attached_alike, delivered_alike, after_alike, told_alike, placed_alike}
+use Rattle.hosted_copies.proofs.Showing.{same_shown}
 
 module _ {F D : Type 0} {folder : folder_of.Ghosts F D} {disk : disk_of.Ghosts D} (s : Shelf F D folder disk) (copies : (n : Key) → IsCopyOf (copies_of s n) (copy_in (hosted_of s) n)) where
   -- as the shelf shows itself
@@ -32,11 +31,11 @@ module _ {F D : Type 0} {folder : folder_of.Ghosts F D} {disk : disk_of.Ghosts D
   pub attached_of : (x : Session) (name : Key) (from : Option VersionAt) → attached itself x name from ≡ attached (shown_in (hosted_of s)) x name from
   attached_of x name from = attached_alike itself (shown_in (hosted_of s)) (same_shown s copies) x name from
 
-  pub delivered_of : (x : Session) → IsPlain x → delivered itself x ≡ delivered (shown_in (hosted_of s)) x
-  delivered_of x plain = delivered_alike itself (shown_in (hosted_of s)) (same_shown s copies) x plain
+  pub delivered_of : (x : Session) → delivered itself x ≡ delivered (shown_in (hosted_of s)) x
+  delivered_of x = delivered_alike itself (shown_in (hosted_of s)) (same_shown s copies) x
 
-  pub after_of : (x : Session) → IsPlain x → after_delivery itself x ≡ after_delivery (shown_in (hosted_of s)) x
-  after_of x plain = after_alike itself (shown_in (hosted_of s)) (same_shown s copies) x plain
+  pub after_of : (x : Session) → after_delivery itself x ≡ after_delivery (shown_in (hosted_of s)) x
+  after_of x = after_alike itself (shown_in (hosted_of s)) (same_shown s copies) x
 
   pub told_of : (x : Session) → are_sent itself x ≡ are_sent (shown_in (hosted_of s)) x
   told_of x = told_alike itself (shown_in (hosted_of s)) (same_shown s copies) x

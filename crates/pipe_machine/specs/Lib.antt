@@ -6,6 +6,5 @@ pub mod Machine
 pub mod Meant
 pub mod Keeping
 pub mod Pipes
-pub mod Shows
 pub mod Laws
 pub mod Held

@@ -2,7 +2,6 @@
 -- answered to its session, and then every session is sent what is new to it.
 --     Pipe                the histories and the seats
 --     start hs            no session yet
---     outcome_in, shown_in hs     the histories as sessions see them
 --     asked hs t r        what a session's request is answered with: the histories, the session and the message
 --     replied hs s m t    a message to a session
 --     answered p t l      a line, and its reply
@@ -10,12 +9,8 @@
 --     turn p t l          a line, its reply and the deliveries
 --     sent p ts           what is sent for turns, one after the other
 --     after p ts          the machine then
-use Rattle.std.specs.Prelude.{ℕ, List, [], ◌∷◌, ◌++◌, Bool, false, Option, Some, None, Result, Ok, Err}
-use Rattle.std.specs.Option.{option_map}
+use Rattle.std.specs.Prelude.{ℕ, List, [], ◌∷◌, ◌++◌, Option, Some, None, Result, Ok, Err}
 use Rattle.doc_items.specs.Maps.{Key}
-use Rattle.wave_base.specs.Versions.{IdOf}
-use Rattle.wavelet_op.specs.declared.verdict.Verdict.{Verdict}
-use Rattle.delta_history.specs.Copying.{kept_in}
 use Rattle.wavelet_json.specs.declared.reason.BadReason.TheVariants as bad
 use Rattle.message_json.specs.declared.message.Message.{Message}
 use Rattle.message_json.specs.declared.message.Message.TheVariants.{Bad}
@@ -25,11 +20,10 @@ use Rattle.session_core.specs.declared.session.Session.{Session}
 use Rattle.session_core.specs.declared.request.Request.{Request}
 use Rattle.session_core.specs.declared.request.Request.TheVariants as ask
 use Rattle.session_core.specs.declared.request.SubmitAnswer.TheVariants as answer
-use Rattle.session_core.specs.Access.{Shown, shown}
 use Rattle.session_core.specs.Answers.{attached, answered as told}
 use Rattle.session_core.specs.Rules.{Taken, taken, reason_of}
-use Rattle.wavelet_shelf.specs.Hosting.{Hosted, names_of, copy_in, judged_in, after_submission}
-use Rattle.wavelet_shelf.specs.Shelves.{acknowledged}
+use Rattle.wavelet_shelf.specs.Hosting.{Hosted, judged_in, after_submission}
+use Rattle.hosted_copies.specs.Shown.{shown_in}
 use Rattle.line_loop.specs.Turns.{Turn}
 use Rattle.pipe_machine.specs.declared.seats.Seat.{Seat}
 use Rattle.pipe_machine.specs.Lines.{Sent, sent_to}
@@ -41,17 +35,6 @@ pub record Pipe : Type 0 where
 
 abbrev pub start : List Hosted → Pipe
 start hs = record { hosted = hs; seats = [] }
-
--- ---- what sessions see
-
-abbrev pub outcome_in : List Hosted → Key → IdOf → Option Verdict
-outcome_in hs n i = option_map acknowledged (kept_in (copy_in hs n) i)
-
-abbrev pub nothing_dropped : Key → Bool
-nothing_dropped n = false
-
-abbrev pub shown_in : List Hosted → Shown
-shown_in hs = shown (copy_in hs) (names_of hs) nothing_dropped (outcome_in hs)
 
 -- ---- replies
 

@@ -21,7 +21,8 @@ use Rattle.session_core.specs.Access.{MaySee}
 use Rattle.wavelet_shelf.specs.Hosting.{Hosted, names_of, deltas_in}
 use Rattle.pipe_machine.specs.declared.seats.Seat.{Seat}
 use Rattle.pipe_machine.specs.Lines.{Sent}
-use Rattle.pipe_machine.specs.Machine.{Pipe, start, shown_in, turn}
+use Rattle.hosted_copies.specs.Shown.{shown_in}
+use Rattle.pipe_machine.specs.Machine.{Pipe, start, turn}
 
 abbrev pub party_in : List Seat → Key → Party
 party_in [] n = Nobody

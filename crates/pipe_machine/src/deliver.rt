@@ -8,7 +8,7 @@ ghost use Rattle.session_core.specs.News.{message_of, messages_of, IsPlaced};
 ghost use Rattle.wavelet_shelf.specs.Shelves.{hosted_of};
 ghost use Rattle.pipe_machine.specs.Due.{is_told, are_told, AreTheDue};
 ghost use Rattle.pipe_machine.specs.Lines.{sent_to, lines_of};
-ghost use Rattle.pipe_machine.specs.Machine.{shown_in};
+ghost use Rattle.hosted_copies.specs.Shown.{shown_in};
 ghost use Rattle.pipe_machine.specs.Seats.{seat_after, seats_sent, seats_after, IsPlain};
 ghost use Rattle.pipe_machine.specs.Updates.{IsLast};
 

@@ -5,7 +5,8 @@ ghost use Rattle.wavelet_shelf.specs.Shelves.{hosted_of};
 ghost use Rattle.pipe_machine.specs.Due.{due_at, are_told, IsDueAlone};
 ghost use Rattle.pipe_machine.specs.Keeping.{IsMoved, IsEnded, submits, submits_to};
 ghost use Rattle.pipe_machine.specs.Lines.{lines_of};
-ghost use Rattle.pipe_machine.specs.Machine.{start, shown_in, served, refusal, answered, delivered, turn};
+ghost use Rattle.hosted_copies.specs.Shown.{shown_in};
+ghost use Rattle.pipe_machine.specs.Machine.{start, served, refusal, answered, delivered, turn};
 ghost use Rattle.pipe_machine.specs.Pipes.{pipe_of};
 
 use crate::deliver::deliver;

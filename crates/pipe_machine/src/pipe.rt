@@ -3,7 +3,7 @@ ghost use Rattle.std.specs.Coded.{Coded-set, coded_bool};
 ghost use Rattle.std.specs.List.{AllByRecursion, AllByRecursion-prop};
 ghost use Rattle.wavelet_shelf.specs.Shelves.{hosted_of};
 ghost use Rattle.pipe_machine.specs.Due.{are_told};
-ghost use Rattle.pipe_machine.specs.Machine.{shown_in};
+ghost use Rattle.hosted_copies.specs.Shown.{shown_in};
 ghost use Rattle.pipe_machine.specs.Seats.{are_ordered, IsPlainSeat, IsPlainSeat-prop};
 
 use crate::seats::Seat;

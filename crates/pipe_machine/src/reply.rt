@@ -9,7 +9,8 @@ ghost use Rattle.wavelet_shelf.specs.Hosting.{judged_in, after_submission};
 ghost use Rattle.wavelet_shelf.specs.Shelves.{hosted_of};
 ghost use Rattle.doc_items.specs.Maps.{same_text};
 ghost use Rattle.pipe_machine.specs.Keeping.{IsMoved, IsEnded, submits, asks_for};
-ghost use Rattle.pipe_machine.specs.Machine.{shown_in, reply_of, asked, replied};
+ghost use Rattle.hosted_copies.specs.Shown.{shown_in};
+ghost use Rattle.pipe_machine.specs.Machine.{reply_of, asked, replied};
 ghost use Rattle.pipe_machine.specs.Seats.{IsPlain, AsksAsUser};
 
 use doc_items::Memory;

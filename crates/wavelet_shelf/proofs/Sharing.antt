@@ -1,7 +1,7 @@
 -- A shelf's histories, as sessions see them.
 --     copy_alike        the copy of a name is its hosted history
 --     have_deltas       what is shown has deltas
---     named_copy        the copy of a name has it
+--     named_deltas      a name that is there has a delta
 use Rattle.std.proofs.Common.{Less, ◌≡◌, ◌≢◌, ◌==◌, ℕ, zero, suc, ◌-◌, length, true≢false, arith, true, false, cond, List, [], ◌∷◌, slice_get, Option, Some, None, IsSome, IfSome, option_copied, Bor, refl, sym, ap, subst, ◌∙◌}
 use Rattle.std.specs.Cmp.Lexicographic.{slice_cmp}
 use Rattle.std.specs.Ordering.{nat_cmp}
@@ -59,7 +59,7 @@ no_get e = absurd (cc)
 same_get : {X : Type 0} {x y : X} → Some x ≡ Some y → x ≡ y
 same_get e = cc
 
-named_deltas : (hs : List Hosted) (i : ℕ) (n : Key) → AreAscending (names_of hs) → HaveDeltas hs → slice_get (names_of hs) i ≡ Some n → deltas_in hs n ≢ []
+pub named_deltas : (hs : List Hosted) (i : ℕ) (n : Key) → AreAscending (names_of hs) → HaveDeltas hs → slice_get (names_of hs) i ≡ Some n → deltas_in hs n ≢ []
 named_deltas [] i n a d e = no_get e
 named_deltas (h ∷ hs) zero n a d e = λ none. d.0 (sym (ap (λ t. cond t h.deltas (deltas_in hs n)) (subst (λ k. same_text n k ≡ true) (sym (same_get e)) (own n))) ∙ none)
 named_deltas (h ∷ hs) (suc i) n a d e =

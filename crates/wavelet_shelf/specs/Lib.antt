@@ -7,3 +7,4 @@ pub mod Loads
 pub mod Parts
 pub mod Shelves
 pub mod Steps
+pub mod Walks

@@ -17,6 +17,7 @@ mod shelf;
 mod submit;
 mod taking;
 mod telling;
+mod walk;
 
 pub use fault::ShelfFault;
 pub use journal_name::{file_name, shard};

@@ -3,7 +3,7 @@ use Rattle.std.proofs.lemmas.List.Elements.{All-set}
 use Rattle.wavelet_shelf.specs.Shelves.{hosted_of}
 use Rattle.pipe_machine.specs.Due.{AreToldFrom, AreTheDue, reach}
 use Rattle.pipe_machine.specs.Lines.{lines_of}
-use Rattle.pipe_machine.specs.Machine.{shown_in}
+use Rattle.hosted_copies.specs.Shown.{shown_in}
 use Rattle.pipe_machine.specs.Seats.{IsPlain, seats_sent, seats_after}
 use Rattle.pipe_machine.proofs.Delivering.{sent_on, after_on}
 use Rattle.pipe_machine.proofs.Searching.{same_names}

@@ -3,7 +3,7 @@ use Rattle.std.specs.List.{All}
 use Rattle.wavelet_shelf.specs.Shelves.{hosted_of}
 use Rattle.pipe_machine.specs.Due.{AreToldFrom, AreTheDue, reach}
 use Rattle.pipe_machine.specs.Lines.{lines_of}
-use Rattle.pipe_machine.specs.Machine.{shown_in}
+use Rattle.hosted_copies.specs.Shown.{shown_in}
 use Rattle.pipe_machine.specs.Seats.{seats_sent, seats_after, IsPlain}
 use Rattle.pipe_machine.specs.Updates.{IsLast}
 use Rattle.pipe_machine.proofs.deliver.deliver_each.Given as goal

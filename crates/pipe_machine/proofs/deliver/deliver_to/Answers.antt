@@ -4,7 +4,7 @@ use Rattle.std.proofs.lemmas.Option.{slice_get_read}
 use Rattle.wavelet_shelf.specs.Shelves.{hosted_of}
 use Rattle.session_core.specs.News.{messages_of, IsPlaced}
 use Rattle.pipe_machine.specs.Lines.{sent_to, lines_of}
-use Rattle.pipe_machine.specs.Machine.{shown_in}
+use Rattle.hosted_copies.specs.Shown.{shown_in}
 use Rattle.pipe_machine.proofs.Delivering.{item_on}
 use Rattle.pipe_machine.proofs.Placing.{all_at}
 use Rattle.pipe_machine.proofs.deliver.deliver_to.Goals as goal

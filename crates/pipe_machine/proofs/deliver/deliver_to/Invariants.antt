@@ -2,7 +2,7 @@ use Rattle.std.proofs.Common.{◌≡◌, ◌++◌, map, drop}
 use Rattle.wavelet_shelf.specs.Shelves.{hosted_of}
 use Rattle.session_core.specs.News.{messages_of}
 use Rattle.pipe_machine.specs.Lines.{sent_to, lines_of}
-use Rattle.pipe_machine.specs.Machine.{shown_in}
+use Rattle.hosted_copies.specs.Shown.{shown_in}
 use Rattle.pipe_machine.specs.Updates.{IsLast}
 use Rattle.pipe_machine.proofs.deliver.deliver_to.Given as goal
 

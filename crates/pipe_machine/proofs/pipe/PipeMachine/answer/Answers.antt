@@ -1,6 +1,7 @@
 use Rattle.std.proofs.Common.{Ok, Err, refl, sym, ap, subst, ◌∙◌, arith}
 use Rattle.pipe_machine.specs.Keeping.{IsEnded, IsMoved, submits_read}
-use Rattle.pipe_machine.specs.Machine.{answered_read, shown_in}
+use Rattle.hosted_copies.specs.Shown.{shown_in}
+use Rattle.pipe_machine.specs.Machine.{answered_read}
 use Rattle.pipe_machine.specs.Pipes.{pipe_of}
 use Rattle.std.proofs.lemmas.Result.{err_from_is_err_and}
 use Rattle.line_loop.specs.declared.line_machine.TurnFault.TheVariants.{Memory}

@@ -2,7 +2,7 @@ use Rattle.pipe_machine.specs.Machine.{answered}
 use Rattle.pipe_machine.specs.Pipes.{pipe_of}
 use Rattle.wavelet_shelf.specs.Shelves.{hosted_of}
 use Rattle.pipe_machine.specs.Due.{are_told}
-use Rattle.pipe_machine.specs.Machine.{shown_in}
+use Rattle.hosted_copies.specs.Shown.{shown_in}
 use Rattle.pipe_machine.proofs.Placing.{due_or_all}
 use Rattle.pipe_machine.proofs.Turning.{turn_sent}
 use Rattle.std.proofs.Common.{sym, ap, subst}

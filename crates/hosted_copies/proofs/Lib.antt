@@ -1,0 +1,5 @@
+pub mod Alike
+pub mod Hosts
+pub mod Showing
+pub mod Walking
+pub mod Short
