@@ -121,7 +121,7 @@ refusal_is_followed s i t h = by s.follower.flight
     by (Some g) = decided (same_id i g.sent.id)
 
 -- a submission leaves the state where the follower is
-HereStays : FollowerOf → Submitted → Type 0
+abbrev pub HereStays : FollowerOf → Submitted → Type 0
 HereStays f (Err e) = Unit {0}
 HereStays f (Ok r) = IsWhole f.here.state → IsWhole r.1.here.state
 
@@ -130,18 +130,18 @@ here_stays_all f = unless f.flight
   where
     numbered : (t : Gathered) (b : Bool) → HereStays f (take_numbered f t b)
     numbered t false = tt
-    numbered t true w = w
+    numbered t true = λ w. w
 
     from : (m : Option Gathered) → HereStays f (take_gathered f m)
     from None = tt
     from (Some t) = numbered t (nat_le f.next max_count)
 
     waiting : (q : List (List Act)) → HereStays f (take_queued f q)
-    waiting [] w = w
+    waiting [] = λ w. w
     waiting (entry ∷ rest) = from (gather entry rest)
 
     unless : (m : Option Flight) → HereStays f (take_unless f m)
-    unless (Some x) w = w
+    unless (Some x) = λ w. w
     unless None = waiting f.queue
 
 pub submit_is_followed : SubmitIsFollowed

@@ -47,7 +47,7 @@ no_change : (c : ChainOf) (acts : List Act) → (run c.state acts ≡ None) ⊎ 
 no_change c acts (inl e) = ap (λ o. option_and_then (λ t. option_map (λ p. record { state = t; entries = p.0 }) (rebase c.entries acts)) o) e
 no_change c acts (inr e) = ap (λ o. option_and_then (λ t. option_map (λ p. record { state = t; entries = p.0 }) o) (run c.state acts)) e ∙ go (run c.state acts)
   where
-    go : (o : Option State) → option_and_then (λ t. None) o ≡ None {X = ChainOf}
+    go : (o : Option State) → ◌≡◌ {A = Option ChainOf} (option_and_then (λ t. None) o) None
     go None = refl
     go (Some t) = refl
 

@@ -1,5 +1,6 @@
 -- A wavelet of a run, as its code keeps it.
 --     shown_is                a screen that is there
+--     pending_all             what is pending is structured
 --     chain_kept              the chain where nothing is to be noted
 --     fault_is                a refusal, and what is said of it
 --     edit_refused            an edit that is refused
@@ -12,11 +13,14 @@ use Rattle.std.proofs.lemmas.Result.{IfOk-weaker}
 use Rattle.wavelet_op.specs.Acts.{Act, meanings}
 use Rattle.wavelet_op.specs.States.{State, empty_state}
 use Rattle.wavelet_op.specs.declared.op.WaveletOp.{WaveletOp}
-use Rattle.follower_rules.specs.Followers.{FollowerOf, screen}
+use Rattle.follower_rules.specs.Followers.{FollowerOf, run_all, screen}
 use Rattle.follower_rules.specs.Submitting.{IsFault, edit, submit}
 use Rattle.follower_rules.specs.declared.fault.FollowerFault.{FollowerFault}
 use Rattle.follower_rules.specs.declared.fault.FollowerFault.TheVariants.{OpInvalid, EditFull, TooBig, NumbersSpent, Memory}
-use Rattle.client_control.specs.Parts.{Parts, follower_of}
+use Rattle.follower_rules.specs.Laws.{IsSound}
+use Rattle.client_control.specs.Parts.{Parts, follower_of, ops_pending}
+use Rattle.client_control.specs.Steps.{AreStructured}
+use Rattle.client_control.proofs.Pending.{pending_same, entries_structured}
 use Rattle.undo_control.specs.Chains.{ChainOf}
 use Rattle.undo_control.specs.Parts.{Chain, chain_of}
 use Rattle.wavelet_op.specs.declared.delta.Submission.{Submission}
@@ -35,6 +39,10 @@ shown_is f s e = sym (ap (λ o. unwrap_or o empty_state) e)
 
 pub chain_kept : (s : Seat) → s.note ≡ note.Nothing → (seat_of s).chain ≡ chain_of s.chain
 chain_kept s e = ap (noted (follower_of s.follower) (chain_of s.chain)) e
+
+-- what is pending is structured
+pub pending_all : (p : Parts) → IsSound (follower_of p) → AreStructured (ops_pending p)
+pending_all p s = entries_structured p.here.state s.shown (ops_pending p) (ap (run_all p.here.state) (pending_same p) ∙ s.is_shown)
 
 -- ---- refusals
 
@@ -67,7 +75,7 @@ undo_none s (y ∷ es) c at = absurd (cc)
 -- ---- calls of a follower
 
 -- a seat with another follower and note
-pub with_parts : Seat → Parts → Note → Seat
+abbrev pub with_parts : Seat → Parts → Note → Seat
 with_parts s f n = record { follower = f; chain = s.chain; note = n; created = s.created; asked = s.asked; waits = s.waits }
 
 module _ (m : Seat) (old : SeatOf) (e : seat_of m ≡ old) (n : m.note ≡ note.Nothing) where

@@ -40,14 +40,14 @@ answered_is : (s : SeatOf) → IsFollowed s → IsFollowed (answered s)
 answered_is s h = record { sound = h.sound; whole = h.whole; shows = h.shows; in_turn = h.in_turn }
 
 module _ (s : SeatOf) (d : DeltaOf) (h : IsFollowed s) where
-  f : FollowerOf
+  abbrev pub f : FollowerOf
   f = s.follower
 
   stays : IsFollowed (with_follower s f s.chain)
   stays = at_screen s f s.chain h.sound h.whole h.shows h.in_turn
 
   -- after an answer
-  Leads : Answered → Type 0
+  abbrev pub Leads : Answered → Type 0
   Leads r = IsFollowed (updated s d r).0
 
   behind_whole : (q : Point) → next_point f.here d ≡ Some q → IsWhole q.state

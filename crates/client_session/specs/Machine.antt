@@ -15,9 +15,10 @@
 --     received m x            all that it does
 --     greeted m               what is sent on a new link
 --     is_waiting m            the current wavelet isn't settled, or an opening of it is unanswered
-use Rattle.std.specs.Prelude.{◌≡◌, ◌⊎◌, ℕ, ◌+◌, ◌==◌, Bool, true, false, cond, not, ◌||◌, List, [], ◌∷◌, ◌++◌, map, length, Option, Some, None, slice_get, slice_set}
+use Rattle.std.specs.Prelude.{◌≡◌, ◌⊎◌, ℕ, ◌+◌, ◌==◌, Bool, true, false, cond, not, ◌||◌, ◌&&◌, nat_le, List, [], ◌∷◌, ◌++◌, map, length, Option, Some, None, slice_get, slice_set}
 use Rattle.std.specs.Option.{option_map, option_map_or}
 use Rattle.std.specs.Str.{chars}
+use Rattle.doc_items.specs.Limits.{max_count}
 use Rattle.doc_items.specs.Maps.{Key, same_text}
 use Rattle.wavelet_op.specs.Acts.{Adds}
 use Rattle.wavelet_json.specs.declared.reason.BadReason.{BadReason}
@@ -31,7 +32,7 @@ use Rattle.client_session.specs.Answers.{acts, quiet, says, syncing, leaving}
 use Rattle.client_session.specs.Editing.{edit_seat, IsEdited, undo_seat, drop_seat, screen_of, handed, submit_seat}
 use Rattle.client_session.specs.Lines.{verdict_said, bad_said}
 use Rattle.client_session.specs.Seats.{SeatOf, seat_of, new_seat, answered}
-use Rattle.client_session.specs.Taking.{Told, reopen, ack_seat, snapshot_seat, update_seat, refuse_seat, unopen_seat, close_seat}
+use Rattle.client_session.specs.Taking.{Told, reopen, ack_seat, snapshot_seat, update_seat, refuse_known, unopen_seat, close_seat}
 use Rattle.client_session.specs.declared.acts.Acts.{Acts}
 use Rattle.client_session.specs.declared.acts.Handed.{Handed}
 use Rattle.client_session.specs.declared.said.Said.{Said}
@@ -209,7 +210,7 @@ told_by user s (message.Opened name version) = (answered s, quiet)
 told_by user s (message.Snapshot x) = snapshot_seat s x
 told_by user s (message.Unopened name r) = unopen_seat s r
 told_by user s (message.Ack name client number place to) = ack_seat s
-told_by user s (message.Refused name client number v) = refuse_seat s (record { author = user; client = client; number = number }) (verdict_said v)
+told_by user s (message.Refused name client number v) = refuse_known (nat_le client max_count && nat_le number max_count) s (record { author = user; client = client; number = number }) (verdict_said v)
 told_by user s (message.Update name d) = update_seat s d
 told_by user s (message.Closed name r) = close_seat s r
 told_by user s x = (s, quiet)
@@ -238,12 +239,10 @@ abbrev pub taken_at : MachineOf → Message → Option ℕ → Acted
 taken_at m x None = (m, quiet)
 taken_at m x (Some i) = parted_acts (is_close x) i (on_place i (λ s. told_by m.user s x) quiet m)
 
-abbrev pub all_answered : MachineOf → MachineOf
-all_answered m = with_seats m (map answered m.seats) m.current
-
+-- it answers each opening; only that of the current wavelet is ever looked at
 abbrev pub bad_as : MachineOf → Option BadReason → Acted
 bad_as m None = (m, quiet)
-bad_as m (Some r) = (all_answered m, says (bad_said r))
+bad_as m (Some r) = on_current (λ s. (answered s, says (bad_said r))) (says (bad_said r)) m
 
 abbrev pub taken_of : MachineOf → Message → Option Key → Acted
 taken_of m x None = bad_as m (bad_in x)

@@ -11,7 +11,7 @@
 --     chain_after own c f r   the chain after a delta that leads to the follower f: the own one leaves it
 --     IsLeft r n, IsNoteOf f d n     what is to be noted in the chain
 --     update_seat s d         a delta
---     refuse_seat s i said    a submission was refused
+--     refuse_seat s i said, refuse_known b s i said     a submission was refused; only one whose id is in range can be its own
 --     unopen_seat s r         the wavelet wasn't opened
 --     close_seat s r          it is open no more
 use Rattle.std.specs.Prelude.{◌≡◌, ℕ, ◌==◌, Bool, true, false, cond, List, [], ◌∷◌, Option, Some, None}
@@ -153,6 +153,11 @@ refused_told s t (true, f) = (anew s f, says t)
 
 abbrev pub refuse_seat : SeatOf → IdOf → Said → Told
 refuse_seat s i t = refused_told s t (refuse s.follower i)
+
+-- no submission has an id out of range
+abbrev pub refuse_known : Bool → SeatOf → IdOf → Said → Told
+refuse_known false s i t = (s, says t)
+refuse_known true s i t = refuse_seat s i t
 
 abbrev pub unopen_seat : SeatOf → UnopenedReason → Told
 unopen_seat s unopened.NotParticipant = (answered s, says (unopened_said unopened.NotParticipant))

@@ -1,16 +1,18 @@
 // What messages are about.
-ghost use Rattle.std.specs.Prelude.{◌≡◌, IfOk, OnErr};
+ghost use Rattle.std.specs.Prelude.{◌≡◌, ◌&&◌, nat_le, IfOk, OnErr};
 ghost use Rattle.std.specs.Option.{option_copied};
 ghost use Rattle.client_session.specs.Machine.{name_in, is_close, bad_in, told_by, IsHere};
 ghost use Rattle.client_session.specs.Lines.{verdict_said};
 ghost use Rattle.client_session.specs.Seats.{seat_of};
-ghost use Rattle.client_session.specs.Taking.{refuse_seat};
+ghost use Rattle.client_session.specs.Taking.{refuse_known};
+ghost use Rattle.client_commands.specs.declared.command.Command.TheVariants as commands;
+ghost use Rattle.doc_items.specs.Limits.{max_count};
 
 use crate::acts::Acts;
 use crate::said::{Said, verdict_said};
 use crate::seat::Seat;
-use client_commands::Command;
-use doc_items::Memory;
+use client_commands::{Command, Edit};
+use doc_items::{MAX_COUNT, Memory};
 use message_json::Message;
 use std::alloc::Global;
 use wave_base::{Address, DeltaId, WaveletName};
@@ -111,9 +113,12 @@ impl Seat {
         number: u64,
         verdict: &Verdict,
     ) -> Result<Acts, Memory>
-        ensures ok { IfOk result (λ a. (seat_of self.new, a) ≡ refuse_seat (seat_of self.old) (record { author = user.now; client = client; number = number }) (verdict_said verdict.now)) }
+        ensures ok { IfOk result (λ a. (seat_of self.new, a) ≡ refuse_known (nat_le client max_count && nat_le number max_count) (seat_of self.old) (record { author = user.now; client = client; number = number }) (verdict_said verdict.now)) }
         ensures same { OnErr result (seat_of self.new ≡ seat_of self.old) }
     {
+        if client > MAX_COUNT || number > MAX_COUNT {
+            return Ok(Acts::says(alloc, verdict_said(verdict)));
+        }
         let author = user.copy(alloc)?;
         let id = DeltaId {
             author,
@@ -160,16 +165,22 @@ impl Seat {
         }
     }
 
+    // An edit of the current wavelet.
+    fn edit_here(&mut self, alloc: Global, edit: &Edit) -> Result<Acts, Memory>
+        ensures ok { IfOk result (λ a. IsHere (seat_of self.old) (commands.Edit edit.now) (seat_of self.new, a)) }
+        ensures same { OnErr result (seat_of self.new ≡ seat_of self.old) }
+    {
+        let said = self.obey(alloc, edit)?;
+        Ok(Acts::says(alloc, said))
+    }
+
     /// A command of the current wavelet.
     pub fn command(&mut self, alloc: Global, command: &Command) -> Result<Acts, Memory>
         ensures ok { IfOk result (λ a. IsHere (seat_of self.old) command.now (seat_of self.new, a)) }
         ensures same { OnErr result (seat_of self.new ≡ seat_of self.old) }
     {
         match command {
-            Command::Edit(edit) => {
-                let said = self.obey(alloc, edit)?;
-                Ok(Acts::says(alloc, said))
-            }
+            Command::Edit(edit) => self.edit_here(alloc, edit),
             Command::Undo => {
                 let said = self.undo(alloc)?;
                 Ok(Acts::says(alloc, said))

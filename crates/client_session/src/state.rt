@@ -3,10 +3,11 @@ ghost use Rattle.std.specs.Prelude.{◌≡◌, ◌≤◌, ◌⊎◌, ◌∷◌, 
 ghost use Rattle.doc_items.specs.Limits.{max_count};
 ghost use Rattle.wavelet_op.specs.declared.op.WaveletOp.TheVariants.{Add};
 ghost use Rattle.client_commands.specs.Lines.{command_of};
-ghost use Rattle.client_session.specs.Answers.{quiet};
-ghost use Rattle.client_session.specs.Machine.{machine_of, new_machine, client_of, with_seat, place_of, on_place, on_current, IsHereAt, IsCurrent, IsEither, opened_place, opened_at, opened, created_at, created, IsDone, submitted, finished, IsCommanded, IsHalted, IsCutShort, told_by, parted, taken_at, all_answered, bad_in, bad_as, taken_by, received, IsMessageCutShort, greeted, is_waiting};
+ghost use Rattle.client_session.specs.Answers.{quiet, says};
+ghost use Rattle.client_session.specs.Machine.{machine_of, new_machine, client_of, with_seat, place_of, on_place, on_current, IsHereAt, IsCurrent, IsEither, opened_place, opened_at, opened, created_at, created, IsDone, submitted, finished, IsCommanded, IsHalted, IsCutShort, told_by, parted, taken_at, bad_as, taken_by, received, IsMessageCutShort, greeted, is_waiting};
 ghost use Rattle.client_session.specs.Editing.{handed, submit_seat};
-ghost use Rattle.client_session.specs.Seats.{seat_of, new_seat};
+ghost use Rattle.client_session.specs.Lines.{bad_said};
+ghost use Rattle.client_session.specs.Seats.{seat_of, new_seat, answered};
 ghost use Rattle.client_session.specs.Taking.{reopen};
 ghost use Rattle.client_session.specs.declared.said.Said.TheVariants.{Nothing};
 
@@ -21,6 +22,7 @@ use doc_items::{Memory, Text};
 use message_json::Message;
 use std::alloc::Global;
 use wave_base::{Address, WaveletName};
+use wavelet_json::BadReason;
 use wavelet_op::{Ops, WaveletOp};
 
 /// The client of a run: a follower of each wavelet that it opened or created, with the chain of undo of each, kept to the end of the
@@ -289,25 +291,26 @@ impl ClientState {
         }
     }
 
-    // No opening of any wavelet is unanswered.
-    fn answer_all(&mut self)
-        ensures { machine_of self.new ≡ all_answered (machine_of self.old) }
+    // The server refused a message of the client, with a wavelet at a place.
+    fn take_bad_at(&mut self, alloc: Global, place: usize, reason: BadReason) -> Acts
+        ensures { (machine_of self.new, result) ≡ on_place place (λ s. (answered s, says (bad_said reason))) (says (bad_said reason)) (machine_of self.old) }
     {
-        for seat in self.seats.iter_mut() {
-            seat.answer();
+        match self.seats.get_mut(place) {
+            Some(seat) => seat.bad(alloc, reason),
+            None => Acts::says(alloc, bad_said(reason)),
         }
     }
 
     // A message that is about no wavelet.
-    fn take_bad(&mut self, alloc: Global, message: &Message) -> Acts
-        ensures { (machine_of self.new, result) ≡ bad_as (machine_of self.old) (bad_in message.now) }
+    fn take_bad(&mut self, alloc: Global, reason: Option<BadReason>) -> Acts
+        ensures { (machine_of self.new, result) ≡ bad_as (machine_of self.old) reason }
     {
-        match bad_in(message) {
-            Some(reason) => {
-                self.answer_all();
-                Acts::says(alloc, bad_said(reason))
-            }
-            None => Acts::quiet(alloc),
+        let Some(reason) = reason else {
+            return Acts::quiet(alloc);
+        };
+        match self.current {
+            Some(place) => self.take_bad_at(alloc, place, reason),
+            None => Acts::says(alloc, bad_said(reason)),
         }
     }
 
@@ -317,7 +320,7 @@ impl ClientState {
         ensures same { OnErr result (machine_of self.new ≡ machine_of self.old) }
     {
         let Some(name) = name_in(message) else {
-            return Ok(self.take_bad(alloc, message));
+            return Ok(self.take_bad(alloc, bad_in(message)));
         };
         match place_in(self.seats.as_slice(), name) {
             Some(place) => self.take_at(alloc, place, message),
@@ -340,7 +343,8 @@ impl ClientState {
 
     /// The link is cut, which changes nothing.
     pub fn on_cut(&mut self, alloc: Global) -> Acts
-        ensures { (machine_of self.new, result) ≡ (machine_of self.old, quiet) }
+        ensures state { machine_of self.new ≡ machine_of self.old }
+        ensures acts { result ≡ quiet }
     {
         Acts::quiet(alloc)
     }

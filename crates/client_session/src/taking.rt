@@ -5,6 +5,8 @@ ghost use Rattle.delta_history.specs.Points.{acts_of};
 ghost use Rattle.follower_rules.specs.Followers.{pending, point_of, take_snapshot};
 ghost use Rattle.follower_rules.specs.Receiving.{rebase};
 ghost use Rattle.client_control.specs.Parts.{follower_of, ops_pending};
+ghost use Rattle.client_session.specs.Answers.{says};
+ghost use Rattle.client_session.specs.Lines.{bad_said};
 ghost use Rattle.client_session.specs.Seats.{seat_of, answered};
 ghost use Rattle.client_session.specs.Taking.{ask, ask_anyway, is_asked, ack_seat, snapshot_told, snapshot_seat, flies, IsLeft, IsNoteOf, update_seat, refuse_seat, unopen_seat, close_seat};
 ghost use Rattle.client_session.specs.declared.chain.Note.TheVariants as note;
@@ -13,7 +15,7 @@ ghost use Rattle.client_session.specs.declared.said.Said.TheVariants.{Nothing};
 use crate::acts::Acts;
 use crate::chain::Note;
 use crate::messages::Messages;
-use crate::said::{Said, closed_said, unopened_said};
+use crate::said::{Said, bad_said, closed_said, unopened_said};
 use crate::seat::Seat;
 use client_control::{Follower, Received, Taken, rebase};
 use doc_items::Memory;
@@ -21,7 +23,7 @@ use message_json::Message;
 use std::alloc::Global;
 use wave_base::{DeltaId, HashedVersion};
 use wave_hash::zero_hash;
-use wavelet_json::{ClosedReason, UnopenedReason};
+use wavelet_json::{BadReason, ClosedReason, UnopenedReason};
 use wavelet_op::{AppliedDelta, Ops};
 use wavelet_state::Snapshot;
 
@@ -172,6 +174,8 @@ impl Seat {
         requires { AreStructuredActs (acts_of delta.now) }
         ensures { IfOk result (IsLeft (rebase (pending (follower_of self.now.follower)) (acts_of delta.now))) }
     {
+        // What is pending is valid at the state, and so structured.
+        let _state = self.follower.state();
         let entries = pending_of(alloc, &self.follower)?;
         let ops = delta.ops.copy(alloc)?;
         match rebase(alloc, entries.as_slice(), ops)? {
@@ -223,6 +227,15 @@ impl Seat {
             self.note = Note::Anew;
         }
         Ok(Acts::says(alloc, said))
+    }
+
+    /// The server refused a message of the client.
+    pub fn bad(&mut self, alloc: Global, reason: BadReason) -> Acts
+        ensures state { seat_of self.new ≡ answered (seat_of self.old) }
+        ensures acts { result ≡ says (bad_said reason) }
+    {
+        self.waits = false;
+        Acts::says(alloc, bad_said(reason))
     }
 
     /// The wavelet is open no more.

@@ -1,8 +1,8 @@
-use Rattle.std.proofs.Common.{◌≡◌, Some, length, slice_get, refl, sym, ap}
+use Rattle.std.proofs.Common.{◌≡◌, Some, length, slice_get, refl, sym, ap, subst}
 use Rattle.std.proofs.lemmas.Option.{slice_get_read}
 use Rattle.std.proofs.lemmas.Result.{on_err_weaker}
 use Rattle.delta_history.proofs.Finding.{lt_false}
-use Rattle.client_session.specs.Machine.{machine_of}
+use Rattle.client_session.specs.Machine.{machine_of, IsHereAt}
 use Rattle.client_session.proofs.Commanding.{here_there, here_past}
 use Rattle.client_session.proofs.Placing.{same_there}
 use Rattle.client_session.proofs.state.ClientState.here_at.Goals as goal
@@ -26,4 +26,4 @@ returns-in-Some-clause-same c =
     on_err_weaker c.command.result (λ e. same_there m items c.args.place refl s c.command.new.self got e) c.command.ensures.same
 
 pub returns-in-None-clause-ok : goal.returns-in-None-clause-ok
-returns-in-None-clause-ok c = here_past (machine_of c.args.self.now) c.args.command.now c.args.self.now.seats.items c.args.place refl (lt_false c.args.place (length c.args.self.now.seats.items) (sym c.in-None.ensures.item.0))
+returns-in-None-clause-ok c = subst (λ a. IsHereAt (machine_of c.args.self.now) (Some c.args.place) c.args.command.now (machine_of c.args.self.now, a)) (sym c.says.ensures) (here_past (machine_of c.args.self.now) c.args.command.now c.args.self.now.seats.items c.args.place refl (lt_false c.args.place (length c.args.self.now.seats.items) (sym c.in-None.ensures.item.0)))

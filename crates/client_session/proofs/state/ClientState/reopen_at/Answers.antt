@@ -1,4 +1,4 @@
-use Rattle.std.proofs.Common.{◌≡◌, [], Some, length, slice_get, refl, sym, ap}
+use Rattle.std.proofs.Common.{◌≡◌, [], Some, length, slice_get, refl, sym, ap, ◌∙◌}
 use Rattle.std.proofs.lemmas.Option.{slice_get_read}
 use Rattle.std.proofs.lemmas.Result.{on_err_weaker}
 use Rattle.delta_history.proofs.Finding.{lt_false}
@@ -26,4 +26,4 @@ returns-in-Some-clause-same c =
     on_err_weaker c.reopen.result (λ e. same_there m items c.args.place refl s c.reopen.new.self got e) c.reopen.ensures.same
 
 pub returns-in-None-clause-ok : goal.returns-in-None-clause-ok
-returns-in-None-clause-ok c = moved_past (machine_of c.args.self.now) c.args.self.now.seats.items c.args.place refl reopen [] (lt_false c.args.place (length c.args.self.now.seats.items) (sym c.in-None.ensures.item.0))
+returns-in-None-clause-ok c = ap (λ a. (machine_of c.args.self.now, a)) (c.new.ensures) ∙ moved_past (machine_of c.args.self.now) c.args.self.now.seats.items c.args.place refl reopen [] (lt_false c.args.place (length c.args.self.now.seats.items) (sym c.in-None.ensures.item.0))

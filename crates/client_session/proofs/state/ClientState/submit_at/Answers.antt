@@ -1,4 +1,4 @@
-use Rattle.std.proofs.Common.{◌≡◌, [], Some, length, slice_get, refl, sym, ap}
+use Rattle.std.proofs.Common.{◌≡◌, [], Some, length, slice_get, refl, sym, ap, ◌∙◌}
 use Rattle.std.proofs.lemmas.Option.{slice_get_read}
 use Rattle.std.proofs.lemmas.Result.{on_err_weaker}
 use Rattle.delta_history.proofs.Finding.{lt_false}
@@ -27,4 +27,4 @@ returns-in-Some-clause-err c =
     on_err_weaker c.submit.result (λ e. either_there m items c.args.place refl submit_seat (handed [] Nothing) s c.submit.new.self got e) c.submit.ensures.err
 
 pub returns-in-None-clause-ok : goal.returns-in-None-clause-ok
-returns-in-None-clause-ok c = moved_past (machine_of c.args.self.now) c.args.self.now.seats.items c.args.place refl submit_seat (handed [] Nothing) (lt_false c.args.place (length c.args.self.now.seats.items) (sym c.in-None.ensures.item.0))
+returns-in-None-clause-ok c = ap (λ a. (machine_of c.args.self.now, a)) (c.new-in-None.ensures ∙ ap (λ ms. handed ms Nothing) c.new.ensures) ∙ moved_past (machine_of c.args.self.now) c.args.self.now.seats.items c.args.place refl submit_seat (handed [] Nothing) (lt_false c.args.place (length c.args.self.now.seats.items) (sym c.in-None.ensures.item.0))
