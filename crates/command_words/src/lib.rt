@@ -3,7 +3,6 @@
 
 mod command;
 mod grammar;
-mod name;
 mod values;
 
 pub use command::{Command, WordsFault, read_words};
