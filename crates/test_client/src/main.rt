@@ -15,7 +15,10 @@ const LIMIT: u64 = 16_777_216;
 fn print_acts(rt: &HostRuntime, acts: &Acts) -> io::Result<()> {
     for message in acts.send.as_slice() {
         let bytes = write(rt.alloc(), message)?;
-        println!(rt; "  send {}", str::from_utf8(bytes.as_slice()).unwrap_or("?"))?;
+        println!(rt;
+            "  send {}",
+            str::from_utf8(bytes.as_slice()).unwrap_or("?")
+        )?;
     }
     let mut text = String::new(rt.alloc());
     acts.write(&mut text)?;
