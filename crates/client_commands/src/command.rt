@@ -55,15 +55,27 @@ impl Drop for Stretch {
 /// An edit of the current wavelet.
 pub enum Edit {
     /// The address becomes a participant.
-    Add { address: Address },
+    Add {
+        address: Address,
+    },
     /// The address is a participant no more.
-    Remove { address: Address },
+    Remove {
+        address: Address,
+    },
     /// The address gets a role.
-    SetRole { address: Address, role: Role },
+    SetRole {
+        address: Address,
+        role: Role,
+    },
     /// A text comes in at a place.
-    Write { spot: Spot, text: Phrase },
+    Write {
+        spot: Spot,
+        text: Phrase,
+    },
     /// Items go.
-    Erase { stretch: Stretch },
+    Erase {
+        stretch: Stretch,
+    },
     /// Items get an annotation, or lose it where there is no value.
     Note {
         stretch: Stretch,
@@ -71,7 +83,10 @@ pub enum Edit {
         value: Option<Phrase>,
     },
     /// An element without attributes comes in at a place.
-    Element { spot: Spot, kind: Phrase },
+    Element {
+        spot: Spot,
+        kind: Phrase,
+    },
     /// A blip gets a thread more, with a blip.
     Reply {
         blip: Phrase,
@@ -85,9 +100,14 @@ pub enum Edit {
         new_blip: Phrase,
     },
     /// A thread gets a blip more; the empty id is that of the root thread.
-    Next { thread: Phrase, new_blip: Phrase },
+    Next {
+        thread: Phrase,
+        new_blip: Phrase,
+    },
     /// A blip is deleted.
-    Delete { blip: Phrase },
+    Delete {
+        blip: Phrase,
+    },
 }
 
 impl Drop for Edit {

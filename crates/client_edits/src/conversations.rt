@@ -86,11 +86,7 @@ pub(crate) fn go_on(
 }
 
 /// A blip is deleted.
-pub(crate) fn delete(
-    alloc: Global,
-    screen: &WaveletState,
-    blip: &Phrase,
-) -> Result<Built, Memory>
+pub(crate) fn delete(alloc: Global, screen: &WaveletState, blip: &Phrase) -> Result<Built, Memory>
     ensures { IfOk result (IsDeleted (manifest_of screen.now) blip.now) }
 {
     let name = manifest_name(alloc)?;

@@ -7,11 +7,11 @@ ghost use Rattle.wave_terminal.specs.Runs.{IsCommandStatus, IsObeyed};
 use crate::CommandMachine;
 use crate::command::{Command, command_of};
 use crate::run::run_commands;
-use wave_screen::write_screen;
 use doc_items::Memory;
 use std::alloc::Global;
 use wave_outside::{Sink, Source};
 use wave_playback::Playback;
+use wave_screen::write_screen;
 
 // How many bytes of a line are kept before no more are: no command has so many.
 const MAX_KEPT: usize = 64;
