@@ -129,4 +129,4 @@ module _ (m : Seat) (old : SeatOf) (e : seat_of m ≡ old) (n : m.note ≡ note.
   submit_failed q f x s h r =
       IfOk-weaker q (IsUnsent x) (λ y. (seat_of (with_parts m f m.note), y) ≡ submit_seat old)
       (λ y u. let z = fault_is (submit (follower_of m.follower)) x u.0 h u.1 in
-        ap (λ s. (s, y)) (stays f s) ∙ ap (λ t. (old, t)) (u.2 ∙ ap (handed []) z.1) ∙ sym (ap (submitted_as old) (ap (λ (s : SeatOf). submit s.follower) (sym e) ∙ z.0))) r
+      ap (λ s. (s, y)) (stays f s) ∙ ap (λ t. (old, t)) (u.2 ∙ ap (handed []) z.1) ∙ sym (ap (submitted_as old) (ap (λ (s : SeatOf). submit s.follower) (sym e) ∙ z.0))) r
