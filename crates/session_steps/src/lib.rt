@@ -1,0 +1,8 @@
+//! What it means that a session was served from the histories of shards: the steps that account for all that came and was sent.
+#![tactic(auto)]
+
+mod end;
+mod step;
+
+pub use end::EndCause;
+pub use step::LinkStep;
