@@ -5,15 +5,12 @@
 --     sent_opened       after an `open`, where its shard is due then
 --     sent_delivered    after news
 --     nothing_left      where a session was sent all of each shard
-use Rattle.std.proofs.Common.{◌≡◌, ◌≢◌, ◌⊎◌, inl, inr, ◌+◌, ◌<◌, ◌≤◌, ◌&&◌, ℕ, zero, suc, arith, Bool, true, false, cond, nat_eq, List, [], ◌∷◌, ◌++◌, length, get_or, Option, None, Some, refl, sym, ap, subst, ◌∙◌, true≢false}
+use Rattle.std.proofs.Common.{◌≡◌, ◌≢◌, ◌⊎◌, inl, inr, ◌<◌, ℕ, arith, Bool, true, false, cond, nat_eq, List, [], ◌∷◌, length, get_or, None, refl, sym, ap, subst, ◌∙◌, true≢false}
 use Rattle.std.proofs.lemmas.Bool.{and_parts}
 use Rattle.std.proofs.lemmas.Bool.Decides.{nat_tests}
-use mathlib.Core.List.{IsPrefix}
 use Rattle.doc_items.specs.Maps.{Key}
-use Rattle.wavelet_op.specs.Deltas.{DeltaOf}
 use Rattle.message_json.specs.declared.message.Message.{Message}
 use Rattle.session_core.specs.declared.session.Session.{Session}
-use Rattle.session_core.specs.Access.{Shown}
 use Rattle.session_core.specs.Deliveries.{delivered, after_delivery}
 use Rattle.session_core.specs.Rules.{Taken}
 use Rattle.wavelet_shelf.specs.FileNames.{shard_of}
@@ -21,7 +18,7 @@ use Rattle.wavelet_shelf.specs.Hosting.{Hosted, deltas_in, grown_in, copy_of}
 use Rattle.wavelet_shelf.proofs.Growing.{grows_alone}
 use Rattle.shard_marks.specs.declared.mark.Mark.{Mark}
 use Rattle.shard_marks.specs.declared.mark.Mark.TheVariants.{Began, Applied, Fault}
-use Rattle.shard_marks.specs.Marks.{is_of, is_founded, after_mark, replayed_on, replayed, shown_at}
+use Rattle.shard_marks.specs.Marks.{is_of, is_founded, after_mark, replayed_on, shown_at}
 use Rattle.session_steps.specs.Clients.{IsClient, IsSentTo, AreSentTo, AreSentAll}
 use Rattle.session_steps.specs.Served.{HaveNothingLeft}
 use Rattle.session_steps.proofs.Growing.{prefix_self, prefix_whole}

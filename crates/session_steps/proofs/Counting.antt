@@ -1,7 +1,7 @@
 -- Numbers that are added up, and readings that follow others.
 --     total_one, total_same     one of the numbers rose; none did
 --     taken_none, taken_one, taken_more     no reading, one, and more after others
-use Rattle.std.proofs.Common.{sym, ap, refl, subst, ◌∙◌, ◌≡◌, ◌≢◌, ◌+◌, ◌<◌, ◌≤◌, ◌⊎◌, inl, inr, ℕ, zero, suc, arith, List, [], ◌∷◌, ◌++◌, length, length-append, slice_get, Option, Some, None}
+use Rattle.std.proofs.Common.{sym, ap, refl, subst, ◌∙◌, ◌≡◌, ◌≢◌, ◌+◌, ◌<◌, ◌≤◌, ◌⊎◌, inl, inr, ℕ, zero, suc, arith, List, [], ◌∷◌, ◌++◌, length, length-append, slice_get, Some}
 use Rattle.session_steps.specs.Jobs.{AreTaken}
 use Rattle.session_steps.specs.Served.{total}
 

@@ -2,7 +2,7 @@
 --     after_sent, after_received, after_idle, after_ended, after_nothing      the three after one event
 --     received_same, polls_same, sent_text, sent_more     a text was sent
 --     sent_next        so was the next one of a list
-use Rattle.std.proofs.Common.{sym, ap, refl, subst, ◌∙◌, ◌≡◌, ◌+◌, ◌<◌, ℕ, arith, List, [], ◌∷◌, ◌++◌, map, drop, length, get_or, append_assoc, append-nil}
+use Rattle.std.proofs.Common.{sym, ap, refl, ◌∙◌, ◌≡◌, ◌+◌, ◌<◌, ℕ, arith, List, [], ◌∷◌, ◌++◌, map, drop, length, get_or, append_assoc, append-nil}
 use Rattle.std.proofs.lemmas.List.{drop_more}
 use mathlib.Core.List.{IsPrefix}
 use Rattle.wave_outside.specs.Links.{received, sent}

@@ -4,21 +4,21 @@
 --     grow_begins               so the passes' own words say
 --     step_later, walk_later    steps stay what they were
 --     sent_later                what a session was sent stays so
-use Rattle.std.proofs.Common.{sym, ap, refl, subst, ◌∙◌, ◌≡◌, ◌≢◌, ◌+◌, ◌<◌, ◌≤◌, ◌⊎◌, inl, inr, ℕ, zero, suc, Bool, true, false, arith, List, [], ◌∷◌, ◌++◌, length, length-append, append_assoc, append-nil, get_or, Option, Some, None}
+use Rattle.std.proofs.Common.{sym, ap, refl, subst, ◌∙◌, ◌≡◌, ◌≢◌, ◌≤◌, ◌⊎◌, inl, inr, ℕ, arith, List, [], ◌∷◌, ◌++◌, length, length-append, append_assoc, append-nil, Option, Some, None}
 use mathlib.Core.List.{IsPrefix}
 use Rattle.doc_items.specs.Maps.{Key}
 use Rattle.session_core.specs.declared.request.Request.{Request}
 use Rattle.session_core.specs.declared.request.Request.TheVariants as ask
 use Rattle.session_core.specs.declared.session.Session.{Session}
 use Rattle.turn_cells.specs.declared.cells.Passes.{Passes}
-use Rattle.turn_cells.specs.Cells.{AreOthersSame, Begins, BeginsAt, seen_at, seen_of}
+use Rattle.turn_cells.specs.Cells.{AreOthersSame, Begins, BeginsAt, seen_of}
 use Rattle.shard_marks.specs.declared.look.Look.{Look}
 use Rattle.shard_marks.specs.declared.mark.Mark.{Mark}
 use Rattle.shard_marks.specs.Passes.{HaveTurned, marks_of}
 use Rattle.shard_marks.specs.Looks.{IsCut}
 use Rattle.session_steps.specs.declared.step.LinkStep.{LinkStep}
 use Rattle.session_steps.specs.declared.step.LinkStep.TheVariants.{Read, Delivered}
-use Rattle.session_steps.specs.Clients.{IsSentTo, AreSentTo}
+use Rattle.session_steps.specs.Clients.{AreSentTo}
 use Rattle.session_steps.specs.Going.{Grow}
 use Rattle.session_steps.specs.Served.{IsWalk}
 use Rattle.session_steps.specs.Steps.{Progress, Work, IsAt, IsAsked, IsStep, reading_of}
@@ -96,16 +96,39 @@ module _ (d : Key) (m n : ℕ → List Mark) (grown : Grow m n) (begun : ℕ →
     asked_later : (x : Session × Request) (look : Option Look) (reading : Option ℕ) (w : Work) → IsAsked d m begun ss x look reading w → IsAsked d n begun ss x look reading w
     asked_later (s, ask.Reply t) look reading w a = record { unlooked = a.unlooked; unread = a.unread; session = a.session; frames = a.frames; added = a.added }
     asked_later (s, ask.Attach name from) look reading w a = record {
-      at = a.at; cut = a.cut; message = a.message; is_look = a.is_look; unread = a.unread;
-      moment = at_later _ a.at a.cut a.moment; reply = a.reply; frames = a.frames; added = a.added;
+      at = a.at;
+      cut = a.cut;
+      message = a.message;
+      is_look = a.is_look;
+      unread = a.unread;
+      moment = at_later _ a.at a.cut a.moment;
+      reply = a.reply;
+      frames = a.frames;
+      added = a.added;
     }
     asked_later (s, ask.Submit name submission) look reading w a = record {
-      at = a.at; cut = a.cut; time = a.time; answer = a.answer; message = a.message; is_look = a.is_look; is_read = a.is_read;
-      moment = at_later _ a.at a.cut a.moment; judged = a.judged; fresh_fault = a.fresh_fault; reply = a.reply; frames = a.frames;
+      at = a.at;
+      cut = a.cut;
+      time = a.time;
+      answer = a.answer;
+      message = a.message;
+      is_look = a.is_look;
+      is_read = a.is_read;
+      moment = at_later _ a.at a.cut a.moment;
+      judged = a.judged;
+      fresh_fault = a.fresh_fault;
+      reply = a.reply;
+      frames = a.frames;
     }
     asked_later (s, ask.Have name from) look reading w a = record {
-      at = a.at; cut = a.cut; is_look = a.is_look; unread = a.unread; moment = at_later _ a.at a.cut a.moment;
-      session = a.session; frames = a.frames; added = a.added;
+      at = a.at;
+      cut = a.cut;
+      is_look = a.is_look;
+      unread = a.unread;
+      moment = at_later _ a.at a.cut a.moment;
+      session = a.session;
+      frames = a.frames;
+      added = a.added;
     }
 
     readings_same : (o : Option ℕ) → reading_of d m begun ss o ≡ reading_of d n begun ss o
@@ -114,13 +137,23 @@ module _ (d : Key) (m n : ℕ → List Mark) (grown : Grow m n) (begun : ℕ →
 
     step_later : (st : LinkStep) (a b : Progress) → IsStep d m begun ss st a b → IsStep d n begun ss st a b
     step_later (Read look reading) a b s = record {
-      bytes = s.bytes; work = s.work; asked = asked_later _ look reading s.work s.asked; session = s.session;
-      received = s.received; sent = s.sent; readings = s.readings ∙ ap (λ l. a.readings ++ l) (readings_same reading); added = s.added;
+      bytes = s.bytes;
+      work = s.work;
+      asked = asked_later _ look reading s.work s.asked;
+      session = s.session;
+      received = s.received;
+      sent = s.sent;
+      readings = s.readings ∙ ap (λ l. a.readings ++ l) (readings_same reading);
+      added = s.added;
     }
     step_later (Delivered look) a b s = record {
       work = s.work;
       news = record { cut = s.news.cut; moment = at_later _ look s.news.cut s.news.moment; session = s.news.session; frames = s.news.frames; added = s.news.added };
-      session = s.session; received = s.received; sent = s.sent; readings = s.readings; added = s.added;
+      session = s.session;
+      received = s.received;
+      sent = s.sent;
+      readings = s.readings;
+      added = s.added;
     }
 
   pub walk_later : (ss : List LinkStep) (a : Progress) → IsWalk d m begun ss a → IsWalk d n begun ss a

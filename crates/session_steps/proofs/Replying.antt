@@ -3,7 +3,7 @@
 --     reply_halted, open_halted, submit_halted, submit_untold     they weren't: there was no turn or no memory, or no memory for the answer
 --     open_client, open_sent      the session then, and what it was sent
 --     submit_stays          a submission that was answered leaves the session as it is
-use Rattle.std.proofs.Common.{sym, ap, refl, subst, ◌∙◌, ◌≡◌, ◌≢◌, ◌⊎◌, inl, inr, ◌+◌, ◌<◌, ◌≤◌, ℕ, Bool, true, arith, List, [], ◌∷◌, ◌++◌, length, get_or, Option, Some, None}
+use Rattle.std.proofs.Common.{sym, ap, refl, subst, ◌∙◌, ◌≡◌, ◌≢◌, ◌⊎◌, inl, inr, ◌+◌, ◌<◌, ◌≤◌, ℕ, Bool, true, arith, List, [], ◌∷◌, length, get_or, Option, Some, None}
 use Rattle.std.specs.Prelude.{IsTrue}
 use mathlib.Core.List.{IsPrefix}
 use Rattle.doc_items.specs.Maps.{Key}
@@ -23,17 +23,16 @@ use Rattle.turn_cells.specs.Cells.{added_at, seen_at}
 use Rattle.wavelet_shelf.specs.FileNames.{shard_of}
 use Rattle.shard_marks.specs.declared.look.Look.{Look}
 use Rattle.shard_marks.specs.declared.mark.Mark.{Mark}
-use Rattle.shard_marks.specs.Answers.{EndsInFault, IsAnswer, IsAnswered}
+use Rattle.shard_marks.specs.Answers.{IsAnswer, IsAnswered}
 use Rattle.shard_marks.specs.Frames.{frame_of}
 use Rattle.shard_marks.specs.Passes.{HaveTurned, marks_of}
-use Rattle.shard_marks.specs.Looks.{IsLook, IsCut}
+use Rattle.shard_marks.specs.Looks.{IsLook}
 use Rattle.shard_marks.specs.Marks.{shown_at}
 use Rattle.session_steps.specs.declared.step.LinkStep.{LinkStep}
 use Rattle.session_steps.specs.Clients.{IsClient, AreSentTo}
 use Rattle.session_steps.specs.Going.{Grow, HasWorked, IsUnasked, Since}
-use Rattle.session_steps.specs.Jobs.{AreTaken}
 use Rattle.session_steps.specs.Served.{total}
-use Rattle.session_steps.specs.Steps.{last_length, Work, IsAt, IsAsked}
+use Rattle.session_steps.specs.Steps.{last_length, IsAt}
 use Rattle.session_steps.proofs.Counting.{taken_none, taken_one}
 use Rattle.session_steps.proofs.Growing.{prefix_self, prefix_length, turned_grow, sent_later}
 use Rattle.session_steps.proofs.Serving.{added_same, added_one}
@@ -63,20 +62,39 @@ module _ (d : Key) (m n : ℕ → List Mark) (grown : Grow m n) (k : ℕ) (l : L
 
 reply_work : (d : Key) (m : ℕ → List Mark) (s : Session) (message : Message) → HasWorked d m m (s, ask.Reply message) [] 0 s message
 reply_work d m s message = record {
-  look = None; reading = None; work = record { session = s; frames = frame_of message ∷ []; added = 0 }; reading_is = refl;
+  look = None;
+  reading = None;
+  work = record { session = s; frames = frame_of message ∷ []; added = 0 };
+  reading_is = refl;
   done = λ begun ss reached. record { unlooked = refl; unread = refl; session = refl; frames = refl; added = refl };
-  within = λ l e. absurd (no_look l e); session = refl; frames = refl; added = refl;
+  within = λ l e. absurd (no_look l e);
+  session = refl;
+  frames = refl;
+  added = refl;
 }
 
 open_work : (d : Key) (m n : ℕ → List Mark) → Grow m n → (s x : Session) (name : Key) (from : Option VersionAt) (message : Message) (l : Look) → IsLook (shard_of name) (n (shard_of name)) l
     → (x, message) ≡ attached (shown_at d (shard_of name) (n (shard_of name))) s name from → HasWorked d m n (s, ask.Attach name from) [] 0 x message
 open_work d m n grown s x name from message l at reply = record {
-  look = Some l; reading = None; work = record { session = x; frames = frame_of message ∷ []; added = 0 }; reading_is = refl;
+  look = Some l;
+  reading = None;
+  work = record { session = x; frames = frame_of message ∷ []; added = 0 };
+  reading_is = refl;
   done = λ begun ss reached. record {
-    at = l; cut = n (shard_of name); message = message; is_look = refl; unread = refl; moment = at_now d m n grown (shard_of name) l at begun ss reached;
-    reply = reply; frames = refl; added = refl;
+    at = l;
+    cut = n (shard_of name);
+    message = message;
+    is_look = refl;
+    unread = refl;
+    moment = at_now d m n grown (shard_of name) l at begun ss reached;
+    reply = reply;
+    frames = refl;
+    added = refl;
   };
-  within = within_now d m n grown (shard_of name) l at; session = refl; frames = refl; added = refl;
+  within = within_now d m n grown (shard_of name) l at;
+  session = refl;
+  frames = refl;
+  added = refl;
 }
 
 module _ {T : Type 0} (d : Key) (ps qs : Passes T Mark) (s : Session) (name : Key) (submission : Submission) (t : ℕ) (turned : HaveTurned (shard_of name) ps qs)
@@ -89,15 +107,28 @@ module _ {T : Type 0} (d : Key) (ps qs : Passes T Mark) (s : Session) (name : Ke
 
   submit_work : (x : Session) (message : Message) → (x, message) ≡ answered s name submission.id a → HasWorked d (marks_of ps) (marks_of qs) (s, ask.Submit name submission) (t ∷ []) i.gained x message
   submit_work x message reply = record {
-    look = Some l; reading = Some t; work = record { session = x; frames = frame_of message ∷ []; added = i.gained }; reading_is = refl;
+    look = Some l;
+    reading = Some t;
+    work = record { session = x; frames = frame_of message ∷ []; added = i.gained };
+    reading_is = refl;
     done = λ begun ss reached. record {
-      at = l; cut = marks_of qs (shard_of name); time = t; answer = a; message = message; is_look = refl; is_read = refl;
+      at = l;
+      cut = marks_of qs (shard_of name);
+      time = t;
+      answer = a;
+      message = message;
+      is_look = refl;
+      is_read = refl;
       moment = at_now d (marks_of ps) (marks_of qs) (turned_grow ps qs (shard_of name) turned) (shard_of name) l at begun ss reached;
       judged = i.answer;
       fresh_fault = λ e. let one = fault_added e in omega (arith, one, i.grown, at.length, reached (shard_of name));
-      reply = reply; frames = refl;
+      reply = reply;
+      frames = refl;
     };
-    within = within_now d (marks_of ps) (marks_of qs) (turned_grow ps qs (shard_of name) turned) (shard_of name) l at; session = refl; frames = refl; added = refl;
+    within = within_now d (marks_of ps) (marks_of qs) (turned_grow ps qs (shard_of name) turned) (shard_of name) l at;
+    session = refl;
+    frames = refl;
+    added = refl;
   }
 
   pub submit_stays : (x : Session) (message : Message) → (x, message) ≡ answered s name submission.id a → x ≡ s

@@ -10,8 +10,7 @@
 --     ended_of, ended_unbegun               at the end of the loop, and where it never began
 --     no_events             a list that is empty
 --     looked_next, loads_next, all_next     one shard more was looked at
-use Rattle.std.proofs.Common.{sym, ap, refl, subst, ◌∙◌, ◌≡◌, ◌≢◌, ◌⊎◌, inl, inr, ◌+◌, ◌<◌, ◌≤◌, ℕ, Bool, true, arith, List, [], ◌∷◌, ◌++◌, length, append-nil, get_or, Option, Some, None}
-use Rattle.std.specs.Prelude.{IsTrue}
+use Rattle.std.proofs.Common.{sym, ap, refl, subst, ◌∙◌, ◌≡◌, ◌≢◌, ◌⊎◌, inl, inr, ◌+◌, ◌<◌, ◌≤◌, ℕ, Bool, arith, List, [], ◌∷◌, ◌++◌, length, append-nil, get_or, Some}
 use mathlib.Core.List.{IsPrefix}
 use Rattle.doc_items.specs.Maps.{Key}
 use Rattle.message_json.specs.declared.message.Message.{Message}
@@ -22,7 +21,7 @@ use Rattle.turn_cells.specs.declared.cells.Passes.{Passes}
 use Rattle.turn_cells.specs.Cells.{AreOthersSame, added_at, loads_at, added_of, loads_of, seen_of}
 use Rattle.wave_outside.specs.Links.{received, sent}
 use Rattle.wave_outside.specs.declared.link.LinkEvent.{LinkEvent}
-use Rattle.wave_outside.specs.declared.link.LinkEvent.TheVariants.{Received, Idle, Ended, Sent}
+use Rattle.wave_outside.specs.declared.link.LinkEvent.TheVariants.{Received, Idle, Ended}
 use Rattle.shard_marks.specs.declared.look.Look.{Look}
 use Rattle.shard_marks.specs.declared.mark.Mark.{Mark}
 use Rattle.shard_marks.specs.Frames.{frame_of, frames_of}
@@ -30,14 +29,14 @@ use Rattle.shard_marks.specs.Passes.{HaveTurned, marks_of}
 use Rattle.shard_marks.specs.Looks.{IsLook}
 use Rattle.shard_marks.specs.Marks.{shown_at}
 use Rattle.session_steps.specs.declared.end.EndCause.{EndCause}
-use Rattle.session_steps.specs.declared.end.EndCause.TheVariants.{Closed, Failed, Spent, Memory}
+use Rattle.session_steps.specs.declared.end.EndCause.TheVariants.{Closed}
 use Rattle.session_steps.specs.Clients.{IsClient, AreSentTo, AreSentAll}
 use Rattle.session_steps.specs.Going.{Origin, Grow, IsReaching, HasWorked, IsUnasked, Since}
-use Rattle.session_steps.specs.Jobs.{AreTaken, IsEnded}
+use Rattle.session_steps.specs.Jobs.{IsEnded}
 use Rattle.session_steps.specs.Served.{IsBroken, IsOver, HaveNothingLeft, total, poll_count}
 use Rattle.session_steps.proofs.Counting.{total_same, total_one, taken_none, taken_more}
-use Rattle.session_steps.proofs.Events.{after_received, after_idle, after_ended, after_nothing, after_sent}
-use Rattle.session_steps.proofs.Growing.{grow_same, turned_grow}
+use Rattle.session_steps.proofs.Events.{after_received, after_idle, after_ended, after_nothing}
+use Rattle.session_steps.proofs.Growing.{turned_grow}
 use Rattle.session_steps.proofs.Walking.{reaching_later, reaching_idle, reaching_sent, broken_sent, reaching_replied, broken_untold, broken_unread, broken_now, whole_closed, over_broken, reaching_start}
 
 same_or_not : (j k : ℕ) → (j ≡ k) ⊎ (j ≢ k)
@@ -221,7 +220,11 @@ pub going_unbegun : {T : Type 0} (d : Key) (is_told : Bool) (ps : Passes T Mark)
     → Since (record { begun = λ k. length (marks_of ps k); readings = r; added = total 16 (λ k. added_at ps k) }) is_told r (total 16 (λ k. added_at ps k))
     (λ read gained. IsReaching d (marks_of ps) (λ k. length (marks_of ps k)) es s read gained)
 going_unbegun d is_told ps r es s none new = record {
-  read = []; gained = 0; timed = λ t. taken_none r; counted = omega arith; is = reaching_start d (marks_of ps) es s none new;
+  read = [];
+  gained = 0;
+  timed = λ t. taken_none r;
+  counted = omega arith;
+  is = reaching_start d (marks_of ps) es s none new;
 }
 
 pub ended_unbegun : {T : Type 0} (d : Key) (is_told : Bool) (ps : Passes T Mark) (r : ℕ → ℕ) (es : List LinkEvent) (c : EndCause) → c ≢ Closed → es ≡ [] → IsEnded d ps ps is_told r r es c

@@ -6,17 +6,16 @@
 --     after_client          a session to which news was sent
 --     after_quiet           it was sent all of other copies that it was sent before
 --     answered_same, answered_short     an answer to a submission changes nothing, but where it waits
-use Rattle.std.proofs.Common.{◌≡◌, ◌==◌, ◌≢◌, ◌⊎◌, inl, inr, ◌+◌, ℕ, zero, suc, arith, Bool, true, false, ◌&&◌, if◌then◌else◌, cond, List, [], ◌∷◌, ◌++◌, take, drop, length, Option, None, Some, Result, Ok, Err, refl, sym, ap, subst, ◌∙◌, true≢false, option_map}
-use Rattle.std.specs.Prelude.{is_some, slice_set, slice_index_or}
+use Rattle.std.proofs.Common.{◌≡◌, ◌==◌, ◌≢◌, ◌⊎◌, inl, inr, ◌+◌, ℕ, zero, suc, arith, Bool, true, false, ◌&&◌, if◌then◌else◌, List, [], ◌∷◌, ◌++◌, take, drop, length, Option, None, Some, Result, Ok, Err, refl, sym, ap, subst, ◌∙◌, true≢false, option_map}
+use Rattle.std.specs.Prelude.{is_some}
 use Rattle.std.specs.Cmp.Lexicographic.{pointwise, bytes_decides}
 use Rattle.std.specs.Str.{encode_utf8_all, chars}
-use Rattle.std.specs.List.{flat_map, list_any}
+use Rattle.std.specs.List.{list_any}
 use Rattle.std.specs.Option.{option_map_or}
 use Rattle.std.proofs.lemmas.Bool.{and_parts}
 use Rattle.doc_items.specs.Maps.{Key, same_text}
 use Rattle.wave_base.specs.Versions.{VersionAt, IdOf}
 use Rattle.wavelet_op.specs.declared.op.WaveletOp.{WaveletOp}
-use Rattle.wavelet_op.specs.declared.delta.Submission.{Submission}
 use Rattle.wavelet_op.specs.declared.verdict.Verdict.{Verdict}
 use Rattle.wavelet_op.specs.declared.verdict.Verdict.TheVariants as verdict
 use Rattle.delta_history.specs.Histories.{HistoryOf, head_of, hash_found}
@@ -41,9 +40,9 @@ use Rattle.session_core.specs.declared.request.Request.TheVariants as ask
 use Rattle.session_core.specs.declared.request.SubmitAnswer.{SubmitAnswer}
 use Rattle.session_core.specs.declared.request.SubmitAnswer.TheVariants as answer
 use Rattle.session_core.specs.Access.{Shown, seen_by}
-use Rattle.session_core.specs.Answers.{with_sent, none_open, set_sent_in, put_sent, sent_at, told_verdict, verdict_message, answered, snapshot_of, is_sendable, attached_hash, attached_seen, seen_for, attached}
+use Rattle.session_core.specs.Answers.{with_sent, set_sent_in, put_sent, told_verdict, verdict_message, answered, snapshot_of, is_sendable, attached_hash, attached_seen, seen_for, attached}
 use Rattle.session_core.specs.Deliveries.{outcomes_sent, still_waiting, opening_sent, openings_sent, opening_left, opening_kept, openings_kept, delivered_to, delivered, after_for, after_delivery}
-use Rattle.session_core.specs.Rules.{Taken, party_is_user, party_is_peer, has_user, has_peer, refused, with_party, is_nobody, is_new, is_user, greeted, is_peer, met, as_user, as_peer, in_domain, is_reached, is_hosted, place_of, without, with_openings, closed_at, asked_open, submission_of, submitted_as, submitted, closed, told_have, relay_by, relayed, taken_kind, taken, reason_of, limit_of, taken_read, taken_bytes}
+use Rattle.session_core.specs.Rules.{Taken, party_is_user, party_is_peer, has_user, refused, with_party, is_nobody, is_new, is_user, greeted, met, as_user, as_peer, in_domain, is_reached, is_hosted, place_of, without, with_openings, closed_at, asked_open, submission_of, submitted_as, submitted, closed, relay_by, taken_kind, reason_of, limit_of, taken_read, taken_bytes}
 use Rattle.session_steps.specs.Clients.{IsClient, AsksAsClient}
 
 -- ---- what is sent of open wavelets
@@ -306,7 +305,10 @@ module _ (d : Key) (s : Session) (p : IsClient d s) (c : Shown) where
       go : (party : Party) → s.party ≡ party → party_is_peer party ≡ false → IsClient d (after_for c s party)
       go Nobody e n = p
       go (User user) e n = record {
-        domain = p.domain; peers = p.peers; no_peer = p.no_peer; waiting = ap (still_waiting c) p.waiting;
+        domain = p.domain;
+        peers = p.peers;
+        no_peer = p.no_peer;
+        waiting = ap (still_waiting c) p.waiting;
         unopened = λ f. absurd (true≢false (sym (ap party_is_user e) ∙ f));
       }
       go (Domain x) e n = absurd (true≢false n)

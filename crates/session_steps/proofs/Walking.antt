@@ -8,7 +8,7 @@
 --     broken_now            a session that goes on could be broken off
 --     whole_closed          the close came, and nothing is left
 --     over_broken           a session that broke off is over, unless it was closed
-use Rattle.std.proofs.Common.{sym, ap, refl, subst, ◌∙◌, ◌≡◌, ◌≢◌, ◌+◌, ◌<◌, ◌≤◌, ℕ, zero, suc, Bool, true, false, arith, List, [], ◌∷◌, ◌++◌, length, append_assoc, append-nil, nat_eq, cond, Option, Some, None}
+use Rattle.std.proofs.Common.{sym, ap, refl, subst, ◌∙◌, ◌≡◌, ◌≢◌, ◌+◌, ◌≤◌, ℕ, Bool, true, false, arith, List, [], ◌∷◌, ◌++◌, length, append_assoc, append-nil, nat_eq, cond, Option, Some, None}
 use Rattle.std.proofs.lemmas.Bool.Decides.{nat_tests}
 use mathlib.Core.List.{IsPrefix}
 use Rattle.doc_items.specs.Maps.{Key}
@@ -18,7 +18,6 @@ use Rattle.session_core.specs.Deliveries.{delivered, after_delivery}
 use Rattle.session_core.specs.Rules.{fresh, taken_bytes}
 use Rattle.wave_outside.specs.Links.{received, sent}
 use Rattle.wave_outside.specs.declared.link.LinkEvent.{LinkEvent}
-use Rattle.wave_outside.specs.declared.link.LinkEvent.TheVariants.{Received, Idle, Ended, Sent}
 use Rattle.shard_marks.specs.declared.look.Look.{Look}
 use Rattle.shard_marks.specs.declared.mark.Mark.{Mark}
 use Rattle.shard_marks.specs.Frames.{frame_of, frames_of}
@@ -29,8 +28,8 @@ use Rattle.session_steps.specs.declared.end.EndCause.TheVariants.{Closed, Failed
 use Rattle.session_steps.specs.declared.step.LinkStep.{LinkStep}
 use Rattle.session_steps.specs.declared.step.LinkStep.TheVariants.{Read, Delivered}
 use Rattle.session_steps.specs.Going.{Grow, IsReaching, HasWorked, reading_list}
-use Rattle.session_steps.specs.Served.{IsWalk, IsServing, IsBroken, IsWhole, IsOver, HaveNothingLeft, EndsClosed}
-use Rattle.session_steps.specs.Steps.{Progress, start, Work, looks_of, length_at, last_length, IsAsked, IsStep, reading_of}
+use Rattle.session_steps.specs.Served.{IsWalk, IsBroken, IsWhole, IsOver, HaveNothingLeft, EndsClosed}
+use Rattle.session_steps.specs.Steps.{Progress, start, Work, length_at, last_length, IsAsked, IsStep, reading_of}
 use Rattle.session_steps.proofs.Growing.{prefix_self, prefix_length, walk_later}
 
 same_number : (a b : ℕ) → nat_eq a b ≡ true → a ≡ b
@@ -64,9 +63,14 @@ module _ (d : Key) (m : ℕ → List Mark) (begun : ℕ → ℕ) where
     pub reaching_idle : received fs ≡ received es → sent fs ≡ sent es → IsReaching d m begun fs s read gained
     reaching_idle came went = record {
       serving = record {
-        steps = r.serving.steps; progress = r.serving.progress; walk = r.serving.walk;
-        received = r.serving.received ∙ sym came; sent = r.serving.sent ∙ sym went;
-        session = r.serving.session; readings_are = r.serving.readings_are; added_is = r.serving.added_is;
+        steps = r.serving.steps;
+        progress = r.serving.progress;
+        walk = r.serving.walk;
+        received = r.serving.received ∙ sym came;
+        sent = r.serving.sent ∙ sym went;
+        session = r.serving.session;
+        readings_are = r.serving.readings_are;
+        added_is = r.serving.added_is;
       };
       reached = r.reached;
     }
@@ -75,7 +79,9 @@ module _ (d : Key) (m : ℕ → List Mark) (begun : ℕ → ℕ) where
     pub broken_unread : (more untold : List ℕ) (unread : List (List ℕ)) → length unread ≤ 1 → length untold ≤ 1
         → received fs ≡ received es ++ unread → sent fs ≡ sent es → more ≡ read ++ untold → IsBroken d m begun fs more gained
     broken_unread more untold unread one few came went told = record {
-      steps = r.serving.steps; progress = r.serving.progress; walk = r.serving.walk;
+      steps = r.serving.steps;
+      progress = r.serving.progress;
+      walk = r.serving.walk;
       unread = unread;
       received = ap (λ l. l ++ unread) r.serving.received ∙ sym came;
       one_message = one;
@@ -177,8 +183,14 @@ module _ (d : Key) (m n : ℕ → List Mark) (grown : Grow m n) (begun : ℕ →
   pub reaching_later : IsReaching d n begun es s read gained
   reaching_later = record {
     serving = record {
-      steps = r.serving.steps; progress = r.serving.progress; walk = walk_later d m n grown begun r.serving.steps r.serving.progress r.serving.walk;
-      received = r.serving.received; sent = r.serving.sent; session = r.serving.session; readings_are = r.serving.readings_are; added_is = r.serving.added_is;
+      steps = r.serving.steps;
+      progress = r.serving.progress;
+      walk = walk_later d m n grown begun r.serving.steps r.serving.progress r.serving.walk;
+      received = r.serving.received;
+      sent = r.serving.sent;
+      session = r.serving.session;
+      readings_are = r.serving.readings_are;
+      added_is = r.serving.added_is;
     };
     reached = λ k. let up = prefix_length (m k) (n k) (grown k) in omega (arith, r.reached k, up);
   }
@@ -190,8 +202,11 @@ module _ (d : Key) (m n : ℕ → List Mark) (grown : Grow m n) (begun : ℕ →
 
     abbrev answer_progress : Progress
     answer_progress = record {
-      session = w.work.session; received = before.received ++ bytes ∷ []; sent = before.sent ++ w.work.frames;
-      readings = before.readings ++ reading_of d n begun r.serving.steps w.reading; added = before.added + w.work.added;
+      session = w.work.session;
+      received = before.received ++ bytes ∷ [];
+      sent = before.sent ++ w.work.frames;
+      readings = before.readings ++ reading_of d n begun r.serving.steps w.reading;
+      added = before.added + w.work.added;
     }
 
     abbrev answer_step : LinkStep
@@ -208,6 +223,7 @@ module _ (d : Key) (m n : ℕ → List Mark) (grown : Grow m n) (begun : ℕ →
       readings = refl;
       added = refl;
     }
+
     answered_walk : IsWalk d n begun (answer_step ∷ r.serving.steps) answer_progress
     answered_walk = (before, walk_later d m n grown begun r.serving.steps before r.serving.walk, answered_step)
 
@@ -256,8 +272,11 @@ module _ (d : Key) (m n : ℕ → List Mark) (grown : Grow m n) (begun : ℕ →
       received = append-nil answer_progress.received ∙ answer_received;
       one_message = omega arith;
       sent = (w.work.frames, ap (λ l. l ++ w.work.frames) (went ∙ sym r.serving.sent));
-      sent_before = λ st ss e. (before, subst (λ l. IsWalk d n begun l before) (head_is answer_step st r.serving.steps ss e) (walk_later d m n grown begun r.serving.steps before r.serving.walk),
-          subst (λ l. IsPrefix before.sent l) (r.serving.sent ∙ sym went) (prefix_self before.sent));
+      sent_before = λ st ss e. (
+        before,
+        subst (λ l. IsWalk d n begun l before) (head_is answer_step st r.serving.steps ss e) (walk_later d m n grown begun r.serving.steps before r.serving.walk),
+        subst (λ l. IsPrefix before.sent l) (r.serving.sent ∙ sym went) (prefix_self before.sent),
+      );
       untold = [];
       readings_are = sym (append-nil answer_progress.readings ∙ answer_readings);
       one_reading = omega arith;
@@ -275,8 +294,14 @@ over_broken d m begun es read gained Memory other b = b
 pub reaching_start : (d : Key) (m : ℕ → List Mark) (es : List LinkEvent) (s : Session) → es ≡ [] → s ≡ fresh (Some d) [] → IsReaching d m (λ k. length (m k)) es s [] 0
 reaching_start d m es s none new = record {
   serving = record {
-    steps = []; progress = start d; walk = refl;
-    received = sym (ap received none); sent = sym (ap sent none); session = sym new; readings_are = refl; added_is = refl;
+    steps = [];
+    progress = start d;
+    walk = refl;
+    received = sym (ap received none);
+    sent = sym (ap sent none);
+    session = sym new;
+    readings_are = refl;
+    added_is = refl;
   };
   reached = λ k. omega arith;
 }

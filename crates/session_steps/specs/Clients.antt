@@ -4,7 +4,7 @@
 --     IsSentTo d k ms s n  of the shard with these marks, the session was sent all that there is at their length n; 0 says nothing
 --     AreSentTo d ms s ns  so it is with each shard
 --     AreSentAll ms i ns   of the first i shards, these are the lengths
-use Rattle.std.specs.Prelude.{◌≡◌, ◌≢◌, ◌<◌, ◌≤◌, ℕ, Bool, true, false, List, [], length, slice_index_or, Option, Some}
+use Rattle.std.specs.Prelude.{◌≡◌, ◌≢◌, ◌<◌, ◌≤◌, ℕ, true, false, List, [], length, slice_index_or, Some}
 use mathlib.Core.List.{IsPrefix}
 use Rattle.doc_items.specs.Maps.{Key}
 use Rattle.message_json.specs.Write.{IsShort}

@@ -9,7 +9,7 @@
 --     Since o .. P         P holds of all readings and marks since the start
 --     GoesOn, HasBroken, HasEnded     so it is with a session between two turns, one that broke off, and one that ended with a cause
 --     HasReplied, HasHalted           so it is with one call that replied to a message, and with one that gave no reply
-use Rattle.std.specs.Prelude.{◌≡◌, ◌⊎◌, ◌<◌, ◌≤◌, ◌+◌, ℕ, Bool, IsTrue, List, [], ◌∷◌, ◌++◌, length, Option, Some, None}
+use Rattle.std.specs.Prelude.{◌≡◌, ◌⊎◌, ◌<◌, ◌≤◌, ◌+◌, ℕ, Bool, IsTrue, List, [], ◌∷◌, length, Option, Some, None}
 use mathlib.Core.List.{IsPrefix}
 use Rattle.doc_items.specs.Maps.{Key}
 use Rattle.message_json.specs.declared.message.Message.{Message}

@@ -2,13 +2,12 @@
 --     founded_is         whose shard it is, and its number
 --     founded_later      what begins with these marks begins so too
 --     founded_own        the first mark of a shard is its own
-use Rattle.std.proofs.Common.{◌≡◌, ℕ, Bool, true, false, ◌&&◌, nat_eq, List, [], ◌∷◌, ◌++◌, refl, sym, ap, subst, ◌∙◌, true≢false}
+use Rattle.std.proofs.Common.{◌≡◌, ℕ, Bool, true, false, ◌&&◌, nat_eq, List, [], ◌∷◌, refl, sym, ap, subst, ◌∙◌, true≢false}
 use Rattle.std.specs.Cmp.Lexicographic.{bytes_decides}
 use Rattle.std.proofs.lemmas.Bool.{eq-eqb, eqb-true}
 use mathlib.Core.List.{IsPrefix}
 use Rattle.doc_items.specs.Maps.{Key, same_text}
 use Rattle.shard_marks.specs.declared.mark.Mark.{Mark}
-use Rattle.shard_marks.specs.declared.mark.Mark.TheVariants.{Began}
 use Rattle.shard_marks.specs.Marks.{is_founding, is_founded, founded}
 
 heads : {X : Type 0} {x y : X} {xs ys : List X} → x ∷ xs ≡ y ∷ ys → x ≡ y

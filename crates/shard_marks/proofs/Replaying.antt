@@ -6,11 +6,10 @@
 --     own_noted, own_fault                     each mark is of a wavelet of the shard
 --     noted_one                                at most one mark was added
 --     counted_noted, counted_fault             the marks that tell of faults are no more than were counted
-use Rattle.std.proofs.Common.{◌≡◌, ◌⊎◌, inl, inr, ℕ, ◌+◌, ◌≤◌, min, Bool, true, false, ◌&&◌, nat_eq, cond, List, [], ◌∷◌, ◌++◌, length, Option, Some, None, option_map, refl, sym, ap, subst, ◌∙◌, arith, append-nil, length-append}
+use Rattle.std.proofs.Common.{◌≡◌, ◌⊎◌, inl, inr, ℕ, ◌+◌, ◌≤◌, min, Bool, true, false, ◌&&◌, nat_eq, cond, List, [], ◌∷◌, ◌++◌, length, Option, Some, None, option_map, refl, sym, ap, ◌∙◌, arith, append-nil, length-append}
 use Rattle.std.specs.List.{list_all}
 use Rattle.std.proofs.lemmas.Bool.{eq-eqb}
-use Rattle.doc_items.specs.Maps.{Key, same_text}
-use Rattle.wave_base.specs.Grammar.{host_of}
+use Rattle.doc_items.specs.Maps.{Key}
 use Rattle.wave_base.specs.Versions.{IdOf}
 use Rattle.wavelet_op.specs.Deltas.{DeltaOf}
 use Rattle.wavelet_op.specs.declared.delta.Submission.{Submission}
@@ -26,7 +25,7 @@ use Rattle.hosted_copies.specs.Domains.{is_hosted_by, hosted_by, one_of}
 use Rattle.hosted_copies.proofs.Hosts.{own_judged, own_added}
 use Rattle.shard_marks.specs.declared.mark.Mark.{Mark}
 use Rattle.shard_marks.specs.declared.mark.Mark.TheVariants.{Applied, Fault}
-use Rattle.shard_marks.specs.Marks.{is_of, is_own_mark, after_mark, replayed_on, replayed, fault_count, fault_of}
+use Rattle.shard_marks.specs.Marks.{is_of, is_own_mark, after_mark, replayed_on, replayed, fault_count}
 use Rattle.shard_marks.specs.Marks.{most_faults}
 use Rattle.shard_marks.specs.Answers.{IsJudged}
 

@@ -10,7 +10,7 @@
 --     founded d k ms        the first mark, and these after it
 --     fault_count ms        the number of marks that tell of a fault
 --     most_faults           where counts of faults stay
-use Rattle.std.specs.Prelude.{◌≡◌, ℕ, ◌+◌, ◌-◌, ◌^◌, Bool, true, false, ◌&&◌, nat_eq, cond, List, [], ◌∷◌, ◌++◌, map}
+use Rattle.std.specs.Prelude.{ℕ, ◌+◌, ◌-◌, ◌^◌, Bool, false, ◌&&◌, nat_eq, cond, List, [], ◌∷◌, ◌++◌, map}
 use Rattle.doc_items.specs.Maps.{Key, same_text}
 use Rattle.wave_base.specs.Grammar.{host_of}
 use Rattle.session_core.specs.Access.{Shown}

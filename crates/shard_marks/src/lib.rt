@@ -2,6 +2,7 @@
 //! to a submission at a moment.
 #![tactic(auto)]
 
+pub mod laws;
 mod look;
 mod mark;
 
