@@ -1,0 +1,40 @@
+-- Sessions of clients.
+--     IsClient d s         a session of the domain that is of no peer and has none; nothing waits, and one without a user has nothing open
+--     AsksAsClient s r     what such a session asks for: no peer's matter, and only with a user that a wavelet is opened
+--     IsSentTo d k ms s n  of the shard with these marks, the session was sent all that there is at their length n; 0 says nothing
+--     AreSentTo d ms s ns  so it is with each shard
+--     AreSentAll ms i ns   of the first i shards, these are the lengths
+use Rattle.std.specs.Prelude.{◌≡◌, ◌≢◌, ◌<◌, ◌≤◌, ℕ, true, false, List, [], length, slice_index_or, Some}
+use mathlib.Core.List.{IsPrefix}
+use Rattle.doc_items.specs.Maps.{Key}
+use Rattle.message_json.specs.Write.{IsShort}
+use Rattle.session_core.specs.declared.request.Request.{Request}
+use Rattle.session_core.specs.declared.request.Request.TheVariants as ask
+use Rattle.session_core.specs.declared.session.Session.{Session}
+use Rattle.session_core.specs.Deliveries.{delivered}
+use Rattle.session_core.specs.Rules.{has_user, has_peer}
+use Rattle.shard_marks.specs.declared.mark.Mark.{Mark}
+use Rattle.shard_marks.specs.Marks.{shown_at}
+
+pub record IsClient (d : Key) (s : Session) : Type 0 where
+  pub domain : s.domain ≡ Some d
+  pub peers : s.peers ≡ []
+  pub no_peer : has_peer s ≡ false
+  pub waiting : s.waiting ≡ []
+  pub unopened : has_user s ≡ false → s.openings ≡ []
+
+abbrev pub AsksAsClient : Session → Request → Type 0
+AsksAsClient s (ask.Reply m) = IsShort m
+AsksAsClient s (ask.Attach name from) = has_user s ≡ true
+AsksAsClient s (ask.Submit name submission) = Unit {0}
+AsksAsClient s (ask.Have name from) = ⊥
+
+pub record IsSentTo (d : Key) (k : ℕ) (ms : List Mark) (s : Session) (n : ℕ) : Type 0 where
+  pub within : n ≤ length ms
+  pub quiet : (cut : List Mark) → IsPrefix cut ms → length cut ≡ n → n ≢ 0 → delivered (shown_at d k cut) s ≡ []
+
+abbrev pub AreSentTo : Key → (ℕ → List Mark) → Session → List ℕ → Type 0
+AreSentTo d marks s lengths = (k : ℕ) → k < 16 → IsSentTo d k (marks k) s (slice_index_or lengths k 0)
+
+abbrev pub AreSentAll : (ℕ → List Mark) → ℕ → List ℕ → Type 0
+AreSentAll marks i lengths = (k : ℕ) → k < i → slice_index_or lengths k 0 ≡ length (marks k)

@@ -1,0 +1,31 @@
+-- What sessions are given of a shard is what they are given of the copies that its marks give.
+--     attached_at      in the answer to an `open`
+--     delivered_at     in deliveries
+--     after_at         and the session then
+--     sent_at          whether it was sent all
+use Rattle.std.proofs.Common.{◌≡◌, ℕ, List, Option, ap, ◌∙◌}
+use Rattle.doc_items.specs.Maps.{Key}
+use Rattle.wave_base.specs.Versions.{VersionAt}
+use Rattle.session_core.specs.declared.session.Session.{Session}
+use Rattle.session_core.specs.Access.{Shown}
+use Rattle.session_core.specs.Answers.{attached}
+use Rattle.session_core.specs.Current.{are_sent}
+use Rattle.session_core.specs.Deliveries.{delivered, after_delivery}
+use Rattle.wavelet_shelf.specs.Hosting.{Hosted}
+use Rattle.hosted_copies.specs.Shown.{shown_in, IsSameShown}
+use Rattle.hosted_copies.proofs.Alike.{attached_alike, delivered_alike, after_alike, told_alike}
+use Rattle.shard_marks.specs.declared.mark.Mark.{Mark}
+use Rattle.shard_marks.specs.Marks.{replayed, shown_at}
+
+module _ (c : Shown) (d : Key) (k : ℕ) (ms : List Mark) (hs : List Hosted) (same : IsSameShown c (shown_in hs)) (is : hs ≡ replayed d k ms) where
+  pub attached_at : (s : Session) (name : Key) (from : Option VersionAt) → attached c s name from ≡ attached (shown_at d k ms) s name from
+  attached_at s name from = attached_alike c (shown_in hs) same s name from ∙ ap (λ gs. attached (shown_in gs) s name from) is
+
+  pub delivered_at : (s : Session) → delivered c s ≡ delivered (shown_at d k ms) s
+  delivered_at s = delivered_alike c (shown_in hs) same s ∙ ap (λ gs. delivered (shown_in gs) s) is
+
+  pub after_at : (s : Session) → after_delivery c s ≡ after_delivery (shown_at d k ms) s
+  after_at s = after_alike c (shown_in hs) same s ∙ ap (λ gs. after_delivery (shown_in gs) s) is
+
+  pub sent_at : (s : Session) → are_sent c s ≡ are_sent (shown_at d k ms) s
+  sent_at s = told_alike c (shown_in hs) same s ∙ ap (λ gs. are_sent (shown_in gs) s) is

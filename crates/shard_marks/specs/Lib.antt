@@ -1,0 +1,5 @@
+pub mod Marks
+pub mod Looks
+pub mod Frames
+pub mod Answers
+pub mod Passes
