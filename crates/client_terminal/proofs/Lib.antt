@@ -1,0 +1,5 @@
+mod Short
+mod Stepping
+mod Reading
+mod Feeding
+mod Ending

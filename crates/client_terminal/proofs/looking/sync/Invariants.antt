@@ -1,0 +1,20 @@
+use Rattle.std.proofs.Common.{◌≡◌, ◌≤◌, ◌+◌, ◌-◌, ℕ, List, false}
+use Rattle.client_session.specs.Machine.{machine_of}
+use Rattle.client_terminal.specs.Going.{Origin, IsOn}
+use Rattle.client_terminal.specs.Runs.{synced, max_looks}
+use Rattle.client_terminal.proofs.looking.sync.Given as goal
+
+pub record IsKept (g : goal.Over) (l : goal.Live-loop-alloc g) : Type 0 where
+  pub goes : (o : Origin) (ls : List (List ℕ)) → IsOn g.L.Link.tells o (synced 0 0) (machine_of l.fn.client) ls (g.L.Link.events l.fn.link) (g.W.Sink.written l.fn.sink)
+      → IsOn g.L.Link.tells o (synced l.idle l.taken) (machine_of l.client) ls (g.L.Link.events l.link) (g.W.Sink.written l.sink)
+  pub unclosed : g.L.Link.closed l.link ≡ false
+  pub idle_small : l.idle ≤ max_looks
+  pub taken_small : l.taken ≤ max_looks
+  pub link_later : g.L.Link.faults l.fn.link ≤ g.L.Link.faults l.link
+  pub sink_later : g.W.Sink.faults l.fn.sink ≤ g.W.Sink.faults l.sink
+
+abbrev pub invariant-loop-alloc : goal.invariant-loop-alloc
+invariant-loop-alloc g l = IsKept g l
+
+abbrev pub decreases-loop-alloc : goal.decreases-loop-alloc
+decreases-loop-alloc g l = (max_looks - l.idle) + (max_looks - l.taken)

@@ -1,0 +1,6 @@
+pub mod Runs
+pub mod Inputs
+pub mod Going
+pub mod Moods
+pub mod Pumping
+pub mod Whole

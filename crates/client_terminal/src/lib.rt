@@ -1,0 +1,12 @@
+//! The terminal client: it takes commands, one a line, sends what they ask for over a link, and prints what it is told.
+#![tactic(auto)]
+
+mod acting;
+mod lines;
+mod looking;
+mod mood;
+mod run;
+mod sending;
+mod stop;
+
+pub use run::edit_run;

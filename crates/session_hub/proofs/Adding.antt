@@ -1,0 +1,34 @@
+-- The marks by which a history grows.
+--     grown_at        the delta of a submission stands where the history ended before; where none was accepted, nothing stands there
+--     grown_marks     a mark for it
+--     fault_marks     a mark of a fault
+use Rattle.std.proofs.Common.{◌≡◌, ℕ, List, [], ◌∷◌, ◌++◌, length, map, slice_get, Option, Some, None, option_map, ap, ◌∙◌, arith}
+use Rattle.std.proofs.lemmas.List.{map-append}
+use Rattle.std.proofs.lemmas.Option.{slice_get_past}
+use Rattle.doc_items.specs.Maps.{Key}
+use Rattle.wave_base.specs.Versions.{IdOf}
+use Rattle.wavelet_op.specs.Deltas.{DeltaOf}
+use Rattle.wavelet_op.specs.declared.delta.Submission.{Submission}
+use Rattle.delta_history.specs.Copying.{AreAscending}
+use Rattle.turn_cells.proofs.Places.{get_last}
+use Rattle.wavelet_shelf.specs.Hosting.{Hosted, names_of, deltas_in, with_added, judged_in, after_submission}
+use Rattle.wavelet_shelf.proofs.Growing.{grows_alone}
+use Rattle.shard_marks.specs.declared.mark.Mark.TheVariants as mark
+use Rattle.shard_marks.specs.Marks.{founded}
+use Rattle.shard_marks.proofs.Replaying.{noted}
+use Rattle.session_hub.specs.declared.record.Record.{Record}
+use Rattle.session_hub.specs.Records.{mark_of, marks_in}
+
+pub grown_at : (hs gs : List Hosted) (n : Key) (s : Submission) (t : ℕ) → AreAscending (names_of hs) → gs ≡ after_submission hs n s t → slice_get (deltas_in gs n) (length (deltas_in hs n)) ≡ (judged_in hs n s t).1
+grown_at hs gs n s t ascend after = ap (λ l. slice_get (deltas_in l n) (length (deltas_in hs n))) after ∙ go (judged_in hs n s t).1
+  where
+    go : (o : Option DeltaOf) → slice_get (deltas_in (with_added hs n o) n) (length (deltas_in hs n)) ≡ o
+    go None = slice_get_past (deltas_in hs n) (length (deltas_in hs n)) (omega arith)
+    go (Some d) = ap (λ ds. slice_get ds (length (deltas_in hs n))) (grows_alone.there hs n d ascend) ∙ get_last (deltas_in hs n) d
+
+module _ (d : Key) (k : ℕ) (rs os : List Record) (n : Key) where
+  pub grown_marks : (o p : Option DeltaOf) → o ≡ p → map mark_of os ≡ map mark_of rs ++ noted n o → marks_in d k os ≡ marks_in d k rs ++ noted n p
+  grown_marks o p same e = ap (founded d k) (e ∙ ap (λ q. map mark_of rs ++ noted n q) same)
+
+  pub fault_marks : (i : IdOf) (r : Record) → mark_of r ≡ mark.Fault n i → os ≡ rs ++ r ∷ [] → marks_in d k os ≡ marks_in d k rs ++ mark.Fault n i ∷ []
+  fault_marks i r same e = ap (founded d k) (ap (map mark_of) e ∙ map-append mark_of rs (r ∷ []) ∙ ap (λ m. map mark_of rs ++ m ∷ []) same)

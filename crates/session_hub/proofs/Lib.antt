@@ -1,0 +1,4 @@
+pub mod Loading
+pub mod Turning
+pub mod Leaving
+pub mod Adding

@@ -1,0 +1,19 @@
+use Rattle.std.proofs.Common.{rules, ◌≡◌, option_copied, ap, ◌∙◌}
+use Rattle.session_core.specs.Answers.{attached}
+use Rattle.session_core.specs.News.{reply_message}
+use Rattle.shard_marks.specs.Marks.{shown_at}
+use Rattle.session_hub.specs.Entries.{entries_of}
+use Rattle.turn_lock.specs.Passes.{seen}
+use Rattle.session_hub.proofs.Turning.{later_of, attached_moment}
+use Rattle.session_hub.proofs.turns.attach.Goals as goal
+
+pub returns-in_err-reply-clause-later : goal.returns-in_err-reply-clause-later
+returns-in_err-reply-clause-later g c = later_of _ _ _ c.in_ok-guard.ensures.value (search rules)
+
+pub returns-clause-later : goal.returns-clause-later
+returns-clause-later g c = later_of _ _ _ c.in_ok-guard.ensures.value (search rules)
+
+pub returns-clause-reply : goal.returns-clause-reply
+returns-clause-reply g c = λ d k own.
+    let moment = attached_moment (seen c.args.pass.now) (seen c.pass-2-1.given.0) c.in_ok-guard.guard.value c.value-shard.result.now d k own c.in_ok-guard.ensures.value c.value-shard.ensures.value (search rules) (c.attach-reply.new.session, reply_message c.in_ok-reply.field-0) c.args.session.now c.args.name.now (option_copied c.args.from) c.in_ok-reply.ensures.reply in
+    search (rules, moment)

@@ -1,0 +1,29 @@
+use Rattle.std.proofs.Common.{rules, ◌≡◌, [], map, ap, ◌∙◌}
+use Rattle.session_core.specs.Deliveries.{delivered, after_delivery}
+use Rattle.shard_marks.specs.Frames.{frames_of}
+use Rattle.shard_marks.specs.Marks.{shown_at}
+use Rattle.session_hub.specs.Entries.{entries_of}
+use Rattle.turn_lock.specs.Passes.{seen}
+use Rattle.session_hub.proofs.Turning.{later_of, frames_moment, after_moment, told_moment}
+use Rattle.session_hub.proofs.turns.deliver.Goals as goal
+
+pub returns-in_err-frames-clause-later : goal.returns-in_err-frames-clause-later
+returns-in_err-frames-clause-later g c = later_of _ _ _ c.in_ok-guard.ensures.value (search rules)
+
+pub returns-clause-later : goal.returns-clause-later
+returns-clause-later g c = later_of _ _ _ c.in_ok-guard.ensures.value (search rules)
+
+pub returns-clause-frames : goal.returns-clause-frames
+returns-clause-frames g c = λ d k own.
+    let moment = frames_moment (seen c.args.pass.now) (seen c.pass-2-1.given.0) c.in_ok-guard.guard.value c.value-shard.result.now d k own c.in_ok-guard.ensures.value c.value-shard.ensures.value (search rules) (map (λ v. v.items) c.in_ok-frames.field-0.items) c.args.session.now c.in_ok-frames.ensures.frames in
+    search (rules, moment)
+
+pub returns-clause-after : goal.returns-clause-after
+returns-clause-after g c = λ d k own.
+    let moment = after_moment (seen c.args.pass.now) (seen c.pass-2-1.given.0) c.in_ok-guard.guard.value c.value-shard.result.now d k own c.in_ok-guard.ensures.value c.value-shard.ensures.value (search rules) c.deliver-frames.new.session c.args.session.now c.in_ok-frames.ensures.after in
+    search (rules, moment)
+
+pub returns-clause-told : goal.returns-clause-told
+returns-clause-told g c = λ d k own.
+    let moment = told_moment (seen c.args.pass.now) (seen c.pass-2-1.given.0) c.in_ok-guard.guard.value c.value-shard.result.now d k own c.in_ok-guard.ensures.value c.value-shard.ensures.value (search rules) c.deliver-frames.new.session c.in_ok-frames.ensures.told in
+    search (rules, moment)

@@ -1,0 +1,4 @@
+pub mod Entries
+pub mod Hubs
+pub mod Records
+pub mod Turns

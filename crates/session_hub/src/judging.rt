@@ -1,0 +1,142 @@
+// What a shard answers to a submission.
+ghost use Rattle.std.specs.Prelude.{◌≡◌, ◌⊎◌, ◌<◌, ◌∷◌, ◌++◌, [], true, length, map, slice_get, IfOk, OnErr, vec_len, vec_capacity};
+ghost use Rattle.std.specs.Option.{option_map};
+ghost use Rattle.turn_lock.specs.Passes.{IsOneMore};
+ghost use Rattle.wavelet_shelf.specs.FileNames.{shard_of};
+ghost use Rattle.wavelet_shelf.specs.Hosting.{deltas_in};
+ghost use Rattle.wavelet_shelf.specs.Shelves.{hosted_of};
+ghost use Rattle.hosted_copies.specs.Domains.{is_hosted_by, one_of};
+ghost use Rattle.session_hub.specs.Entries.{entries_of};
+ghost use Rattle.session_hub.specs.Records.{mark_of};
+ghost use Rattle.shard_marks.specs.Answers.{IsJudged};
+
+use crate::record::Record;
+use crate::shard::Shard;
+use delta_history::Copies;
+use doc_items::Memory;
+use hosted_copies::is_hosted_by;
+use session_core::SubmitAnswer;
+use shard_marks::Mark;
+use std::alloc::{AllocError, Global};
+use std::snapshot::Snapshot;
+use turn_lock::Logged;
+use wave_base::WaveletName;
+use wave_outside::Folder;
+use wavelet_container::SubmitFault;
+use wavelet_op::{AppliedDelta, Submission};
+use wavelet_shelf::Shelf;
+
+// The number of deltas of a wavelet.
+fn delta_count<F: Folder>(shelf: &Shelf<F>, name: &WaveletName) -> usize
+    ensures { result ≡ length (deltas_in (hosted_of shelf.now) name.now) }
+{
+    shelf.copies_are_hosted();
+    match shelf.copy_of(name) {
+        Some(history) => history.deltas().len(),
+        None => 0,
+    }
+}
+
+// The delta at a place of a wavelet's history, as proofs see it.
+fn delta_at<F: Folder>(
+    shelf: &Shelf<F>,
+    name: &WaveletName,
+    place: usize,
+) -> Option<Snapshot<AppliedDelta>>
+    ensures { option_map (λ s. s.value) result ≡ slice_get (deltas_in (hosted_of shelf.now) name.now) place }
+{
+    shelf.copies_are_hosted();
+    let history = shelf.copy_of(name)?;
+    let delta = history.deltas().get(place)?;
+    Some(Snapshot::of(delta))
+}
+
+// Keeps a record, for which there is room.
+fn keep(records: &mut Vec<Record>, newest: Record)
+    requires { vec_len records.old < vec_capacity records.old }
+    ensures { records.new.items ≡ records.old.items ++ newest ∷ [] }
+{
+    let _done = records.push(newest);
+}
+
+// Keeps a record of the delta at a place of a wavelet's history, where there is one.
+fn keep_growth<F: Folder>(
+    shelf: &Shelf<F>,
+    name: &WaveletName,
+    place: usize,
+    records: &mut Vec<Record>,
+)
+    requires { vec_len records.old < vec_capacity records.old }
+    ensures { map mark_of records.new.items ≡ map mark_of records.old.items ++ one_of (option_map (λ d. Mark.Applied name.now d) (slice_get (deltas_in (hosted_of shelf.now) name.now) place)) }
+{
+    match delta_at(shelf, name, place) {
+        Some(delta) => {
+            let name = Snapshot::of(name);
+            keep(records, Record::Applied { name, delta });
+        }
+        None => {}
+    }
+}
+
+impl<F: Folder + Drop> Shard<F> {
+    /// The answer to a submission to a wavelet of this shard at the time, in milliseconds, and the length of the history then. The room for a
+    /// mark is taken first. After want of memory no mark was added.
+    pub(crate) fn submit(
+        &mut self,
+        alloc: Global,
+        name: &WaveletName,
+        submission: &Submission,
+        time: u64,
+    ) -> Result<(u64, SubmitAnswer), Memory>
+        requires own { shard_of name.now ≡ self.old.number }
+        ensures length { IfOk result (λ r. r.0 ≡ length (entries_of self.new)) }
+        ensures judged { IfOk result (λ r. IsJudged self.old.domain self.old.number (entries_of self.old) (entries_of self.new) name.now submission.now time r.1) }
+        ensures same { OnErr result (entries_of self.new ≡ entries_of self.old) }
+        ensures one { (entries_of self.new ≡ entries_of self.old) ⊎ IsOneMore (entries_of self.old) (entries_of self.new) }
+    {
+        let answer = if is_hosted_by(&self.domain, name) {
+            self.judge(alloc, name, submission, time)?
+        } else {
+            SubmitAnswer::NoHost
+        };
+        Ok((self.length(), answer))
+    }
+
+    // So it is, where the domain hosts the wavelet.
+    fn judge(
+        &mut self,
+        alloc: Global,
+        name: &WaveletName,
+        submission: &Submission,
+        time: u64,
+    ) -> Result<SubmitAnswer, Memory>
+        requires own { shard_of name.now ≡ self.old.number }
+        requires hosted { is_hosted_by self.old.domain name.now ≡ true }
+        ensures domain { self.new.domain ≡ self.old.domain }
+        ensures number { self.new.number ≡ self.old.number }
+        ensures judged { IfOk result (IsJudged self.old.domain self.old.number (entries_of self.old) (entries_of self.new) name.now submission.now time) }
+        ensures same { OnErr result (entries_of self.new ≡ entries_of self.old) }
+        ensures one { (entries_of self.new ≡ entries_of self.old) ⊎ IsOneMore (entries_of self.old) (entries_of self.new) }
+    {
+        self.records.reserve(1)?;
+        self.shelf.copies_are_hosted();
+        let count = delta_count(&self.shelf, name);
+        match self.shelf.submit(alloc, name, submission, time) {
+            Ok(verdict) => {
+                keep_growth(&self.shelf, name, count, &mut self.records);
+                Ok(SubmitAnswer::Verdict(verdict))
+            }
+            Err(SubmitFault::DiskFault) => {
+                keep(
+                    &mut self.records,
+                    Record::Fault {
+                        name: Snapshot::of(name),
+                        id: Snapshot::of(&submission.id),
+                    },
+                );
+                Ok(SubmitAnswer::Store)
+            }
+            Err(SubmitFault::Memory) => Err(AllocError),
+        }
+    }
+}

@@ -1,0 +1,30 @@
+//! The wavelets that a server hosts, shared by the sessions of many threads: sixteen shards, each of which one at a time has its turn.
+//!
+//! A shard's history is a list of marks, of which each session has seen a beginning. What is answered and sent under a turn is that of the
+//! moment of the last mark then (`Look`).
+#![tactic(auto)]
+
+mod attach;
+mod close;
+mod deliver;
+mod fault;
+mod founding;
+mod frames;
+mod hub;
+mod judging;
+mod logged;
+mod made;
+mod record;
+mod shard;
+mod sharing;
+mod showing;
+mod submit;
+mod turns;
+
+pub use attach::Attached;
+pub use deliver::Delivered;
+pub use fault::HubFault;
+pub use frames::frame;
+pub use hub::{Hub, Passes};
+pub use shard::Shard;
+pub use submit::Placed;

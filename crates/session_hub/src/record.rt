@@ -1,0 +1,30 @@
+use std::snapshot::Snapshot;
+use wave_base::{DeltaId, WaveletName};
+use wavelet_op::AppliedDelta;
+
+// What a shard keeps of a mark but the first: which kind it is of.
+pub(crate) enum Record {
+    Applied {
+        name: Snapshot<WaveletName>,
+        delta: Snapshot<AppliedDelta>,
+    },
+    Fault {
+        name: Snapshot<WaveletName>,
+        id: Snapshot<DeltaId>,
+    },
+}
+
+impl Drop for Record {
+    fn drop(self) {
+        match self {
+            Record::Applied {
+                name: _name,
+                delta: _delta,
+            } => {}
+            Record::Fault {
+                name: _name,
+                id: _id,
+            } => {}
+        }
+    }
+}

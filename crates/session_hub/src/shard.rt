@@ -1,0 +1,38 @@
+// The wavelets of one shard.
+ghost use Rattle.std.specs.Prelude.{◌≡◌, ◌≤◌, true, min};
+ghost use Rattle.std.specs.List.{list_all};
+ghost use Rattle.std.specs.Coded.{Coded-set, coded_list};
+ghost use Rattle.wavelet_op.specs.contracts.delta.AppliedDelta as delta_row;
+ghost use Rattle.wavelet_shelf.specs.Shelves.{hosted_of, fault_count as faults_of};
+ghost use Rattle.hosted_copies.specs.Domains.{hosted_by};
+ghost use Rattle.shard_marks.specs.Marks.{is_own_mark, replayed, fault_count};
+ghost use Rattle.shard_marks.specs.Marks.{most_faults};
+ghost use Rattle.session_hub.specs.Records.{marks_in, hosted_code};
+
+use crate::record::Record;
+use wave_base::Domain;
+use wave_outside::Folder;
+use wavelet_shelf::Shelf;
+
+/// The wavelets of one shard, with the marks by which their histories came about. What the domain hosts there is what the marks give,
+/// which are of wavelets of the shard, and no more of them tell of a fault than the store has counted.
+pub struct Shard<F: Folder> {
+    pub(crate) domain: Domain,
+    pub(crate) number: u64,
+    pub(crate) shelf: Shelf<F>,
+    pub(crate) records: Vec<Record>,
+    ghost replay: { hosted_by domain (hosted_of shelf) ≡ replayed domain number (marks_in domain number records.items) } by { Coded-set (coded_list (hosted_code delta_row.the_row.coded)) (hosted_by domain (hosted_of shelf)) (replayed domain number (marks_in domain number records.items)) },
+    ghost own: { list_all (is_own_mark domain number) (marks_in domain number records.items) ≡ true },
+    ghost counted: { min (fault_count (marks_in domain number records.items)) most_faults ≤ faults_of shelf },
+}
+
+impl<F: Folder + Drop> Drop for Shard<F> {
+    fn drop(self) {
+        let Shard {
+            domain: _domain,
+            number: _number,
+            shelf: _shelf,
+            records: _records,
+        } = self;
+    }
+}

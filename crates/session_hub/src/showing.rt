@@ -1,0 +1,62 @@
+// What a shard's wavelets give a session.
+ghost use Rattle.std.specs.Prelude.{◌≡◌, [], map, true, false, length, IfOk, OnOk, OnErr, option_copied};
+ghost use Rattle.message_json.specs.Write.{IsShort};
+ghost use Rattle.session_core.specs.Answers.{attached};
+ghost use Rattle.session_core.specs.Deliveries.{delivered, after_delivery};
+ghost use Rattle.session_core.specs.News.{reply_message};
+ghost use Rattle.session_core.specs.Rules.{has_user, has_peer};
+ghost use Rattle.session_hub.specs.Entries.{copies_at};
+ghost use Rattle.shard_marks.specs.Frames.{frames_of};
+
+use crate::frames::frames;
+use crate::shard::Shard;
+use doc_items::Memory;
+use hosted_copies::HostedCopies;
+use session_core::{Reply, Session};
+use std::alloc::Global;
+use wave_base::{HashedVersion, WaveletName};
+use wave_outside::Folder;
+
+impl<F: Folder + Drop> Shard<F> {
+    /// The reply to an `open`. After want of memory the session is as it was.
+    pub(crate) fn attach(
+        &self,
+        alloc: Global,
+        session: &mut Session,
+        name: &WaveletName,
+        from: Option<&HashedVersion>,
+    ) -> Result<Reply, Memory>
+        requires { has_user session.old ≡ true }
+        ensures reply { IfOk result (λ r. (session.new, reply_message r) ≡ attached (copies_at self.now) session.old name.now (option_copied from.entry)) }
+        ensures short { IfOk result (λ r. IsShort (reply_message r)) }
+        ensures same { OnErr result (session.new ≡ session.old) }
+    {
+        let copies = HostedCopies {
+            domain: &self.domain,
+            shelf: &self.shelf,
+        };
+        copies.are_hosted();
+        session.answer_attach(alloc, &copies, name, from)
+    }
+
+    /// What is new to a session, as texts. The error is want of memory.
+    pub(crate) fn deliver(
+        &self,
+        alloc: Global,
+        session: &mut Session,
+    ) -> Result<Vec<Vec<u8>>, Memory>
+        requires { has_peer session.old ≡ false }
+        ensures frames { IfOk result (λ v. map (λ f. f.items) v.items ≡ frames_of (delivered (copies_at self.now) session.old)) }
+        ensures after { OnOk result (session.new ≡ after_delivery (copies_at self.now) session.old) }
+        ensures told { OnOk result (delivered (copies_at self.now) session.new ≡ []) }
+        ensures client { has_peer session.new ≡ false }
+    {
+        let copies = HostedCopies {
+            domain: &self.domain,
+            shelf: &self.shelf,
+        };
+        copies.are_hosted();
+        let news = session.deliver(alloc, &copies)?;
+        frames(alloc, news.as_slice())
+    }
+}
