@@ -1,4 +1,5 @@
-//! The terminal client: it takes commands, one a line, sends what they ask for over a link, and prints what it is told.
+//! The terminal client: it takes commands, one a line, sends what they ask for over a link, and prints what they show and what the
+//! server says.
 #![tactic(auto)]
 
 mod acting;

@@ -82,7 +82,8 @@ impl<L: Link, F: Folder + Drop, C: Clock + Drop, G: Gate + Drop> LinkJob<L, F, C
     ) -> LinkJob<L, F, C, G>
         requires own { AreOfHub (arc_value hub) passes }
         requires unused { length (L.events link) ≡ 0 }
-        ensures { (result.hub ≡ hub) × (result.passes ≡ passes) × (result.link ≡ link) }
+        ensures shared { (result.hub ≡ hub) × (result.passes ≡ passes) }
+        ensures own { (result.link ≡ link) × (result.clock ≡ clock) × (result.gate ≡ gate) × (result.number ≡ number) }
     {
         LinkJob {
             hub,

@@ -1,0 +1,15 @@
+-- The status of each stop.
+--     IsStatus s n         this is the status
+--     IsServerStatus n     any that a server may end with
+use Rattle.std.specs.Prelude.{◌≡◌, ◌⊎◌, ℕ}
+use Rattle.wave_server.specs.declared.stop.Stop.{Stop}
+use Rattle.wave_server.specs.declared.stop.Stop.TheVariants.{Door, Memory, Refused, Spent}
+
+abbrev pub IsStatus : Stop → ℕ → Type 0
+IsStatus Door n = n ≡ 7
+IsStatus Memory n = n ≡ 8
+IsStatus Refused n = n ≡ 9
+IsStatus Spent n = n ≡ 12
+
+abbrev pub IsServerStatus : ℕ → Type 0
+IsServerStatus n = (n ≡ 0) ⊎ ((n ≡ 7) ⊎ ((n ≡ 8) ⊎ ((n ≡ 9) ⊎ (n ≡ 12))))

@@ -1,0 +1,95 @@
+// What is done when a link was accepted.
+ghost use Rattle.std.specs.Prelude.{◌≡◌, ◌≤◌, ◌+◌, ◌⊎◌, true, length, vec_len, vec_capacity, OnOk, IfErr, MatchResult};
+ghost use Rattle.std.specs.Arc.{arc_value};
+ghost use denote.Param.Send.{IsSend};
+ghost use Rattle.wave_outside.specs.Counts.{Rose};
+ghost use Rattle.turn_cells.specs.Cells.{Begins};
+ghost use Rattle.session_hub.specs.Hubs.{AreOfHub};
+ghost use Rattle.wave_server.specs.Running.{AreOurs};
+ghost use Rattle.wave_server.specs.declared.stop.Stop.TheVariants.{Refused, Memory};
+
+use crate::server::{Ended, Server};
+use crate::stop::Stop;
+use session_hub::{Hub, Passes};
+use session_link::LinkJob;
+use std::alloc::{AllocError, Global};
+use std::sync::{Arc, Wait};
+use wave_outside::{Clock, Folder, Gate, Net, Spawner};
+
+// Takes the room for one more job, and for the report of its end where ends are kept.
+fn reserve<J>(ended: &mut Vec<Ended>, jobs: &mut Vec<J>, keeps: bool) -> Result<(), AllocError>
+    ensures jobs { (jobs.new.items ≡ jobs.old.items) × (vec_len jobs.new ≡ vec_len jobs.old) }
+    ensures room { OnOk result (vec_len jobs.new + 1 ≤ vec_capacity jobs.new) }
+    ensures ended { (ended.new.items ≡ ended.old.items) × (vec_len ended.new ≡ vec_len ended.old) × (vec_capacity ended.old ≤ vec_capacity ended.new) }
+    ensures report { OnOk result (keeps ≡ true → vec_len ended.new + (vec_len jobs.new + 1) ≤ vec_capacity ended.new) }
+{
+    if keeps {
+        let Some(more) = jobs.len().checked_add(1) else {
+            return Err(AllocError);
+        };
+        ended.reserve(more)?;
+    }
+    jobs.reserve(1)
+}
+
+/// Starts a job for a link.
+pub(crate) fn start_job<
+    R: Wait,
+    N: Net,
+    F: Folder + Drop,
+    C: Clock + Drop,
+    P: Spawner<LinkJob<N::Link, F, C, G>, R>,
+    G: Gate + Drop,
+>(
+    rt: &R,
+    alloc: Global,
+    server: &mut Server<N, F, P, G>,
+    clock: &C,
+    hub: &Arc<Hub<F>, Global>,
+    passes: &mut Passes<F>,
+    jobs: &mut Vec<P::Running>,
+    link: N::Link,
+    number: u64,
+    keeps: bool,
+) -> Result<(), Stop>
+    requires sends { IsSend R.row }
+    requires own { AreOfHub (arc_value hub.now) passes.old }
+    requires unused { length (N.Link.events link) ≡ 0 }
+    requires ours { AreOurs (λ r. arc_value (P.job_of r).hub) (arc_value hub.now) jobs.old.items }
+    requires room { keeps ≡ true → vec_len server.old.ended + vec_len jobs.old ≤ vec_capacity server.old.ended }
+    ensures own { AreOfHub (arc_value hub.now) passes.new }
+    ensures later { Begins passes.old passes.new }
+    ensures ours { AreOurs (λ r. arc_value (P.job_of r).hub) (arc_value hub.now) jobs.new.items }
+    ensures started { MatchResult result (λ _. vec_len jobs.new ≡ vec_len jobs.old + 1) (λ _. vec_len jobs.new ≡ vec_len jobs.old) }
+    ensures room { keeps ≡ true → vec_len server.new.ended + vec_len jobs.new ≤ vec_capacity server.new.ended }
+    ensures ended { server.new.ended.items ≡ server.old.ended.items }
+    ensures refused { IfErr result (λ s. s ≡ Refused → Rose (P.refused server.old.spawner) (P.refused server.new.spawner)) }
+    ensures cause { IfErr result (λ s. (s ≡ Refused) ⊎ (s ≡ Memory)) }
+    ensures later_refused { P.refused server.old.spawner ≤ P.refused server.new.spawner }
+    ensures same { (server.new.net ≡ server.old.net) × (server.new.spent ≡ server.old.spent) }
+{
+    if reserve(&mut server.ended, jobs, keeps).is_err() {
+        return Err(Stop::Memory);
+    }
+    let Ok(theirs) = Arc::try_clone(hub) else {
+        return Err(Stop::Memory);
+    };
+    let Ok(part) = hub.split(alloc, passes) else {
+        return Err(Stop::Memory);
+    };
+    let job = LinkJob::new(
+        theirs,
+        part,
+        link,
+        clock.another(),
+        server.gate.another(),
+        number,
+    );
+    match server.spawner.start(rt, alloc, job) {
+        Ok(running) => {
+            jobs.push_reserved(running);
+            Ok(())
+        }
+        Err(_) => Err(Stop::Refused),
+    }
+}

@@ -1,0 +1,142 @@
+// The server's call.
+ghost use Rattle.std.specs.Prelude.{◌≡◌, ◌≢◌, ◌<◌, ◌+◌, ◌-◌, ◌^◌, ℕ, min, vec_len, OnOk, IfErr, IfSome, true, false, Some, is_some};
+ghost use Rattle.std.specs.Arc.{arc_value};
+ghost use denote.Param.Send.{IsSend};
+ghost use mathlib.Core.List.{IsPrefix};
+ghost use Rattle.wave_outside.specs.Counts.{Rose};
+ghost use Rattle.wavelet_shelf.specs.Shelves.{hosted_of};
+ghost use Rattle.shard_marks.specs.Passes.{marks_of};
+ghost use Rattle.session_hub.specs.Hubs.{AreOfHub};
+ghost use Rattle.wave_server.specs.Running.{BeginWith, HasServed};
+ghost use Rattle.wave_server.specs.Statuses.{IsStatus, IsServerStatus};
+
+use crate::server::Server;
+use crate::serving::serve_all;
+use crate::stop::Stop;
+use session_hub::{Hub, Passes};
+use session_link::LinkJob;
+use std::alloc::Global;
+use std::sync::{Arc, Wait};
+use wave_base::Domain;
+use wave_outside::{Clock, Folder, Gate, Net, NetFault, Spawner};
+use wavelet_shelf::Shelf;
+
+/// The exit status where so many sessions have ended as the words say.
+const DONE: u8 = 0;
+
+/// The exit status where the door failed.
+const DOOR: u8 = 7;
+
+/// The exit status for want of memory.
+const MEMORY: u8 = 8;
+
+/// The exit status where a session could not be started.
+const REFUSED: u8 = 9;
+
+/// The exit status where a shard has no turn left.
+const SPENT: u8 = 12;
+
+fn status_of(end: Result<(), Stop>) -> u8
+    ensures ok { OnOk end (result ≡ 0) }
+    ensures err { IfErr end (λ s. IsStatus s result) }
+{
+    match end {
+        Ok(()) => DONE,
+        Err(Stop::Door) => DOOR,
+        Err(Stop::Memory) => MEMORY,
+        Err(Stop::Refused) => REFUSED,
+        Err(Stop::Spent) => SPENT,
+    }
+}
+
+/// Serves the wavelets of a shelf that the domain hosts, at an address, and gives the exit status: 0 once so many sessions have ended,
+/// and where no number is given it doesn't end; 7 where the door failed, 8 out of memory, 9 where a session could not be started, 12
+/// where a shard has no turn left. Each link that is accepted gets a session of its own. What the sessions saw of the shards is left in
+/// `passes`, and begins with a mark for each delta of the shelf's histories.
+pub fn serve<
+    R: Wait,
+    N: Net,
+    F: Folder + Drop,
+    C: Clock + Drop,
+    P: Spawner<LinkJob<N::Link, F, C, G>, R>,
+    G: Gate + Drop,
+>(
+    rt: &R,
+    alloc: Global,
+    domain: Domain,
+    address: &str,
+    sessions: Option<u64>,
+    shelf: Shelf<F>,
+    clock: &C,
+    server: &mut Server<N, F, P, G>,
+) -> u8
+    requires sends { IsSend R.row }
+    requires empty { (vec_len server.old.ended ≡ 0) × (is_some server.old.spent ≡ false) × (is_some server.old.passes ≡ false) }
+    ensures done { result ≡ 0 → (n : ℕ) × (sessions ≡ Some n) × (vec_len server.new.ended ≡ n) × (is_some server.new.passes ≡ true)
+        × (N.accepted server.old.net < 2 ^ 64 → N.accepted server.new.net ≡ min (N.accepted server.old.net + n) (2 ^ 64 - 1)) }
+    ensures door { result ≡ 7 → Rose (N.door server.old.net) (N.door server.new.net) }
+    ensures refused { result ≡ 9 → Rose (P.refused server.old.spawner) (P.refused server.new.spawner) }
+    ensures spent { (result ≡ 12 → is_some server.new.spent ≡ true) × (is_some server.new.spent ≡ true → result ≡ 12) }
+    ensures known { IsServerStatus result }
+    ensures served { IfSome server.new.passes (λ p. HasServed N.Link.tells N.Link.events N.Link.faults N.Link.closed domain (marks_of p) (is_some sessions) (is_some server.new.spent) (N.back server.old.net) (N.back server.new.net) server.new.ended.items) }
+    ensures begun { IfSome server.new.passes (λ p. BeginWith domain (hosted_of shelf) (marks_of p)) }
+{
+    let Ok((hub, passes)) = Hub::new(alloc, domain, shelf) else {
+        return MEMORY;
+    };
+    let Ok(hub) = Arc::new(alloc, hub) else {
+        return MEMORY;
+    };
+    match server.net.listen(alloc, address) {
+        Ok(()) => serve_from::<R, N, F, C, P, G>(rt, alloc, server, clock, &hub, passes, sessions),
+        Err(NetFault::Failed) => DOOR,
+        Err(NetFault::Memory) => MEMORY,
+    }
+}
+
+// What is done once the door is open.
+fn serve_from<
+    R: Wait,
+    N: Net,
+    F: Folder + Drop,
+    C: Clock + Drop,
+    P: Spawner<LinkJob<N::Link, F, C, G>, R>,
+    G: Gate + Drop,
+>(
+    rt: &R,
+    alloc: Global,
+    server: &mut Server<N, F, P, G>,
+    clock: &C,
+    hub: &Arc<Hub<F>, Global>,
+    mut passes: Passes<F>,
+    sessions: Option<u64>,
+) -> u8
+    requires sends { IsSend R.row }
+    requires own { AreOfHub (arc_value hub.now) passes }
+    requires empty { (vec_len server.old.ended ≡ 0) × (is_some server.old.spent ≡ false) }
+    ensures done { result ≡ 0 → (n : ℕ) × (sessions ≡ Some n) × (vec_len server.new.ended ≡ n) × (is_some server.new.passes ≡ true)
+        × (N.accepted server.old.net < 2 ^ 64 → N.accepted server.new.net ≡ min (N.accepted server.old.net + n) (2 ^ 64 - 1)) }
+    ensures door { result ≡ 7 → Rose (N.door server.old.net) (N.door server.new.net) }
+    ensures refused { result ≡ 9 → Rose (P.refused server.old.spawner) (P.refused server.new.spawner) }
+    ensures spent { (result ≡ 12 → is_some server.new.spent ≡ true) × (is_some server.new.spent ≡ true → result ≡ 12) }
+    ensures known { IsServerStatus result }
+    ensures served { IfSome server.new.passes (λ p. HasServed N.Link.tells N.Link.events N.Link.faults N.Link.closed (arc_value hub.now).domain (marks_of p) (is_some sessions) (is_some server.new.spent) (N.back server.old.net) (N.back server.new.net) server.new.ended.items) }
+    ensures later { IfSome server.new.passes (λ p. (k : ℕ) → k < 16 → IsPrefix (marks_of passes k) (marks_of p k)) }
+{
+    let (most, keeps) = match sessions {
+        Some(most) => (most, true),
+        None => (u64::MAX, false),
+    };
+    let end = serve_all::<R, N, F, C, P, G>(
+        rt,
+        alloc,
+        server,
+        clock,
+        hub,
+        &mut passes,
+        most,
+        keeps,
+    );
+    server.passes = Some(passes);
+    status_of(end)
+}
