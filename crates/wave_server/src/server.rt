@@ -9,6 +9,7 @@ use wave_outside::Folder;
 pub struct Ended {
     /// The number of its link among those that were put back in this run, counted from 0.
     pub place: u64,
+    /// Why it ended.
     pub cause: EndCause,
 }
 

@@ -52,7 +52,7 @@ fn status_of(end: Result<(), Stop>) -> u8
 /// Serves the wavelets of a shelf that the domain hosts, at an address, and gives the exit status: 0 once so many sessions have ended,
 /// and where no number is given it doesn't end; 7 where the door failed, 8 out of memory, 9 where a session could not be started, 12
 /// where a shard has no turn left. Each link that is accepted gets a session of its own. What the sessions saw of the shards is left in
-/// `passes`, and begins with a mark for each delta of the shelf's histories.
+/// `passes`, and begins with a mark for each delta of the shelf's histories; where nothing is there, nobody was served.
 pub fn serve<
     R: Wait,
     N: Net,
@@ -80,6 +80,8 @@ pub fn serve<
     ensures known { IsServerStatus result }
     ensures served { IfSome server.new.passes (λ p. HasServed N.Link.tells N.Link.events N.Link.faults N.Link.closed domain (marks_of p) (is_some sessions) (is_some server.new.spent) (N.back server.old.net) (N.back server.new.net) server.new.ended.items) }
     ensures begun { IfSome server.new.passes (λ p. BeginWith domain (hosted_of shelf) (marks_of p)) }
+    ensures unserved { is_some server.new.passes ≡ false → (N.back server.new.net ≡ N.back server.old.net) × (N.accepted server.new.net ≡ N.accepted server.old.net)
+        × (server.new.ended.items ≡ server.old.ended.items) }
 {
     let Ok((hub, passes)) = Hub::new(alloc, domain, shelf) else {
         return MEMORY;
@@ -122,6 +124,7 @@ fn serve_from<
     ensures known { IsServerStatus result }
     ensures served { IfSome server.new.passes (λ p. HasServed N.Link.tells N.Link.events N.Link.faults N.Link.closed (arc_value hub.now).domain (marks_of p) (is_some sessions) (is_some server.new.spent) (N.back server.old.net) (N.back server.new.net) server.new.ended.items) }
     ensures later { IfSome server.new.passes (λ p. (k : ℕ) → k < 16 → IsPrefix (marks_of passes k) (marks_of p k)) }
+    ensures left { is_some server.new.passes ≡ true }
 {
     let (most, keeps) = match sessions {
         Some(most) => (most, true),
