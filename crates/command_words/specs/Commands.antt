@@ -1,13 +1,24 @@
 -- The words of the program.
 --     option_rule, word_rule      an option with a value, as `--store DIR`;  a word that must be there
---     pipe, load, play, inbox, plain_top, storeless, wave     the commands, and the program, as clap has them
+--     pipe, load, play, inbox     commands, as clap has them
+--     door, serve                 the options that `serve` must have;  with those that it may have
+--     writer, edit                the options that say who types;  with the address
+--     plain_top, storeless, storing, serving, wave     the program: the commands that need no store, with those that need one, with
+--                                 that of a server, with all
 --     is_value v                  a value isn't empty and doesn't begin with `-`
 --     digits limit n cs           the number that goes on with these digits, up to the limit
 --     number limit text           decimal digits without a sign or a leading zero, up to the limit
---     max_load                    the greatest N of `load`
+--     max_load, max_sessions, max_client      the greatest numbers of `load`, of `--sessions` and of `--client`
+--     session_number text         a number of sessions, from 1 on
+--     client_key text             the key of a client
 --     checked good v              a value, where there is one and it is good
+--     given v                     a value, where there is one and it isn't empty and doesn't begin with `-`
+--     perhaps read v              what a value is read as, where there is one; None where it can't be read
+--     folder v                    a value as a folder
+--     both a b                    two values, where there are both
 --     paired make a b             what is made of two values, where there are both
 --     CommandOf                   a command
+--     needs_net c                 it is one over a net
 --     is_cut words                a word stands behind `--`
 --     accepted words              the command by clap and by the values
 --     command_of words            the command that the words name; None where they name none
@@ -19,7 +30,7 @@ use Rattle.clap.specs.Simple.{on_top}
 use Rattle.clap.specs.Walk.{Row, is_empty}
 use Rattle.clap.specs.Faults.{fault_of}
 use Rattle.clap.specs.declared.builder.action.ArgAction.TheVariants.{Set}
-use Rattle.wave_base.specs.Grammar.{is_address, is_wavelet_name}
+use Rattle.wave_base.specs.Grammar.{is_address, is_domain, is_wavelet_name}
 
 -- ---- as clap has them
 
@@ -41,6 +52,18 @@ play = with_rule (with_rule (new_app (codes "play")) (option_rule (codes "store"
 abbrev pub inbox : App
 inbox = with_rule (with_rule (new_app (codes "inbox")) (option_rule (codes "store") true)) (option_rule (codes "user") true)
 
+abbrev pub door : App
+door = with_rule (with_rule (new_app (codes "serve")) (option_rule (codes "domain") true)) (option_rule (codes "listen") true)
+
+abbrev pub serve : App
+serve = with_rule (with_rule door (option_rule (codes "sessions") false)) (option_rule (codes "store") false)
+
+abbrev pub writer : App
+writer = with_rule (with_rule (new_app (codes "edit")) (option_rule (codes "user") true)) (option_rule (codes "client") true)
+
+abbrev pub edit : App
+edit = with_rule writer (option_rule (codes "connect") true)
+
 abbrev pub plain_top : Shape → Shape
 plain_top s = record s { no_binary_name = true; disable_help_flag = true; disable_help_subcommand = true; disable_version_flag = true; subcommand_required = true }
 
@@ -48,8 +71,15 @@ plain_top s = record s { no_binary_name = true; disable_help_flag = true; disabl
 abbrev pub storeless : App
 storeless = with_subcommand (with_subcommand (on_top plain_top (new_app (codes "wave"))) pipe.top) load.top
 
+-- with those that need one
+abbrev pub storing : App
+storing = with_subcommand (with_subcommand storeless play.top) inbox.top
+
+abbrev pub serving : App
+serving = with_subcommand storing serve.top
+
 abbrev pub wave : App
-wave = with_subcommand (with_subcommand storeless play.top) inbox.top
+wave = with_subcommand serving edit.top
 
 -- ---- values
 
@@ -72,6 +102,21 @@ number limit (c ∷ d ∷ cs) = cond (c == 48) None (digits limit 0 (c ∷ d ∷
 abbrev pub max_load : ℕ
 max_load = 100000
 
+abbrev pub max_sessions : ℕ
+max_sessions = 1000000
+
+abbrev pub max_client : ℕ
+max_client = 9007199254740991
+
+abbrev pub from_one : ℕ → Option ℕ
+from_one n = cond (n == 0) None (Some n)
+
+abbrev pub session_number : List ℕ → Option ℕ
+session_number text = option_and_then from_one (number max_sessions text)
+
+abbrev pub client_key : List ℕ → Option ℕ
+client_key text = number max_client text
+
 -- ---- commands
 
 pub data CommandOf : Type 0 where
@@ -79,10 +124,16 @@ pub data CommandOf : Type 0 where
   Load : ℕ → CommandOf
   Play : List ℕ → List ℕ → CommandOf
   Inbox : List ℕ → List ℕ → CommandOf
+  Serve : List ℕ → List ℕ → Option ℕ → Option (List ℕ) → CommandOf
+  Edit : List ℕ → ℕ → List ℕ → CommandOf
 
-abbrev pub stored : Option (List ℕ) → Option CommandOf
-stored None = Some (Pipe None)
-stored (Some folder) = cond (is_value folder) (Some (Pipe (Some folder))) None
+abbrev pub needs_net : CommandOf → Bool
+needs_net (Pipe store) = false
+needs_net (Load n) = false
+needs_net (Play store wavelet) = false
+needs_net (Inbox store user) = false
+needs_net (Serve domain listen sessions store) = true
+needs_net (Edit user client connect) = true
 
 abbrev pub loaded : Option (List ℕ) → Option CommandOf
 loaded None = None
@@ -92,22 +143,51 @@ abbrev pub checked : (List ℕ → Bool) → Option (List ℕ) → Option (List 
 checked good None = None
 checked good (Some v) = cond (is_value v && good v) (Some v) None
 
-abbrev pub paired : (List ℕ → List ℕ → CommandOf) → Option (List ℕ) → Option (List ℕ) → Option CommandOf
-paired make None b = None
-paired make (Some a) None = None
-paired make (Some a) (Some b) = Some (make a b)
+abbrev pub given : Option (List ℕ) → Option (List ℕ)
+given v = checked (λ _. true) v
 
-abbrev pub folder : Option (List ℕ) → Option (List ℕ)
-folder store = checked (λ _. true) store
+abbrev pub perhaps : {X : Type 0} → (List ℕ → Option X) → Option (List ℕ) → Option (Option X)
+perhaps read None = Some None
+perhaps read (Some v) = option_map Some (read v)
+
+abbrev pub folder : List ℕ → Option (List ℕ)
+folder v = given (Some v)
+
+abbrev pub stored : Option (List ℕ) → Option CommandOf
+stored store = option_map Pipe (perhaps folder store)
+
+abbrev pub both : {X Y : Type 0} → Option X → Option Y → Option (X × Y)
+both None b = None
+both (Some a) None = None
+both (Some a) (Some b) = Some (a, b)
+
+abbrev pub paired : {X Y : Type 0} → (X → Y → CommandOf) → Option X → Option Y → Option CommandOf
+paired make a b = option_map (λ p. make p.0 p.1) (both a b)
 
 abbrev pub played : Option (List ℕ) → Option (List ℕ) → Option CommandOf
-played store wavelet = paired Play (folder store) (checked is_wavelet_name wavelet)
+played store wavelet = paired Play (given store) (checked is_wavelet_name wavelet)
 
 abbrev pub inboxed : Option (List ℕ) → Option (List ℕ) → Option CommandOf
-inboxed store user = paired Inbox (folder store) (checked is_address user)
+inboxed store user = paired Inbox (given store) (checked is_address user)
+
+abbrev pub served : (listen domain sessions store : Option (List ℕ)) → Option CommandOf
+served listen domain sessions store = paired (λ d b. Serve d.1 d.0 b.0 b.1) (both (given listen) (checked is_domain domain)) (both (perhaps session_number sessions) (perhaps folder store))
+
+abbrev pub served_by : List Row → Option CommandOf
+served_by r = served (first_of (codes "listen") r) (first_of (codes "domain") r) (first_of (codes "sessions") r) (first_of (codes "store") r)
+
+abbrev pub edited : (connect user client : Option (List ℕ)) → Option CommandOf
+edited connect user client = paired (λ w k. Edit w.1 k w.0) (both (given connect) (checked is_address user)) (option_and_then client_key client)
+
+abbrev pub edited_by : List Row → Option CommandOf
+edited_by r = edited (first_of (codes "connect") r) (first_of (codes "user") r) (first_of (codes "client") r)
+
+abbrev pub named_net : List ℕ × List Row → Option CommandOf
+named_net p = cond (pointwise ◌==◌ p.0 (codes "edit")) (edited_by p.1) (served_by p.1)
 
 abbrev pub named_past : List ℕ × List Row → Option CommandOf
-named_past p = cond (pointwise ◌==◌ p.0 (codes "play")) (played (first_of (codes "store") p.1) (first_of (codes "wavelet") p.1)) (inboxed (first_of (codes "store") p.1) (first_of (codes "user") p.1))
+named_past p = cond (pointwise ◌==◌ p.0 (codes "play")) (played (first_of (codes "store") p.1) (first_of (codes "wavelet") p.1))
+    (cond (pointwise ◌==◌ p.0 (codes "inbox")) (inboxed (first_of (codes "store") p.1) (first_of (codes "user") p.1)) (named_net p))
 
 abbrev pub named : List ℕ × List Row → Option CommandOf
 named p = cond (pointwise ◌==◌ p.0 (codes "pipe")) (stored (first_of (codes "store") p.1)) (cond (pointwise ◌==◌ p.0 (codes "load")) (loaded (first_of (codes "count") p.1)) (named_past p))

@@ -1,6 +1,6 @@
 -- A command that was read, as a command: `shown`.
 use Rattle.std.specs.Option.{option_map}
-use Rattle.command_words.specs.Commands.{CommandOf, Pipe, Load, Play, Inbox}
+use Rattle.command_words.specs.Commands.{CommandOf, Pipe, Load, Play, Inbox, Serve, Edit}
 use Rattle.command_words.specs.declared.command.Command.{Command}
 use Rattle.command_words.specs.declared.command.Command.TheVariants as read
 
@@ -9,3 +9,5 @@ shown (read.Pipe store) = Pipe (option_map (λ s. s.now) store)
 shown (read.Load count) = Load count
 shown (read.Play store wavelet) = Play store.now wavelet
 shown (read.Inbox store user) = Inbox store.now user
+shown (read.Serve domain listen sessions store) = Serve domain listen.now sessions (option_map (λ s. s.now) store)
+shown (read.Edit user client connect) = Edit user client connect.now

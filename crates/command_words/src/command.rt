@@ -1,17 +1,23 @@
 ghost use Rattle.std.specs.Prelude.{◌≡◌, Some, None, true, IfOk, IfErr, option_map, option_and_then, map, string_bytes};
 ghost use Rattle.clap.specs.Words.{first_of, subcommand_rows_of};
-ghost use Rattle.command_words.specs.Commands.{stored, loaded, checked, folder, played, inboxed, named, is_cut, accepted, command_of};
+ghost use Rattle.command_words.specs.Commands.{stored, loaded, checked, given, perhaps, folder, both, session_number, played, inboxed, served, served_by, client_key, edited, edited_by, named_net, named_past, named, is_cut, accepted, command_of, needs_net};
 ghost use Rattle.command_words.specs.Shown.{shown};
-ghost use Rattle.wave_base.specs.Grammar.{is_address, is_wavelet_name};
 
 use crate::grammar::matches_of;
+use crate::name::{Name, name_of};
 use crate::values::{is_value, number};
 use clap::ArgMatches;
 use std::alloc::Global;
-use wave_base::{Address, BaseFault, WaveletName};
+use wave_base::{Address, Domain, WaveletName};
 
 // The greatest number of `load`.
 const MAX_LOAD: u64 = 100_000;
+
+// The greatest number of `--sessions`.
+const MAX_SESSIONS: u64 = 1_000_000;
+
+// The greatest key of a client.
+const MAX_CLIENT: u64 = 9_007_199_254_740_991;
 
 /// What the words ask for.
 #[derive(Debug, Drop)]
@@ -34,6 +40,51 @@ pub enum Command<'a> {
         store: &'a str,
         user: Address,
     },
+    /// Sessions of a domain's users over a net, at this address, with the wavelets of a folder where one is named. It ends after this
+    /// number of sessions, from 1 to 1,000,000, where there is one.
+    Serve {
+        domain: Domain,
+        listen: &'a str,
+        sessions: Option<u64>,
+        store: Option<&'a str>,
+    },
+    /// The terminal client of a user with this key, at most 2^53 - 1, over a link with the server at this address.
+    Edit {
+        user: Address,
+        client: u64,
+        connect: &'a str,
+    },
+}
+
+impl Command<'_> {
+    /// Whether it is a command over a net.
+    pub fn needs_net(&self) -> bool
+        ensures { result ≡ needs_net (shown self.now) }
+    {
+        match self {
+            Command::Pipe { store: _store } => false,
+            Command::Load { count: _count } => false,
+            Command::Play {
+                store: _store,
+                wavelet: _wavelet,
+            } => false,
+            Command::Inbox {
+                store: _store,
+                user: _user,
+            } => false,
+            Command::Serve {
+                domain: _domain,
+                listen: _listen,
+                sessions: _sessions,
+                store: _store,
+            } => true,
+            Command::Edit {
+                user: _user,
+                client: _client,
+                connect: _connect,
+            } => true,
+        }
+    }
 }
 
 /// Why words name no command.
@@ -54,7 +105,7 @@ fn value_of<'a>(matches: &ArgMatches<'a>, name: &str) -> Option<&'a str>
 }
 
 // The name of the command.
-fn name_of<'a>(matches: &ArgMatches<'a>) -> Option<&'a str>
+fn command_name<'a>(matches: &ArgMatches<'a>) -> Option<&'a str>
     ensures { option_map (λ s. s.now) result ≡ option_map (λ p. p.0) (subcommand_rows_of matches.now) }
 {
     matches.subcommand_name()
@@ -64,17 +115,9 @@ fn stored(store: Option<&str>) -> Result<Command<'_>, WordsFault>
     ensures ok { IfOk result (λ c. stored (option_map (λ s. s.now) store.entry) ≡ Some (shown c)) }
     ensures refused { IfErr result (λ e. stored (option_map (λ s. s.now) store.entry) ≡ None) }
 {
-    match store {
-        None => Ok(Command::Pipe { store: None }),
-        Some(folder) => {
-            if is_value(folder) {
-                Ok(Command::Pipe {
-                    store: Some(folder),
-                })
-            } else {
-                Err(WordsFault::Usage)
-            }
-        }
+    match folder(store) {
+        Ok(store) => Ok(Command::Pipe { store }),
+        Err(fault) => Err(fault),
     }
 }
 
@@ -91,16 +134,31 @@ fn loaded<'a>(count: Option<&str>) -> Result<Command<'a>, WordsFault>
     }
 }
 
-// The folder of an option.
-fn folder_of(store: Option<&str>) -> Result<&str, WordsFault>
-    ensures ok { IfOk result (λ f. folder (option_map (λ s. s.now) store.entry) ≡ Some f.now) }
-    ensures refused { IfErr result (λ e. folder (option_map (λ s. s.now) store.entry) ≡ None) }
+// The value of an option that must be there.
+fn given(value: Option<&str>) -> Result<&str, WordsFault>
+    ensures ok { IfOk result (λ v. given (option_map (λ s. s.now) value.entry) ≡ Some v.now) }
+    ensures refused { IfErr result (λ e. given (option_map (λ s. s.now) value.entry) ≡ None) }
+{
+    let Some(value) = value else {
+        return Err(WordsFault::Usage);
+    };
+    if is_value(value) {
+        Ok(value)
+    } else {
+        Err(WordsFault::Usage)
+    }
+}
+
+// The folder of an option that may be there.
+fn folder(store: Option<&str>) -> Result<Option<&str>, WordsFault>
+    ensures ok { IfOk result (λ v. perhaps folder (option_map (λ s. s.now) store.entry) ≡ Some (option_map (λ s. s.now) v)) }
+    ensures refused { IfErr result (λ e. perhaps folder (option_map (λ s. s.now) store.entry) ≡ None) }
 {
     match store {
-        None => Err(WordsFault::Usage),
+        None => Ok(None),
         Some(folder) => {
             if is_value(folder) {
-                Ok(folder)
+                Ok(Some(folder))
             } else {
                 Err(WordsFault::Usage)
             }
@@ -108,33 +166,36 @@ fn folder_of(store: Option<&str>) -> Result<&str, WordsFault>
     }
 }
 
-// The wavelet that a value names.
-fn wavelet_named(alloc: Global, text: &str) -> Result<WaveletName, WordsFault>
-    ensures ok { IfOk result (λ n. checked is_wavelet_name (Some text.now) ≡ Some n) }
-    ensures refused { IfErr result (λ e. e ≡ WordsFault.Usage → checked is_wavelet_name (Some text.now) ≡ None) }
+// The number of sessions of an option that may be there.
+fn sessions(count: Option<&str>) -> Result<Option<u64>, WordsFault>
+    ensures ok { IfOk result (λ n. perhaps session_number (option_map (λ s. s.now) count.entry) ≡ Some n) }
+    ensures refused { IfErr result (λ e. perhaps session_number (option_map (λ s. s.now) count.entry) ≡ None) }
 {
-    if !is_value(text) {
-        return Err(WordsFault::Usage);
-    }
-    match WaveletName::parse(alloc, text) {
-        Ok(name) => Ok(name),
-        Err(BaseFault::Memory) => Err(WordsFault::Memory),
-        Err(_) => Err(WordsFault::Usage),
+    match count {
+        None => Ok(None),
+        Some(text) => match number(MAX_SESSIONS, text) {
+            None => Err(WordsFault::Usage),
+            Some(0) => Err(WordsFault::Usage),
+            Some(count) => Ok(Some(count)),
+        },
     }
 }
 
-// The user whom a value names.
-fn user_named(alloc: Global, text: &str) -> Result<Address, WordsFault>
-    ensures ok { IfOk result (λ a. checked is_address (Some text.now) ≡ Some a) }
-    ensures refused { IfErr result (λ e. e ≡ WordsFault.Usage → checked is_address (Some text.now) ≡ None) }
+// A value and a name.
+fn both<'a, N: Name>(
+    alloc: Global,
+    value: Option<&'a str>,
+    name: Option<&str>,
+) -> Result<(&'a str, N), WordsFault>
+    ensures ok { IfOk result (λ r. both (given (option_map (λ s. s.now) value.entry)) (checked N.is_name (option_map (λ s. s.now) name.entry)) ≡ Some (r.0.now, N.bytes r.1)) }
+    ensures refused { IfErr result (λ e. e ≡ WordsFault.Usage → both (given (option_map (λ s. s.now) value.entry)) (checked N.is_name (option_map (λ s. s.now) name.entry)) ≡ None) }
 {
-    if !is_value(text) {
-        return Err(WordsFault::Usage);
-    }
-    match Address::parse(alloc, text) {
-        Ok(address) => Ok(address),
-        Err(BaseFault::Memory) => Err(WordsFault::Memory),
-        Err(_) => Err(WordsFault::Usage),
+    match given(value) {
+        Err(fault) => Err(fault),
+        Ok(value) => match name_of(alloc, name) {
+            Err(fault) => Err(fault),
+            Ok(name) => Ok((value, name)),
+        },
     }
 }
 
@@ -146,15 +207,9 @@ fn played<'a>(
     ensures ok { IfOk result (λ c. played (option_map (λ s. s.now) store.entry) (option_map (λ s. s.now) wavelet.entry) ≡ Some (shown c)) }
     ensures refused { IfErr result (λ e. e ≡ WordsFault.Usage → played (option_map (λ s. s.now) store.entry) (option_map (λ s. s.now) wavelet.entry) ≡ None) }
 {
-    match folder_of(store) {
+    match both(alloc, store, wavelet) {
+        Ok((store, wavelet)) => Ok(Command::Play { store, wavelet }),
         Err(fault) => Err(fault),
-        Ok(store) => match wavelet {
-            None => Err(WordsFault::Usage),
-            Some(text) => match wavelet_named(alloc, text) {
-                Err(fault) => Err(fault),
-                Ok(wavelet) => Ok(Command::Play { store, wavelet }),
-            },
-        },
     }
 }
 
@@ -166,16 +221,144 @@ fn inboxed<'a>(
     ensures ok { IfOk result (λ c. inboxed (option_map (λ s. s.now) store.entry) (option_map (λ s. s.now) user.entry) ≡ Some (shown c)) }
     ensures refused { IfErr result (λ e. e ≡ WordsFault.Usage → inboxed (option_map (λ s. s.now) store.entry) (option_map (λ s. s.now) user.entry) ≡ None) }
 {
-    match folder_of(store) {
+    match both(alloc, store, user) {
+        Ok((store, user)) => Ok(Command::Inbox { store, user }),
         Err(fault) => Err(fault),
-        Ok(store) => match user {
-            None => Err(WordsFault::Usage),
-            Some(text) => match user_named(alloc, text) {
-                Err(fault) => Err(fault),
-                Ok(user) => Ok(Command::Inbox { store, user }),
-            },
+    }
+}
+
+// What a server may have.
+fn bounds<'a>(
+    count: Option<&str>,
+    store: Option<&'a str>,
+) -> Result<(Option<u64>, Option<&'a str>), WordsFault>
+    ensures ok { IfOk result (λ r. both (perhaps session_number (option_map (λ s. s.now) count.entry)) (perhaps folder (option_map (λ s. s.now) store.entry)) ≡ Some (r.0, option_map (λ s. s.now) r.1)) }
+    ensures refused { IfErr result (λ e. both (perhaps session_number (option_map (λ s. s.now) count.entry)) (perhaps folder (option_map (λ s. s.now) store.entry)) ≡ None) }
+{
+    match sessions(count) {
+        Err(fault) => Err(fault),
+        Ok(count) => match folder(store) {
+            Err(fault) => Err(fault),
+            Ok(store) => Ok((count, store)),
         },
     }
+}
+
+fn served<'a>(
+    alloc: Global,
+    listen: Option<&'a str>,
+    domain: Option<&str>,
+    count: Option<&str>,
+    store: Option<&'a str>,
+) -> Result<Command<'a>, WordsFault>
+    ensures ok { IfOk result (λ c. served (option_map (λ s. s.now) listen.entry) (option_map (λ s. s.now) domain.entry) (option_map (λ s. s.now) count.entry) (option_map (λ s. s.now) store.entry) ≡ Some (shown c)) }
+    ensures refused { IfErr result (λ e. e ≡ WordsFault.Usage → served (option_map (λ s. s.now) listen.entry) (option_map (λ s. s.now) domain.entry) (option_map (λ s. s.now) count.entry) (option_map (λ s. s.now) store.entry) ≡ None) }
+{
+    match both(alloc, listen, domain) {
+        Err(fault) => Err(fault),
+        Ok((listen, domain)) => match bounds(count, store) {
+            Err(fault) => Err(fault),
+            Ok((sessions, store)) => Ok(Command::Serve {
+                domain,
+                listen,
+                sessions,
+                store,
+            }),
+        },
+    }
+}
+
+// The server of the options.
+fn served_by<'a>(alloc: Global, matches: &ArgMatches<'a>) -> Result<Command<'a>, WordsFault>
+    ensures ok { IfOk result (λ c. option_and_then (λ p. served_by p.1) (subcommand_rows_of matches.now) ≡ Some (shown c)) }
+    ensures refused { IfErr result (λ e. e ≡ WordsFault.Usage → option_and_then (λ p. served_by p.1) (subcommand_rows_of matches.now) ≡ None) }
+{
+    let listen = value_of(matches, "listen");
+    let domain = value_of(matches, "domain");
+    let count = value_of(matches, "sessions");
+    served(alloc, listen, domain, count, value_of(matches, "store"))
+}
+
+// The key of an option that must be there.
+fn key_of(client: Option<&str>) -> Result<u64, WordsFault>
+    ensures ok { IfOk result (λ n. option_and_then client_key (option_map (λ s. s.now) client.entry) ≡ Some n) }
+    ensures refused { IfErr result (λ e. option_and_then client_key (option_map (λ s. s.now) client.entry) ≡ None) }
+{
+    match client {
+        None => Err(WordsFault::Usage),
+        Some(text) => match number(MAX_CLIENT, text) {
+            Some(key) => Ok(key),
+            None => Err(WordsFault::Usage),
+        },
+    }
+}
+
+fn edited<'a>(
+    alloc: Global,
+    connect: Option<&'a str>,
+    user: Option<&str>,
+    client: Option<&str>,
+) -> Result<Command<'a>, WordsFault>
+    ensures ok { IfOk result (λ c. edited (option_map (λ s. s.now) connect.entry) (option_map (λ s. s.now) user.entry) (option_map (λ s. s.now) client.entry) ≡ Some (shown c)) }
+    ensures refused { IfErr result (λ e. e ≡ WordsFault.Usage → edited (option_map (λ s. s.now) connect.entry) (option_map (λ s. s.now) user.entry) (option_map (λ s. s.now) client.entry) ≡ None) }
+{
+    match both(alloc, connect, user) {
+        Err(fault) => Err(fault),
+        Ok((connect, user)) => match key_of(client) {
+            Err(fault) => Err(fault),
+            Ok(client) => Ok(Command::Edit {
+                user,
+                client,
+                connect,
+            }),
+        },
+    }
+}
+
+// The terminal client of the options.
+fn edited_by<'a>(alloc: Global, matches: &ArgMatches<'a>) -> Result<Command<'a>, WordsFault>
+    ensures ok { IfOk result (λ c. option_and_then (λ p. edited_by p.1) (subcommand_rows_of matches.now) ≡ Some (shown c)) }
+    ensures refused { IfErr result (λ e. e ≡ WordsFault.Usage → option_and_then (λ p. edited_by p.1) (subcommand_rows_of matches.now) ≡ None) }
+{
+    let connect = value_of(matches, "connect");
+    let user = value_of(matches, "user");
+    edited(alloc, connect, user, value_of(matches, "client"))
+}
+
+// The command of this name, which is one over a net.
+fn named_net<'a>(
+    alloc: Global,
+    name: &str,
+    matches: &ArgMatches<'a>,
+) -> Result<Command<'a>, WordsFault>
+    requires { option_map (λ p. p.0) (subcommand_rows_of matches.now) ≡ Some name.now }
+    ensures ok { IfOk result (λ c. option_and_then named_net (subcommand_rows_of matches.now) ≡ Some (shown c)) }
+    ensures refused { IfErr result (λ e. e ≡ WordsFault.Usage → option_and_then named_net (subcommand_rows_of matches.now) ≡ None) }
+{
+    if name == "edit" {
+        return edited_by(alloc, matches);
+    }
+    served_by(alloc, matches)
+}
+
+// The command of this name, which is one over a store or a net.
+fn named_past<'a>(
+    alloc: Global,
+    name: &str,
+    matches: &ArgMatches<'a>,
+) -> Result<Command<'a>, WordsFault>
+    requires { option_map (λ p. p.0) (subcommand_rows_of matches.now) ≡ Some name.now }
+    ensures ok { IfOk result (λ c. option_and_then named_past (subcommand_rows_of matches.now) ≡ Some (shown c)) }
+    ensures refused { IfErr result (λ e. e ≡ WordsFault.Usage → option_and_then named_past (subcommand_rows_of matches.now) ≡ None) }
+{
+    let store = value_of(matches, "store");
+    if name == "play" {
+        return played(alloc, store, value_of(matches, "wavelet"));
+    }
+    if name == "inbox" {
+        return inboxed(alloc, store, value_of(matches, "user"));
+    }
+    named_net(alloc, name, matches)
 }
 
 // The command that was named.
@@ -183,7 +366,7 @@ fn named<'a>(alloc: Global, matches: &ArgMatches<'a>) -> Result<Command<'a>, Wor
     ensures ok { IfOk result (λ c. option_and_then named (subcommand_rows_of matches.now) ≡ Some (shown c)) }
     ensures refused { IfErr result (λ e. e ≡ WordsFault.Usage → option_and_then named (subcommand_rows_of matches.now) ≡ None) }
 {
-    let Some(name) = name_of(matches) else {
+    let Some(name) = command_name(matches) else {
         return Err(WordsFault::Usage);
     };
     if name == "pipe" {
@@ -192,11 +375,7 @@ fn named<'a>(alloc: Global, matches: &ArgMatches<'a>) -> Result<Command<'a>, Wor
     if name == "load" {
         return loaded(value_of(matches, "count"));
     }
-    let store = value_of(matches, "store");
-    if name == "play" {
-        return played(alloc, store, value_of(matches, "wavelet"));
-    }
-    inboxed(alloc, store, value_of(matches, "user"))
+    named_past(alloc, name, matches)
 }
 
 // Whether a word stands behind `--`.
@@ -224,8 +403,8 @@ fn accepted<'a>(alloc: Global, words: &'a [String]) -> Result<Command<'a>, Words
 }
 
 /// The command that the words name. Refusal: `Usage` where they name none: where clap refuses them, where a word stands behind `--`,
-/// where a value is empty or begins with `-`, where the number of `load` isn't decimal digits without a sign or a leading zero, or is
-/// above 100,000, and where the wavelet of `play` or the user of `inbox` isn't a name of its grammar.
+/// where a value is empty or begins with `-`, where a number isn't decimal digits without a sign or a leading zero, where that of `load`
+/// is above 100,000, that of sessions isn't from 1 to 1,000,000 or that of a client is above 2^53 - 1, and where a wavelet, a user or a domain isn't a name of its grammar.
 pub fn read_words<'a>(alloc: Global, words: &'a [String]) -> Result<Command<'a>, WordsFault>
     ensures ok { IfOk result (λ c. command_of (map string_bytes words.entry.now) ≡ Some (shown c)) }
     ensures refused { IfErr result (λ e. e ≡ WordsFault.Usage → command_of (map string_bytes words.entry.now) ≡ None) }

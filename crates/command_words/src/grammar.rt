@@ -5,7 +5,7 @@ ghost use Rattle.clap.specs.Faults.{fault_of};
 ghost use Rattle.clap.specs.Simple.{on_top};
 ghost use Rattle.clap.specs.Walk.{is_empty};
 ghost use Rattle.clap.specs.declared.builder.command.Command.TheViews.{out-Command as fields_of};
-ghost use Rattle.command_words.specs.Commands.{pipe as pipe_app, load as load_app, play as play_app, inbox as inbox_app, storeless as storeless_app, wave as wave_app, plain_top, option_rule};
+ghost use Rattle.command_words.specs.Commands.{pipe as pipe_app, load as load_app, play as play_app, inbox as inbox_app, door as door_app, serve as serve_app, writer as writer_app, edit as edit_app, storeless as storeless_app, storing as storing_app, serving as serving_app, wave as wave_app, plain_top, option_rule};
 
 use crate::command::WordsFault;
 use clap::error::ErrorKind;
@@ -68,6 +68,42 @@ fn inbox<'a>(alloc: Global) -> Result<Command<'a>, AllocError>
         .arg(option(alloc, "user", true))
 }
 
+// The server, with the options that it must have.
+fn door<'a>(alloc: Global) -> Result<Command<'a>, AllocError>
+    ensures app { IfOk result (λ c. app_of c ≡ door_app) }
+    ensures local { IfOk result (λ c. (fields_of c).has_globals ≡ false) }
+{
+    Command::new(alloc, "serve")
+        .arg(option(alloc, "domain", true))?
+        .arg(option(alloc, "listen", true))
+}
+
+fn serve<'a>(alloc: Global) -> Result<Command<'a>, AllocError>
+    ensures app { IfOk result (λ c. app_of c ≡ serve_app) }
+    ensures local { IfOk result (λ c. (fields_of c).has_globals ≡ false) }
+{
+    door(alloc)?
+        .arg(option(alloc, "sessions", false))?
+        .arg(option(alloc, "store", false))
+}
+
+// The terminal client, with the options that say who types.
+fn writer<'a>(alloc: Global) -> Result<Command<'a>, AllocError>
+    ensures app { IfOk result (λ c. app_of c ≡ writer_app) }
+    ensures local { IfOk result (λ c. (fields_of c).has_globals ≡ false) }
+{
+    Command::new(alloc, "edit")
+        .arg(option(alloc, "user", true))?
+        .arg(option(alloc, "client", true))
+}
+
+fn edit<'a>(alloc: Global) -> Result<Command<'a>, AllocError>
+    ensures app { IfOk result (λ c. app_of c ≡ edit_app) }
+    ensures local { IfOk result (λ c. (fields_of c).has_globals ≡ false) }
+{
+    writer(alloc)?.arg(option(alloc, "connect", true))
+}
+
 // Adds a command.
 fn with_command<'a>(command: Command<'a>, sub: Command<'a>) -> Result<Command<'a>, AllocError>
     requires local { (fields_of sub).has_globals ≡ false }
@@ -85,13 +121,29 @@ fn storeless<'a>(alloc: Global) -> Result<Command<'a>, AllocError>
     with_command(command, load(alloc)?)
 }
 
-// The program with its commands.
-fn wave<'a>(alloc: Global) -> Result<Command<'a>, AllocError>
-    ensures app { IfOk result (λ c. app_of c ≡ wave_app) }
+// The program with those that need one, too.
+fn storing<'a>(alloc: Global) -> Result<Command<'a>, AllocError>
+    ensures app { IfOk result (λ c. app_of c ≡ storing_app) }
 {
     let command = storeless(alloc)?;
     let command = with_command(command, play(alloc)?)?;
     with_command(command, inbox(alloc)?)
+}
+
+// The program with that of a server, too.
+fn serving<'a>(alloc: Global) -> Result<Command<'a>, AllocError>
+    ensures app { IfOk result (λ c. app_of c ≡ serving_app) }
+{
+    let command = storing(alloc)?;
+    with_command(command, serve(alloc)?)
+}
+
+// The program with its commands.
+fn wave<'a>(alloc: Global) -> Result<Command<'a>, AllocError>
+    ensures app { IfOk result (λ c. app_of c ≡ wave_app) }
+{
+    let command = serving(alloc)?;
+    with_command(command, edit(alloc)?)
 }
 
 // What clap makes of the words.

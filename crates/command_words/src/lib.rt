@@ -3,6 +3,7 @@
 
 mod command;
 mod grammar;
+mod name;
 mod values;
 
 pub use command::{Command, WordsFault, read_words};

@@ -17,6 +17,22 @@ pub fn words_of(alloc: Global, line: &str) -> Result<Vec<String>, Fault> {
     Ok(words)
 }
 
+// The number of sessions, where there is one.
+fn count_of(alloc: Global, sessions: Option<u64>) -> Result<String, Fault> {
+    match sessions {
+        Some(count) => Ok(format!(in alloc; " for {count}")?),
+        None => Ok(String::new(alloc)),
+    }
+}
+
+// The folder, where there is one.
+fn place_of(alloc: Global, store: Option<&str>) -> Result<String, Fault> {
+    match store {
+        Some(folder) => Ok(format!(in alloc; " over {folder}")?),
+        None => Ok(String::new(alloc)),
+    }
+}
+
 fn shown(alloc: Global, words: &[String]) -> Result<String, Fault> {
     Ok(match read_words(alloc, words) {
         Ok(Command::Pipe { store: None }) => String::from_str(alloc, "pipe")?,
@@ -33,6 +49,29 @@ fn shown(alloc: Global, words: &[String]) -> Result<String, Fault> {
         Ok(Command::Inbox { store, user }) => {
             let user = user.text();
             format!(in alloc; "inbox of {user} over {store}")?
+        }
+        Ok(
+            Command::Serve {
+                domain,
+                listen,
+                sessions,
+                store,
+            },
+        ) => {
+            let sessions = count_of(alloc, sessions)?;
+            let store = place_of(alloc, store)?;
+            let domain = domain.text();
+            format!(in alloc; "serve {domain} at {listen}{sessions}{store}")?
+        }
+        Ok(
+            Command::Edit {
+                user,
+                client,
+                connect,
+            },
+        ) => {
+            let user = user.text();
+            format!(in alloc; "edit of {user} with {client} at {connect}")?
         }
         Err(WordsFault::Usage) => String::from_str(alloc, "usage")?,
         Err(WordsFault::Memory) => return Err(Fault::Memory),

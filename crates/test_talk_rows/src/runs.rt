@@ -1,5 +1,6 @@
-// Runs of the whole program over objects in memory.
+// Runs of the whole program, but for those over a net, over objects in memory.
 use crate::Fault;
+use command_words::{WordsFault, read_words};
 use disk_model::MemoryDisk;
 use doc_items::Memory;
 use std::alloc::Global;
@@ -8,7 +9,7 @@ use test_disk_rows::{
     bytes_of, calls, disk, filled, first_word, halves, number, put, put_digits, text_of, words_of,
 };
 use wave_outside::{MemoryFolder, MemorySink, MemorySource, StoredFile, TickClock};
-use wave_program::run;
+use wave_program::{obey, write_usage};
 
 // The files of a folder, each on a disk of its own that reads the same, and one more.
 fn one_more(
@@ -88,7 +89,7 @@ fn sink(alloc: Global, faults: &str) -> Result<MemorySink, Fault> {
     Ok(MemorySink::new(alloc, failing))
 }
 
-/// A run with these words over these lines and this folder: its status, and what it writes into the sink.
+/// A run without a net, with these words, over these lines and this folder: its status, and what it writes into the sink.
 fn run_into(
     alloc: Global,
     words: &Vec<String>,
@@ -99,7 +100,19 @@ fn run_into(
 ) -> Result<u8, Fault> {
     let mut clock = clock(faults)?;
     let mut source = source(alloc, input, faults)?;
-    Ok(run(alloc, words, &mut source, sink, folder, &mut clock))
+    match read_words(alloc, words.as_slice()) {
+        Ok(command) => {
+            if command.needs_net() {
+                return Err(Fault::BadRow);
+            }
+            Ok(obey(alloc, command, &mut source, sink, folder, &mut clock))
+        }
+        Err(WordsFault::Usage) => {
+            write_usage(sink);
+            Ok(2)
+        }
+        Err(WordsFault::Memory) => Ok(8),
+    }
 }
 
 /// A run whose words and faults a row tells: its status, and what it wrote.

@@ -1,31 +1,67 @@
 //! The program `wave`: the real objects, handed to the top call.
 #![tactic(auto)]
 
+mod net;
+mod spawner;
+
+use crate::net::TellingNet;
+use crate::spawner::SessionSpawner;
 use std::alloc::{AllocError, Global};
 use std::process::ExitCode;
+use std::sync::Arc;
 use std::{env, io};
 use wave_files::{FileFolder, SystemClock};
 use wave_outside::{ReaderSource, WriterSink};
-use wave_program::run;
+use wave_program::{Outside, run};
+use wave_server::Server;
+use wave_threads::{RingingGate, ThreadStarter};
+use ws_link::{Bells, Limits, Patience, SocketNet};
 
 /// The exit status for want of memory.
 const OUT_OF_MEMORY: u8 = 8;
 
+/// How many sessions have a bell. One beyond them looks for news once a second.
+const BELLS: usize = 4_096;
+
+/// The bells, for those who hang them and for those who ring them.
+type ThreeBells = (Arc<Bells, Global>, Arc<Bells, Global>, Arc<Bells, Global>);
+
+fn bells(alloc: Global) -> Result<ThreeBells, AllocError> {
+    let first = Arc::new(alloc, Bells::new(alloc, BELLS)?)?;
+    let second = Arc::try_clone(&first)?;
+    let third = Arc::try_clone(&first)?;
+    Ok((first, second, third))
+}
+
 fn main(rt: HostRuntime) -> ExitCode {
     let alloc = rt.alloc();
-    let mut source = ReaderSource::new(rt.reader());
-    let mut sink = WriterSink::new(io::writer(&rt));
-    let mut folder = FileFolder::new(rt, alloc);
-    let mut clock = SystemClock::new(rt);
+    let Ok((for_net, for_spawner, for_gate)) = bells(alloc) else {
+        return ExitCode::from(OUT_OF_MEMORY);
+    };
+    let net = SocketNet::new(
+        rt,
+        alloc,
+        for_net,
+        Limits::for_clients(),
+        Patience::of_terminal(),
+    );
+    let starter = ThreadStarter::new(for_spawner);
+    let mut outside = Outside {
+        source: ReaderSource::new(rt.reader()),
+        sink: WriterSink::new(io::writer(&rt)),
+        folder: FileFolder::new(rt, alloc),
+        clock: SystemClock::new(rt),
+        server: Server {
+            net: TellingNet { rt, net },
+            spawner: SessionSpawner { starter },
+            gate: RingingGate::new(for_gate),
+            ended: Vec::new(alloc),
+            passes: None,
+            spent: None,
+        },
+    };
     let status = match words(&rt, alloc) {
-        Ok(words) => run(
-            alloc,
-            &words,
-            &mut source,
-            &mut sink,
-            &mut folder,
-            &mut clock,
-        ),
+        Ok(words) => run(&rt, alloc, &words, &mut outside),
         Err(_) => OUT_OF_MEMORY,
     };
     ExitCode::from(status)

@@ -4,4 +4,6 @@ pub mod LoadWords
 pub mod Piping
 pub mod Leaving
 pub mod Moments
+pub mod Naming
+pub mod Serving
 pub mod Storing

@@ -1,12 +1,12 @@
--- What the words name: a load has a number that isn't above the limit, and a store is one folder with one service.
+-- What the words name: a load has a number that isn't above the limit, a client a key that isn't, and a store is one folder with one service.
 use Rattle.std.proofs.Common.{◌≡◌, ℕ, ◌+◌, ◌-◌, ◌*◌, ◌≤◌, ◌==◌, ◌&&◌, Bool, true, false, cond, nat_le, List, [], ◌∷◌, Option, Some, None, refl, sym, ◌∙◌, subst, arith, option_and_then, option_map, codes}
 use Rattle.std.proofs.lemmas.Bool.Decides.{nat_tests}
 use Rattle.std.specs.Cmp.Lexicographic.{pointwise}
 use Rattle.clap.specs.Words.{Text, first_of, subcommand_of}
 use Rattle.clap.specs.Walk.{Row, is_empty}
 use Rattle.clap.specs.Faults.{fault_of}
-use Rattle.command_words.specs.Commands.{digits, number, is_digit, is_value, max_load, loaded, stored, checked, paired, folder, played, inboxed, named_past, named, wave, is_cut, accepted, command_of, CommandOf, Pipe, Load, Play, Inbox}
-use Rattle.wave_base.specs.Grammar.{is_address, is_wavelet_name}
+use Rattle.command_words.specs.Commands.{digits, number, is_digit, max_load, max_client, loaded, stored, checked, given, perhaps, both, paired, folder, session_number, played, inboxed, served, served_by, client_key, edited, edited_by, named_net, named_past, named, wave, is_cut, accepted, command_of, CommandOf, Pipe, Load, Play, Inbox, Serve, Edit}
+use Rattle.wave_base.specs.Grammar.{is_address, is_domain, is_wavelet_name}
 use Rattle.wave_program.specs.declared.service.Service.{Service}
 
 abbrev IsUpTo : ℕ → Option ℕ → Type 0
@@ -40,6 +40,8 @@ IsCapped (Some (Pipe folder)) = Unit {0}
 IsCapped (Some (Load n)) = n ≤ 100000
 IsCapped (Some (Play folder wavelet)) = Unit {0}
 IsCapped (Some (Inbox folder user)) = Unit {0}
+IsCapped (Some (Serve domain listen sessions folder)) = Unit {0}
+IsCapped (Some (Edit user client connect)) = client ≤ max_client
 
 either : (x y : Option CommandOf) (b : Bool) → IsCapped x → IsCapped y → IsCapped (cond b x y)
 either x y true h k = h
@@ -53,20 +55,43 @@ loaded_capped : (text : Option (List ℕ)) → IsCapped (loaded text)
 loaded_capped None = tt
 loaded_capped (Some text) = counted (number max_load text) (number_up max_load text)
 
-stored_capped : (folder : Option (List ℕ)) → IsCapped (stored folder)
-stored_capped None = tt
-stored_capped (Some folder) = either (Some (Pipe (Some folder))) None (is_value folder) tt tt
+made_capped : {X : Type 0} (make : X → CommandOf) → ((x : X) → IsCapped (Some (make x))) → (x : Option X) → IsCapped (option_map make x)
+made_capped make free None = tt
+made_capped make free (Some x) = free x
 
-paired_capped : (make : List ℕ → List ℕ → CommandOf) → ((a b : List ℕ) → IsCapped (Some (make a b))) → (a b : Option (List ℕ)) → IsCapped (paired make a b)
-paired_capped make free None b = tt
-paired_capped make free (Some a) None = tt
-paired_capped make free (Some a) (Some b) = free a b
+stored_capped : (store : Option (List ℕ)) → IsCapped (stored store)
+stored_capped store = made_capped Pipe (λ x. tt) (perhaps folder store)
+
+paired_capped : {X Y : Type 0} (make : X → Y → CommandOf) → ((x : X) (y : Y) → IsCapped (Some (make x y))) → (a : Option X) (b : Option Y) → IsCapped (paired make a b)
+paired_capped make free a b = made_capped (λ p. make p.0 p.1) (λ p. free p.0 p.1) (both a b)
+
+served_capped : (listen domain sessions store : Option (List ℕ)) → IsCapped (served listen domain sessions store)
+served_capped listen domain sessions store =
+    paired_capped (λ (d : List ℕ × List ℕ) (b : Option ℕ × Option (List ℕ)). Serve d.1 d.0 b.0 b.1) (λ d b. tt) (both (given listen) (checked is_domain domain)) (both (perhaps session_number sessions) (perhaps folder store))
+
+keyed : (w : Option (List ℕ × List ℕ)) (x : Option ℕ) → IsUpTo max_client x → IsCapped (paired (λ p k. Edit p.1 k p.0) w x)
+keyed None x h = tt
+keyed (Some p) None h = tt
+keyed (Some p) (Some k) h = h
+
+edited_capped : (connect user client : Option (List ℕ)) → IsCapped (edited connect user client)
+edited_capped connect user None = keyed (both (given connect) (checked is_address user)) None tt
+edited_capped connect user (Some text) = keyed (both (given connect) (checked is_address user)) (number max_client text) (number_up max_client text)
+
+net_capped : (p : Text × List Row) → IsCapped (named_net p)
+net_capped p =
+    either (edited_by p.1) (served_by p.1) (pointwise ◌==◌ p.0 (codes "edit"))
+    (edited_capped (first_of (codes "connect") p.1) (first_of (codes "user") p.1) (first_of (codes "client") p.1))
+    (served_capped (first_of (codes "listen") p.1) (first_of (codes "domain") p.1) (first_of (codes "sessions") p.1) (first_of (codes "store") p.1))
 
 past_capped : (p : Text × List Row) → IsCapped (named_past p)
 past_capped p =
-    either (played (first_of (codes "store") p.1) (first_of (codes "wavelet") p.1)) (inboxed (first_of (codes "store") p.1) (first_of (codes "user") p.1)) (pointwise ◌==◌ p.0 (codes "play"))
-    (paired_capped Play (λ a b. tt) (folder (first_of (codes "store") p.1)) (checked is_wavelet_name (first_of (codes "wavelet") p.1)))
-    (paired_capped Inbox (λ a b. tt) (folder (first_of (codes "store") p.1)) (checked is_address (first_of (codes "user") p.1)))
+    let others = cond (pointwise ◌==◌ p.0 (codes "inbox")) (inboxed (first_of (codes "store") p.1) (first_of (codes "user") p.1)) (named_net p) in
+    either (played (first_of (codes "store") p.1) (first_of (codes "wavelet") p.1)) others (pointwise ◌==◌ p.0 (codes "play"))
+    (paired_capped Play (λ a b. tt) (given (first_of (codes "store") p.1)) (checked is_wavelet_name (first_of (codes "wavelet") p.1)))
+    (either (inboxed (first_of (codes "store") p.1) (first_of (codes "user") p.1)) (named_net p) (pointwise ◌==◌ p.0 (codes "inbox"))
+    (paired_capped Inbox (λ a b. tt) (given (first_of (codes "store") p.1)) (checked is_address (first_of (codes "user") p.1)))
+    (net_capped p))
 
 named_capped : (x : Option (Text × List Row)) → IsCapped (option_and_then named x)
 named_capped None = tt
@@ -80,6 +105,9 @@ command_capped words = either None (accepted words) (is_cut words) tt (either (o
 
 pub load_bound : (words : List Text) (n : ℕ) → command_of words ≡ Some (Load n) → n ≤ 100000
 load_bound words n e = subst (λ (x : Option CommandOf). IsCapped x) e (command_capped words)
+
+pub key_bound : (words : List Text) (user connect : List ℕ) (k : ℕ) → command_of words ≡ Some (Edit user k connect) → k ≤ max_client
+key_bound words user connect k e = subst (λ (x : Option CommandOf). IsCapped x) e (command_capped words)
 
 -- what the words name is one folder, and one service
 pub same_service : (o : Option (List ℕ × Service)) (p q : List ℕ × Service) → o ≡ Some p → o ≡ Some q → p ≡ q

@@ -232,7 +232,7 @@ module _ {F D K : Type 0} (folder : folder_of.Ghosts F D) (disk : disk_of.Ghosts
       ap is_some (found_is (entries_of m) n x.filed x.is)
 
   -- from the first shelf to the folder into which the disks of the last were put back
-  still_closed : (a b : Shelf F D folder disk) (f g : F) → in_folder a ≡ Some f → IsStillIn folder (in_folder a) (in_folder b) → IfSome (in_folder b) (λ h. IsStill folder h g) → IsStill folder f g
+  pub still_closed : (a b : Shelf F D folder disk) (f g : F) → in_folder a ≡ Some f → IsStillIn folder (in_folder a) (in_folder b) → IfSome (in_folder b) (λ h. IsStill folder h g) → IsStill folder f g
   still_closed a b f g is still closed = go (in_folder b) (subst (λ o. IsStillIn folder o (in_folder b)) is still) closed
     where
       go : (o : Option F) → IsStillIn folder (Some f) o → IfSome o (λ h. IsStill folder h g) → IsStill folder f g
@@ -240,7 +240,7 @@ module _ {F D K : Type 0} (folder : folder_of.Ghosts F D) (disk : disk_of.Ghosts
       go (Some h) one two = still_on folder f h g one two
 
   -- from the shelf a to the shelf m, whose files were loaded
-  standing : (a m : Shelf F D folder disk) (f : F) → IsTrue disk.tells → in_folder a ≡ Some f → IsLoaded a m → AreStanding folder disk f (hosted_of m) (λ n. is_some (container_in m n))
+  pub standing : (a m : Shelf F D folder disk) (f : F) → IsTrue disk.tells → in_folder a ≡ Some f → IsLoaded a m → AreStanding folder disk f (hosted_of m) (λ n. is_some (container_in m n))
   standing a m f tells is loaded = record {
     ascending = shown_ascend (histories (entries_of m)) (hist_ascends deltas_of (entries_of m) m.containers.in_order.0);
     stand = stand_for a m f tells is loaded;
@@ -397,7 +397,7 @@ module _ {F D K : Type 0} (folder : folder_of.Ghosts F D) (disk : disk_of.Ghosts
       omega (arith, count, closed.counted, rose)
 
   -- over files that read the same
-  same_standing : (f e : F) (hs : List Hosted) (loaded : Key → Bool) → ((m : List ℕ) → folder.files e m ≡ folder.files f m) → AreStanding folder disk e hs loaded → AreStanding folder disk f hs loaded
+  pub same_standing : (f e : F) (hs : List Hosted) (loaded : Key → Bool) → ((m : List ℕ) → folder.files e m ≡ folder.files f m) → AreStanding folder disk e hs loaded → AreStanding folder disk f hs loaded
   same_standing f e hs loaded same s = record {
     ascending = s.ascending;
     stand = λ n is. subst (λ (o : Option D). IsFileOf disk.view o n (deltas_in hs n)) (same (file_name_of n)) (s.stand n is);

@@ -1,6 +1,8 @@
 pub mod Asks
 pub mod Damage
+pub mod Edit
 pub mod Load
+pub mod Net
 pub mod Pipe
 pub mod Run
 pub mod Services

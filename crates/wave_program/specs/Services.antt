@@ -1,5 +1,5 @@
 -- What a run does over the wavelets of a store.
---     service_of c        the folder and the service that a command names; None where it is over no store
+--     service_of c        the folder and the service that a command names; None where it is over no store, or over a net
 --     IsDone              what was read and written over a shelf, and the shelf after it, by the service
 use Rattle.std.specs.Prelude.{◌≡◌, ℕ, List, Option, Some, None}
 use Rattle.disk_model.specs.declared.disk.Disk as disk_of
@@ -21,6 +21,8 @@ service_of (Some (words.Pipe (Some folder))) = Some (folder, Lines)
 service_of (Some (words.Load n)) = None
 service_of (Some (words.Play folder wavelet)) = Some (folder, Play wavelet)
 service_of (Some (words.Inbox folder user)) = Some (folder, Inbox user)
+service_of (Some (words.Serve domain listen sessions folder)) = None
+service_of (Some (words.Edit user client connect)) = None
 
 module _ {F D K : Type 0} {folder : folder_of.Ghosts F D} {disk : disk_of.Ghosts D} (clock : clock_of.Ghosts K) where
   abbrev pub IsDone : Service → Shelf F D folder disk → Shelf F D folder disk → K → (left0 left1 held0 held1 : Option (List ℕ)) → ℕ → Type 0

@@ -69,8 +69,8 @@ fn serve_folder<S: Source, W: Sink, F: Folder + Drop, C: Clock>(
     status
 }
 
-// Puts the shelf's folder back, with all its disks.
-fn put_back<F: Folder + Drop>(folder: &mut F, shelf: Shelf<F>)
+/// Puts the shelf's folder back, with all its disks.
+pub(crate) fn put_back<F: Folder + Drop>(folder: &mut F, shelf: Shelf<F>)
     requires { IsSome (in_folder shelf) }
     ensures { IsClosed shelf folder.new }
 {
@@ -108,8 +108,8 @@ fn serve_shelf<S: Source, W: Sink, F: Folder + Drop, C: Clock>(
     }
 }
 
-// Tells why the shelf wasn't loaded, and gives the exit status.
-fn tell<W: Sink>(alloc: Global, sink: &mut W, fault: &ShelfFault) -> u8
+/// Tells why the shelf wasn't loaded, and gives the exit status.
+pub(crate) fn tell<W: Sink>(alloc: Global, sink: &mut W, fault: &ShelfFault) -> u8
     ensures known { (result ≡ 5) ⊎ ((result ≡ 6) ⊎ (result ≡ 8)) }
     ensures failed { result ≡ 5 → fault.now ≡ Failed }
     ensures silent { (result ≡ 5) ⊎ (result ≡ 8) → sink.new ≡ sink.old }

@@ -1,62 +1,66 @@
-use Rattle.std.proofs.Common.{◌≡◌, ◌∙◌, ℕ, List, rules, refl, sym, ap, inl, inr, map, string_bytes}
-use Rattle.command_words.specs.Commands.{command_of}
-use Rattle.wave_program.proofs.Completing.{nothing_run, memory_complete, complete_run, complete_as, serving_plain, not_five, unloaded_complete}
-use Rattle.wave_program.proofs.LoadWords.{load_bound, same_service}
-use Rattle.wave_program.proofs.Storing.{never_read}
-use Rattle.wave_program.specs.Services.{service_of}
-use Rattle.wave_program.specs.declared.service.Service.{Service}
-use Rattle.wave_program.specs.declared.service.Service.TheVariants.{Lines, Play, Inbox}
+use Rattle.std.proofs.Common.{◌≡◌, ◌∙◌, Some, rules, refl, ap, inl, inr, map, string_bytes, IsTrue}
+use Rattle.command_words.specs.Commands.{command_of, Load}
+use Rattle.command_words.specs.Shown.{shown}
+use Rattle.wave_program.specs.Store.{entered_at}
+use Rattle.wave_program.proofs.Completing.{nothing_run, memory_complete}
+use Rattle.wave_program.proofs.LoadWords.{load_bound, key_bound}
+use Rattle.wave_program.proofs.Naming.{as_named, all_served, all_unless, all_where, all_over, all_but, all_entered, not_done, not_unloaded, all_edited, all_same}
+use Rattle.wave_program.proofs.Serving.{none_there}
 use Rattle.wave_program.proofs.top.run.Goals as goal
 
-pub tell_load-requires : goal.tell_load-requires
-tell_load-requires g c = search (rules, load_bound)
+pub net_command-requires-clause-key : goal.net_command-requires-clause-key
+net_command-requires-clause-key g c = λ user connect k named.
+    let said : command_of (map string_bytes c.args.words.now.items) ≡ Some (shown c.in-Ok.command) = search rules in
+    key_bound (map string_bytes c.args.words.now.items) user connect k (said ∙ ap (λ d. Some d) named)
 
-pub returns-in-Ok-Pipe-None-clause-complete : goal.returns-in-Ok-Pipe-None-clause-complete
-returns-in-Ok-Pipe-None-clause-complete g c = λ named source sink.
-    complete_run g.C.Clock _ _ _ _ _ _ c.serve.result (λ e. source (c.serve.ensures.source_failed e)) (λ e. sink (c.serve.ensures.sink_failed e)) (not_five c.serve.result c.serve.ensures.known) c.serve.ensures.served
-    (serving_plain c.serve.result c.serve.ensures.known)
+pub obey-requires-clause-small : goal.obey-requires-clause-small
+obey-requires-clause-small g c = λ n named.
+    let said : command_of (map string_bytes c.args.words.now.items) ≡ Some (shown c.in-Ok.command) = search rules in
+    load_bound (map string_bytes c.args.words.now.items) n (said ∙ ap (λ d. Some d) named)
 
-pub returns-in-Ok-Pipe-Some-clause-stored_complete : goal.returns-in-Ok-Pipe-Some-clause-stored_complete
-returns-in-Ok-Pipe-Some-clause-stored_complete g c = λ path service named folder_tells disk_tells legal source sink folder.
-    elim (c.serve_stored.ensures.stored folder_tells disk_tells) [
-      | inl r ↦ complete_as g.F.Folder g.F.Disk.Disk g.C.Clock Lines _ _ _ _ _ _ _ _ c.serve_stored.result (λ e. source (c.serve_stored.ensures.source_failed e)) (λ e. sink (c.serve_stored.ensures.sink_failed e)) (λ e. folder (c.serve_stored.ensures.store_failed e)) r
-      | inr u ↦ unloaded_complete g.F.Folder g.F.Disk.Disk _ c.args.folder.now c.serve_stored.new.folder _ _ _ _ _ _ c.serve_stored.result (ap g.S.Source.left u.0) legal
-          (λ e. folder (c.serve_stored.ensures.store_failed e)) u.1
-    ]
-
-pub returns-in-Ok-Play-clause-stored_complete : goal.returns-in-Ok-Play-clause-stored_complete
-returns-in-Ok-Play-clause-stored_complete g c = λ path service named folder_tells disk_tells legal source sink folder.
-    elim (c.serve_stored-in-Ok-Play.ensures.stored folder_tells disk_tells) [
-      | inl r ↦ complete_as g.F.Folder g.F.Disk.Disk g.C.Clock (Play c.in-Ok-Play.wavelet) _ _ _ c.args.clock.now _ _ _ _ c.serve_stored-in-Ok-Play.result (λ e. source (c.serve_stored-in-Ok-Play.ensures.source_failed e)) (λ e. sink (c.serve_stored-in-Ok-Play.ensures.sink_failed e)) (λ e. folder (c.serve_stored-in-Ok-Play.ensures.store_failed e)) r
-      | inr u ↦ unloaded_complete g.F.Folder g.F.Disk.Disk _ c.args.folder.now c.serve_stored-in-Ok-Play.new.folder _ _ _ _ _ _ c.serve_stored-in-Ok-Play.result (ap g.S.Source.left u.0) legal
-          (λ e. folder (c.serve_stored-in-Ok-Play.ensures.store_failed e)) u.1
-    ]
-
-pub returns-in-Ok-Inbox-clause-stored_complete : goal.returns-in-Ok-Inbox-clause-stored_complete
-returns-in-Ok-Inbox-clause-stored_complete g c = λ path service named folder_tells disk_tells legal source sink folder.
-    elim (c.serve_stored-in-Ok-Inbox.ensures.stored folder_tells disk_tells) [
-      | inl r ↦ complete_as g.F.Folder g.F.Disk.Disk g.C.Clock (Inbox c.in-Ok-Inbox.user) _ _ _ c.args.clock.now _ _ _ _ c.serve_stored-in-Ok-Inbox.result (λ e. source (c.serve_stored-in-Ok-Inbox.ensures.source_failed e)) (λ e. sink (c.serve_stored-in-Ok-Inbox.ensures.sink_failed e)) (λ e. folder (c.serve_stored-in-Ok-Inbox.ensures.store_failed e)) r
-      | inr u ↦ unloaded_complete g.F.Folder g.F.Disk.Disk _ c.args.folder.now c.serve_stored-in-Ok-Inbox.new.folder _ _ _ _ _ _ c.serve_stored-in-Ok-Inbox.result (ap g.S.Source.left u.0) legal
-          (λ e. folder (c.serve_stored-in-Ok-Inbox.ensures.store_failed e)) u.1
-    ]
-
-pub returns-in-Ok-Pipe-Some-clause-stored : goal.returns-in-Ok-Pipe-Some-clause-stored
-returns-in-Ok-Pipe-Some-clause-stored g c path service named folder_tells tells =
-    let said = rw (c.in-Ok-Pipe-Some.field-0-is, c.in-Ok-Pipe-Some.field-0-0-is) at c.in-Ok-Pipe-Some.ensures.ok in
-    let is : (path, service) ≡ (c.in-Ok-Pipe-Some.path.now, Lines) =
-    same_service (service_of (command_of (map string_bytes c.args.words.now.items))) (path, service) (c.in-Ok-Pipe-Some.path.now, Lines) named (ap (λ ws. service_of (command_of (map string_bytes ws))) (sym c.as_slice.ensures.value) ∙ ap service_of said) in
-    rw (ap (λ (p : List ℕ × Service). p.0) is, ap (λ (p : List ℕ × Service). p.1) is) (c.serve_stored.ensures.stored folder_tells tells)
-
-pub returns-in-Err-Memory-clause-stored : goal.returns-in-Err-Memory-clause-stored
-returns-in-Err-Memory-clause-stored g c path service named folder_tells tells =
-    inr (refl, never_read g.F.Folder g.F.Disk.Disk g.C.Clock _ c.args.folder.now c.args.folder.now (g.W.Sink.written c.args.sink.now) _ _ 8 (inr refl) (λ m. refl) (inr (refl, refl)))
+pub returns-else-needs_net-clause-loaded : goal.returns-else-needs_net-clause-loaded
+returns-else-needs_net-clause-loaded g c = λ n named.
+    let said : command_of (map string_bytes c.args.words.now.items) ≡ Some (shown c.in-Ok.command) = search rules in
+    c.obey.ensures.loaded n (as_named _ (shown c.in-Ok.command) (Load n) said named)
 
 pub returns-in-Err-Memory-clause-served : goal.returns-in-Err-Memory-clause-served
-returns-in-Err-Memory-clause-served g c = λ named. nothing_run g.C.Clock _ c.args.clock.now (g.S.Source.left c.args.source.now) (g.W.Sink.written c.args.sink.now)
+returns-in-Err-Memory-clause-served g c = λ named. nothing_run g.C.Clock _ c.args.outside.now.clock (g.S.Source.left c.args.outside.now.source) (g.W.Sink.written c.args.outside.now.sink)
 
 pub returns-in-Err-Memory-clause-complete : goal.returns-in-Err-Memory-clause-complete
-returns-in-Err-Memory-clause-complete g c = λ named source sink. memory_complete (g.S.Source.left c.args.source.now) (g.W.Sink.written c.args.sink.now) _ 8 refl refl
+returns-in-Err-Memory-clause-complete g c = λ named source sink. memory_complete (g.S.Source.left c.args.outside.now.source) (g.W.Sink.written c.args.outside.now.sink) _ 8 refl refl
 
 pub returns-in-Err-Memory-clause-stored_complete : goal.returns-in-Err-Memory-clause-stored_complete
-returns-in-Err-Memory-clause-stored_complete g c = λ path service named folder_tells disk_tells legal source sink folder.
-    memory_complete (g.S.Source.left c.args.source.now) (g.W.Sink.written c.args.sink.now) _ 8 refl refl
+returns-in-Err-Memory-clause-stored_complete g c = λ path service named folder_tells disk_tells legal source sink folder. memory_complete (g.S.Source.left c.args.outside.now.source) (g.W.Sink.written c.args.outside.now.sink) _ 8 refl refl
+
+pub returns-in-Err-Memory-clause-net_served : goal.returns-in-Err-Memory-clause-net_served
+returns-in-Err-Memory-clause-net_served g c = all_served _ _ (λ domain listen sessions store. none_there _ _ c.requires.empty.2)
+
+pub returns-in-Err-Memory-clause-net_done : goal.returns-in-Err-Memory-clause-net_done
+returns-in-Err-Memory-clause-net_done g c = all_unless _ _ _ not_done
+
+pub returns-in-Err-Memory-clause-net_plain : goal.returns-in-Err-Memory-clause-net_plain
+returns-in-Err-Memory-clause-net_plain g c = all_where _ _ _ (λ domain listen sessions store. none_there _ _ c.requires.empty.2)
+
+pub returns-in-Err-Memory-clause-net_stored : goal.returns-in-Err-Memory-clause-net_stored
+returns-in-Err-Memory-clause-net_stored g c = all_over _ _ _ _ (λ domain listen sessions path. none_there _ _ c.requires.empty.2)
+
+pub returns-in-Err-Memory-clause-net_unloaded : goal.returns-in-Err-Memory-clause-net_unloaded
+returns-in-Err-Memory-clause-net_unloaded g c = all_but _ _ _ _ _ not_unloaded
+
+pub returns-in-Err-Memory-clause-net_entered : goal.returns-in-Err-Memory-clause-net_entered
+returns-in-Err-Memory-clause-net_entered g c = all_entered g.F.Folder (IsTrue g.F.Folder.tells) (λ path. entered_at g.F.Folder path c.args.outside.now.folder) c.args.outside.now.folder _
+
+pub returns-in-Err-Memory-clause-net_unread : goal.returns-in-Err-Memory-clause-net_unread
+returns-in-Err-Memory-clause-net_unread g c = all_served _ _ (λ domain listen sessions store. refl)
+
+pub returns-in-Err-Memory-clause-net_silent : goal.returns-in-Err-Memory-clause-net_silent
+returns-in-Err-Memory-clause-net_silent g c = all_where _ _ _ (λ domain listen sessions store. refl)
+
+pub returns-in-Err-Memory-clause-net_known : goal.returns-in-Err-Memory-clause-net_known
+returns-in-Err-Memory-clause-net_known g c = all_served _ _ (λ domain listen sessions store. inl (inr (inr (inl refl))))
+
+pub returns-in-Err-Memory-clause-edited : goal.returns-in-Err-Memory-clause-edited
+returns-in-Err-Memory-clause-edited g c = all_edited _ _ (λ user client connect. inr (refl, (refl, record { known = inr refl; back = refl; asked = λ tells. inr (refl, refl) })))
+
+pub returns-in-Err-Memory-clause-unserved : goal.returns-in-Err-Memory-clause-unserved
+returns-in-Err-Memory-clause-unserved g c = all_same _ _ _ _

@@ -1,0 +1,10 @@
+pub mod Ropes
+pub mod Operations
+pub mod States
+pub mod Histories
+pub mod Containers
+pub mod Tables
+pub mod Shelves
+pub mod Cells
+pub mod Jobs
+pub mod Links

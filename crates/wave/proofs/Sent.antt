@@ -1,0 +1,34 @@
+-- A session with the handle that it waits by may be given to another thread.
+--     disk_send, folder_send, thread_send
+use denote.RattleType.{RattleType}
+use denote.Param.Send.{IsSend, IsSync, sendable}
+use denote.Param.SendFields.{declared_send, as_row_send}
+use Rattle.core.specs.contracts.rt.LibcRuntime as runtime
+use Rattle.std.specs.contracts.fs.dir.Names as names
+use Rattle.std.proofs.Crossing.{crosses, send}
+use Rattle.std.proofs.MapsCrossing as maps
+use Rattle.thread_safety.proofs.Jobs.{job_send}
+use Rattle.thread_safety.proofs.Links.{gate_send, socket_send}
+use Rattle.wave_files.specs.contracts.disk.FileDisk as disk
+use Rattle.wave_files.specs.contracts.folder.FileFolder as folder
+use Rattle.wave_files.specs.contracts.clock.SystemClock as clock
+use Rattle.wave.specs.contracts.spawner.SessionThread as session
+
+pub disk_send : IsSend disk.the_row
+disk_send = search (sendable, crosses) depth 60
+
+disk_sync : IsSync disk.the_row
+disk_sync = search (sendable, crosses) depth 60
+
+pub folder_send : IsSend (folder.the_row runtime.the_row names.the_row)
+folder_send = search (sendable, crosses, maps.crosses) depth 60
+
+folder_sync : IsSync (folder.the_row runtime.the_row names.the_row)
+folder_sync = search (sendable, crosses, maps.crosses) depth 60
+
+clock_send : IsSend (clock.the_row runtime.the_row)
+clock_send = search (sendable, crosses) depth 60
+
+pub thread_send : (R : RattleType) → IsSend R → IsSend (session.the_row R)
+thread_send R r = declared_send (session.the_type R) (search (as_row_send, r), (search (sendable, as_row_send, send) depth 20,
+    (search (job_send, socket_send, folder_send, folder_sync, disk_send, disk_sync, clock_send, gate_send) depth 20 fits 20000, tt)))

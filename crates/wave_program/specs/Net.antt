@@ -1,0 +1,36 @@
+-- Runs of a server.
+--     IfServe c P            P of the words of a command that is one of a server
+--     IsEntered ..           nothing more was entered; for want of memory, maybe nothing at all
+--     IsServedFrom .. marks  the folder was entered, and the marks of each shard begin with the histories for which its files stood
+use Rattle.std.specs.Prelude.{◌≡◌, ◌⊎◌, ℕ, Bool, List, Option, Some, None}
+use Rattle.doc_items.specs.Maps.{Key}
+use Rattle.disk_model.specs.declared.disk.Disk as disk_of
+use Rattle.wave_outside.specs.declared.folder.Folder as folder_of
+use Rattle.wave_outside.specs.Folders.{Entry}
+use Rattle.command_words.specs.Commands.{CommandOf, Pipe, Load, Play, Inbox, Serve, Edit}
+use Rattle.wavelet_shelf.specs.Hosting.{Hosted}
+use Rattle.shard_marks.specs.declared.mark.Mark.{Mark}
+use Rattle.wave_server.specs.Running.{BeginWith}
+use Rattle.wave_program.specs.Store.{AreStanding}
+
+abbrev pub IfServe : Option CommandOf → ((domain listen : List ℕ) → (sessions : Option ℕ) → (store : Option (List ℕ)) → Type 0) → Type 0
+IfServe None P = Unit {0}
+IfServe (Some (Pipe folder)) P = Unit {0}
+IfServe (Some (Load n)) P = Unit {0}
+IfServe (Some (Play folder wavelet)) P = Unit {0}
+IfServe (Some (Inbox folder user)) P = Unit {0}
+IfServe (Some (Serve domain listen sessions folder)) P = P domain listen sessions folder
+IfServe (Some (Edit user client connect)) P = Unit {0}
+
+-- the folder before and after it
+abbrev pub IsEntered : {F D : Type 0} → folder_of.Ghosts F D → List Entry → F → F → ℕ → Type 0
+IsEntered folder entries f g status = ((folder.log g).entries ≡ entries) ⊎ ((status ≡ 8) × ((folder.log g).entries ≡ (folder.log f).entries))
+
+module _ {F D : Type 0} (folder : folder_of.Ghosts F D) (disk : disk_of.Ghosts D) where
+  -- the folder before and after it
+  pub record IsServedFrom (d : Key) (marks : ℕ → List Mark) (entries : List Entry) (f g : F) : Type 0 where
+    pub hosted : List Hosted
+    pub loaded : Key → Bool
+    pub standing : AreStanding folder disk f hosted loaded
+    pub entered : (folder.log g).entries ≡ entries
+    pub begun : BeginWith d hosted marks

@@ -1,0 +1,252 @@
+// The commands over a net: a server, and its clients.
+ghost use Rattle.std.specs.Prelude.{◌≡◌, ◌<◌, ◌⊎◌, ◌+◌, ◌-◌, ◌^◌, ℕ, List, min, vec_len, true, false, [], ◌≤◌, Some, None, is_some, option_map, IsTrue, IsSome, IfSome};
+ghost use denote.Param.Send.{IsSend};
+ghost use Rattle.command_words.specs.Commands.{needs_net, Edit};
+ghost use Rattle.command_words.specs.Shown.{shown};
+ghost use Rattle.doc_items.specs.Limits.{max_count};
+ghost use Rattle.wave_outside.specs.Counts.{Rose};
+ghost use Rattle.shard_marks.specs.Passes.{marks_of};
+ghost use Rattle.wave_server.specs.Running.{BeginWith, HasServed};
+ghost use Rattle.wave_server.specs.Statuses.{IsServerStatus};
+ghost use Rattle.wave_program.specs.Edit.{IfEdit, IsClient, HasNetCause, IsEditRun};
+ghost use Rattle.wave_program.specs.Net.{IfServe, IsServedFrom, IsEntered};
+ghost use Rattle.wave_program.specs.Run.{IsStatus};
+ghost use Rattle.wave_program.specs.Store.{entered_at, IsUnloaded};
+ghost use Rattle.wave_program.specs.Words.{IsStoring};
+
+use crate::edit::edit_over;
+use crate::outside::Outside;
+use crate::store::{put_back, tell};
+use command_words::Command;
+use session_link::LinkJob;
+use std::alloc::Global;
+use std::mem::replace;
+use std::sync::Wait;
+use wave_base::Domain;
+use wave_outside::{Clock, Folder, FolderFault, Gate, Net, Sink, Source, Spawner};
+use wave_server::serve;
+use wavelet_shelf::Shelf;
+
+/// Runs the command of a server or of a client, and gives the exit status. Where a server's names a folder another one stands in its
+/// place from then on.
+pub fn net_command<
+    R: Wait,
+    S: Source,
+    W: Sink,
+    F: Folder + Drop,
+    C: Clock + Drop,
+    N: Net,
+    P: Spawner<LinkJob<N::Link, F, C, G>, R>,
+    G: Gate + Drop,
+>(rt: &R, alloc: Global, command: Command<'_>, outside: &mut Outside<S, W, F, C, N, P, G>) -> u8
+    requires sends { IsSend R.row }
+    requires net { needs_net (shown command) ≡ true }
+    requires key { (user connect : List ℕ) (k : ℕ) → shown command ≡ Edit user k connect → k ≤ max_count }
+    requires empty { (vec_len outside.old.server.ended ≡ 0) × (is_some outside.old.server.spent ≡ false) × (is_some outside.old.server.passes ≡ false) }
+    ensures served { IfServe (Some (shown command.entry)) (λ domain listen sessions store.
+        IfSome outside.new.server.passes (λ p. HasServed N.Link.tells N.Link.events N.Link.faults N.Link.closed domain (marks_of p) (is_some sessions) (is_some outside.new.server.spent) (N.back outside.old.server.net) (N.back outside.new.server.net) outside.new.server.ended.items)) }
+    ensures done { IfServe (Some (shown command.entry)) (λ domain listen sessions store.
+        result ≡ 0 → (n : ℕ) × (sessions ≡ Some n) × (vec_len outside.new.server.ended ≡ n) × (is_some outside.new.server.passes ≡ true)
+        × (N.accepted outside.old.server.net < 2 ^ 64 → N.accepted outside.new.server.net ≡ min (N.accepted outside.old.server.net + n) (2 ^ 64 - 1))) }
+    ensures plain { IfServe (Some (shown command.entry)) (λ domain listen sessions store. store ≡ None → IfSome outside.new.server.passes (λ p. BeginWith domain [] (marks_of p))) }
+    ensures alone { (IsStoring (Some (shown command.entry)) → ⊥) → outside.new.folder ≡ outside.old.folder }
+    ensures silent { IfServe (Some (shown command.entry)) (λ domain listen sessions store. (result ≡ 6 → ⊥) → outside.new.sink ≡ outside.old.sink) }
+    ensures entered { IfServe (Some (shown command.entry)) (λ domain listen sessions store. IfSome store (λ path. IsTrue F.tells
+        → IsEntered F.Folder (entered_at F.Folder path outside.old.folder) outside.old.folder outside.new.folder result)) }
+    ensures stored { IfServe (Some (shown command.entry)) (λ domain listen sessions store. IfSome store (λ path. IsTrue F.tells → IsTrue F.Disk.tells
+        → IfSome outside.new.server.passes (λ p. IsServedFrom F.Folder F.Disk.Disk domain (marks_of p) (entered_at F.Folder path outside.old.folder) outside.old.folder outside.new.folder))) }
+    ensures unloaded { IfServe (Some (shown command.entry)) (λ domain listen sessions store. IfSome store (λ path. IsTrue F.tells → IsTrue F.Disk.tells → (result ≡ 5) ⊎ (result ≡ 6)
+        → IsUnloaded F.Folder F.Disk.Disk (entered_at F.Folder path outside.old.folder) outside.old.folder outside.new.folder (W.written outside.old.sink) (W.written outside.new.sink) (W.faults outside.old.sink) (W.faults outside.new.sink) result)) }
+    ensures edited { IfEdit (Some (shown command.entry)) (λ user client connect.
+        IsEditRun N.Net N.Link.Link connect outside.old.server.net outside.new.server.net S.left W.written user client outside.old.source outside.new.source outside.old.sink outside.new.sink result) }
+    ensures unserved { IfEdit (Some (shown command.entry)) (λ user client connect.
+        (outside.new.server.ended ≡ outside.old.server.ended) × (outside.new.server.spent ≡ outside.old.server.spent) × (outside.new.server.passes ≡ outside.old.server.passes)) }
+    ensures net_failed { result ≡ 7 → HasNetCause (Some (shown command.entry))
+        (Rose (N.door outside.old.server.net) (N.door outside.new.server.net)) (Rose (N.line outside.old.server.net) (N.line outside.new.server.net)) }
+    ensures closed { result ≡ 11 → IsClient (Some (shown command.entry)) }
+    ensures source_failed { result ≡ 3 → Rose (S.faults outside.old.source) (S.faults outside.new.source) }
+    ensures sink_failed { result ≡ 4 → Rose (W.faults outside.old.sink) (W.faults outside.new.sink) }
+    ensures refused { result ≡ 9 → Rose (P.refused outside.old.server.spawner) (P.refused outside.new.server.spawner) }
+    ensures spent { (result ≡ 12 → is_some outside.new.server.spent ≡ true) × (is_some outside.new.server.spent ≡ true → result ≡ 12) }
+    ensures source { IfServe (Some (shown command.entry)) (λ domain listen sessions store. outside.new.source ≡ outside.old.source) }
+    ensures store_failed { result ≡ 5 → Rose (F.faults outside.old.folder) (F.faults outside.new.folder) }
+    ensures served_status { IfServe (Some (shown command.entry)) (λ domain listen sessions store. IsServerStatus result ⊎ ((result ≡ 5) ⊎ (result ≡ 6))) }
+    ensures known { IsStatus result × (result ≡ 2 → ⊥) }
+    ensures damaged { result ≡ 6 → IsStoring (Some (shown command.entry)) }
+{
+    match command {
+        Command::Serve {
+            domain,
+            listen,
+            sessions,
+            store,
+        } => serve_net(rt, alloc, domain, listen, sessions, store, outside),
+        Command::Edit {
+            user,
+            client,
+            connect,
+        } => {
+            let (source, sink) = (&mut outside.source, &mut outside.sink);
+            let net = &mut outside.server.net;
+            edit_over(alloc, source, sink, net, user, client, connect)
+        }
+        Command::Pipe { .. } => unreachable!(),
+        Command::Load { .. } => unreachable!(),
+        Command::Play { .. } => unreachable!(),
+        Command::Inbox { .. } => unreachable!(),
+    }
+}
+
+// Serves the wavelets that the domain hosts at an address, those of the folder of this path where one is given.
+fn serve_net<
+    R: Wait,
+    S,
+    W: Sink,
+    F: Folder + Drop,
+    C: Clock + Drop,
+    N: Net,
+    P: Spawner<LinkJob<N::Link, F, C, G>, R>,
+    G: Gate + Drop,
+>(
+    rt: &R,
+    alloc: Global,
+    domain: Domain,
+    listen: &str,
+    sessions: Option<u64>,
+    store: Option<&str>,
+    outside: &mut Outside<S, W, F, C, N, P, G>,
+) -> u8
+    requires sends { IsSend R.row }
+    requires empty { (vec_len outside.old.server.ended ≡ 0) × (is_some outside.old.server.spent ≡ false) × (is_some outside.old.server.passes ≡ false) }
+    ensures served { IfSome outside.new.server.passes (λ p. HasServed N.Link.tells N.Link.events N.Link.faults N.Link.closed domain (marks_of p) (is_some sessions) (is_some outside.new.server.spent) (N.back outside.old.server.net) (N.back outside.new.server.net) outside.new.server.ended.items) }
+    ensures done { result ≡ 0 → (n : ℕ) × (sessions ≡ Some n) × (vec_len outside.new.server.ended ≡ n) × (is_some outside.new.server.passes ≡ true)
+        × (N.accepted outside.old.server.net < 2 ^ 64 → N.accepted outside.new.server.net ≡ min (N.accepted outside.old.server.net + n) (2 ^ 64 - 1)) }
+    ensures door { result ≡ 7 → Rose (N.door outside.old.server.net) (N.door outside.new.server.net) }
+    ensures refused { result ≡ 9 → Rose (P.refused outside.old.server.spawner) (P.refused outside.new.server.spawner) }
+    ensures spent { (result ≡ 12 → is_some outside.new.server.spent ≡ true) × (is_some outside.new.server.spent ≡ true → result ≡ 12) }
+    ensures source { outside.new.source ≡ outside.old.source }
+    ensures plain { store.entry ≡ None → IfSome outside.new.server.passes (λ p. BeginWith domain [] (marks_of p)) }
+    ensures alone { store.entry ≡ None → outside.new.folder ≡ outside.old.folder }
+    ensures silent { (result ≡ 6 → ⊥) → outside.new.sink ≡ outside.old.sink }
+    ensures entered { IfSome (option_map (λ s. s.now) store.entry) (λ path. IsTrue F.tells
+        → IsEntered F.Folder (entered_at F.Folder path outside.old.folder) outside.old.folder outside.new.folder result) }
+    ensures stored { IfSome (option_map (λ s. s.now) store.entry) (λ path. IsTrue F.tells → IsTrue F.Disk.tells
+        → IfSome outside.new.server.passes (λ p. IsServedFrom F.Folder F.Disk.Disk domain (marks_of p) (entered_at F.Folder path outside.old.folder) outside.old.folder outside.new.folder)) }
+    ensures unloaded { IfSome (option_map (λ s. s.now) store.entry) (λ path. IsTrue F.tells → IsTrue F.Disk.tells → (result ≡ 5) ⊎ (result ≡ 6)
+        → IsUnloaded F.Folder F.Disk.Disk (entered_at F.Folder path outside.old.folder) outside.old.folder outside.new.folder (W.written outside.old.sink) (W.written outside.new.sink) (W.faults outside.old.sink) (W.faults outside.new.sink) result) }
+    ensures store_failed { result ≡ 5 → Rose (F.faults outside.old.folder) (F.faults outside.new.folder) }
+    ensures known { IsServerStatus result ⊎ ((result ≡ 5) ⊎ (result ≡ 6)) }
+    ensures damaged { result ≡ 6 → IsSome store.entry }
+{
+    match store {
+        None => {
+            let Outside { clock, server, .. } = outside;
+            serve(
+                rt,
+                alloc,
+                domain,
+                listen,
+                sessions,
+                Shelf::new(alloc),
+                clock,
+                server,
+            )
+        }
+        Some(path) => serve_path(rt, alloc, domain, listen, sessions, path, outside),
+    }
+}
+
+// Serves the wavelets of the folder of this path.
+fn serve_path<
+    R: Wait,
+    S,
+    W: Sink,
+    F: Folder + Drop,
+    C: Clock + Drop,
+    N: Net,
+    P: Spawner<LinkJob<N::Link, F, C, G>, R>,
+    G: Gate + Drop,
+>(
+    rt: &R,
+    alloc: Global,
+    domain: Domain,
+    listen: &str,
+    sessions: Option<u64>,
+    path: &str,
+    outside: &mut Outside<S, W, F, C, N, P, G>,
+) -> u8
+    requires sends { IsSend R.row }
+    requires empty { (vec_len outside.old.server.ended ≡ 0) × (is_some outside.old.server.spent ≡ false) × (is_some outside.old.server.passes ≡ false) }
+    ensures served { IfSome outside.new.server.passes (λ p. HasServed N.Link.tells N.Link.events N.Link.faults N.Link.closed domain (marks_of p) (is_some sessions) (is_some outside.new.server.spent) (N.back outside.old.server.net) (N.back outside.new.server.net) outside.new.server.ended.items) }
+    ensures done { result ≡ 0 → (n : ℕ) × (sessions ≡ Some n) × (vec_len outside.new.server.ended ≡ n) × (is_some outside.new.server.passes ≡ true)
+        × (N.accepted outside.old.server.net < 2 ^ 64 → N.accepted outside.new.server.net ≡ min (N.accepted outside.old.server.net + n) (2 ^ 64 - 1)) }
+    ensures door { result ≡ 7 → Rose (N.door outside.old.server.net) (N.door outside.new.server.net) }
+    ensures refused { result ≡ 9 → Rose (P.refused outside.old.server.spawner) (P.refused outside.new.server.spawner) }
+    ensures spent { (result ≡ 12 → is_some outside.new.server.spent ≡ true) × (is_some outside.new.server.spent ≡ true → result ≡ 12) }
+    ensures source { outside.new.source ≡ outside.old.source }
+    ensures silent { (result ≡ 6 → ⊥) → outside.new.sink ≡ outside.old.sink }
+    ensures entered { IsTrue F.tells → IsEntered F.Folder (entered_at F.Folder path.now outside.old.folder) outside.old.folder outside.new.folder result }
+    ensures stored { IsTrue F.tells → IsTrue F.Disk.tells → IfSome outside.new.server.passes (λ p. IsServedFrom F.Folder F.Disk.Disk domain (marks_of p) (entered_at F.Folder path.now outside.old.folder) outside.old.folder outside.new.folder) }
+    ensures unloaded { IsTrue F.tells → IsTrue F.Disk.tells → (result ≡ 5) ⊎ (result ≡ 6)
+        → IsUnloaded F.Folder F.Disk.Disk (entered_at F.Folder path.now outside.old.folder) outside.old.folder outside.new.folder (W.written outside.old.sink) (W.written outside.new.sink) (W.faults outside.old.sink) (W.faults outside.new.sink) result }
+    ensures store_failed { result ≡ 5 → Rose (F.faults outside.old.folder) (F.faults outside.new.folder) }
+    ensures known { IsServerStatus result ⊎ ((result ≡ 5) ⊎ (result ≡ 6)) }
+{
+    match outside.folder.enter(alloc, path) {
+        Ok(()) => serve_folder(rt, alloc, domain, listen, sessions, outside),
+        Err(FolderFault::Failed) => 5,
+        Err(FolderFault::Memory) => 8,
+    }
+}
+
+// Serves the wavelets of the folder that was entered.
+fn serve_folder<
+    R: Wait,
+    S,
+    W: Sink,
+    F: Folder + Drop,
+    C: Clock + Drop,
+    N: Net,
+    P: Spawner<LinkJob<N::Link, F, C, G>, R>,
+    G: Gate + Drop,
+>(
+    rt: &R,
+    alloc: Global,
+    domain: Domain,
+    listen: &str,
+    sessions: Option<u64>,
+    outside: &mut Outside<S, W, F, C, N, P, G>,
+) -> u8
+    requires sends { IsSend R.row }
+    requires empty { (vec_len outside.old.server.ended ≡ 0) × (is_some outside.old.server.spent ≡ false) × (is_some outside.old.server.passes ≡ false) }
+    ensures served { IfSome outside.new.server.passes (λ p. HasServed N.Link.tells N.Link.events N.Link.faults N.Link.closed domain (marks_of p) (is_some sessions) (is_some outside.new.server.spent) (N.back outside.old.server.net) (N.back outside.new.server.net) outside.new.server.ended.items) }
+    ensures done { result ≡ 0 → (n : ℕ) × (sessions ≡ Some n) × (vec_len outside.new.server.ended ≡ n) × (is_some outside.new.server.passes ≡ true)
+        × (N.accepted outside.old.server.net < 2 ^ 64 → N.accepted outside.new.server.net ≡ min (N.accepted outside.old.server.net + n) (2 ^ 64 - 1)) }
+    ensures door { result ≡ 7 → Rose (N.door outside.old.server.net) (N.door outside.new.server.net) }
+    ensures refused { result ≡ 9 → Rose (P.refused outside.old.server.spawner) (P.refused outside.new.server.spawner) }
+    ensures spent { (result ≡ 12 → is_some outside.new.server.spent ≡ true) × (is_some outside.new.server.spent ≡ true → result ≡ 12) }
+    ensures source { outside.new.source ≡ outside.old.source }
+    ensures silent { (result ≡ 6 → ⊥) → outside.new.sink ≡ outside.old.sink }
+    ensures entered { IsTrue F.tells → (F.log outside.new.folder).entries ≡ (F.log outside.old.folder).entries }
+    ensures stored { IsTrue F.tells → IsTrue F.Disk.tells → IfSome outside.new.server.passes (λ p. IsServedFrom F.Folder F.Disk.Disk domain (marks_of p) (F.log outside.old.folder).entries outside.old.folder outside.new.folder) }
+    ensures unloaded { IsTrue F.tells → IsTrue F.Disk.tells → (result ≡ 5) ⊎ (result ≡ 6)
+        → IsUnloaded F.Folder F.Disk.Disk (F.log outside.old.folder).entries outside.old.folder outside.new.folder (W.written outside.old.sink) (W.written outside.new.sink) (W.faults outside.old.sink) (W.faults outside.new.sink) result }
+    ensures store_failed { result ≡ 5 → Rose (F.faults outside.old.folder) (F.faults outside.new.folder) }
+    ensures known { IsServerStatus result ⊎ ((result ≡ 5) ⊎ (result ≡ 6)) }
+{
+    let Ok(other) = outside.folder.another(alloc) else {
+        return 8;
+    };
+    let mut shelf = Shelf::over(alloc, replace(&mut outside.folder, other));
+    match shelf.load(alloc) {
+        Ok(()) => {
+            let Outside { clock, server, .. } = outside;
+            serve(rt, alloc, domain, listen, sessions, shelf, clock, server)
+        }
+        Err(fault) => {
+            let status = tell(alloc, &mut outside.sink, &fault);
+            put_back(&mut outside.folder, shelf);
+            status
+        }
+    }
+}
