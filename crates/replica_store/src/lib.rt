@@ -1,0 +1,15 @@
+//! Copies of other domains' wavelets: the history as far as it came, the submissions that wait for the host's verdict, and the
+//! verdicts that somebody still waits for.
+#![tactic(auto)]
+
+mod absorbed;
+mod claims;
+mod outcomes;
+mod queued;
+mod pushing;
+mod replica;
+mod waiting;
+
+pub use absorbed::Absorbed;
+pub use queued::Queued;
+pub use replica::Replica;
