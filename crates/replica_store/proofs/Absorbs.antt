@@ -2,9 +2,10 @@
 --     next_of           the delta by which a history grew could come next
 --     takes             a copy in the world absorbs the delta that may come next
 --     takes_next        what it absorbs may come next
---     looks_old, looks_gap, looks_diverged     what an onlooker answers to a delta that doesn't start at the head
---     looks_here        to one that starts there: none of these
+--     absorbed_old, absorbed_gap, absorbed_diverged     the answer to a delta that doesn't start at the head
+--     absorbed_took, absorbed_illegal     to one that starts there: whether it may come next
 use Rattle.std.proofs.Common.{◌≡◌, ◌≢◌, ◌<◌, ◌≤◌, ℕ, Bool, true, false, not, cond, ◌&&◌, nat_le, nat_lt, List, [], ◌∷◌, ◌++◌, length, Option, Some, None, option_and_then, refl, sym, ap, subst, ◌∙◌, arith}
+use Rattle.std.specs.Cmp.Lexicographic.{bytes_decides}
 use Rattle.std.proofs.lemmas.Bool.{and_parts, and_from}
 use Rattle.std.proofs.lemmas.Bool.Decides.{nat_tests}
 use Rattle.doc_items.specs.Maps.{Key}
@@ -16,11 +17,17 @@ use Rattle.wavelet_op.specs.Deltas.{DeltaOf, is_count}
 use Rattle.wavelet_op.proofs.Partial.{and_then_some}
 use Rattle.delta_history.specs.Histories.{HistoryOf, head_of, IsGrown}
 use Rattle.delta_history.specs.Legal.{has_id, standing, may_write, IsNext, IsLegalFrom, IsLegal}
+use Rattle.delta_history.specs.Verdicts.{same_hash}
 use Rattle.delta_history.specs.Points.{Point, start, acts_of, next_point, replay}
-use Rattle.delta_history.proofs.Chains.{legal_behind, starts_at, goes_from}
+use Rattle.delta_history.proofs.Chains.{legal_behind, goes_on}
 use Rattle.delta_history.proofs.Points.{and_then_is}
-use Rattle.follower_rules.specs.Receiving.{is_within}
+use Rattle.follower_rules.specs.Followers.{FollowerOf}
+use Rattle.follower_rules.specs.Receiving.{Over, over, is_within, advance_with, advance_within, advance_to, advance, receive_hash, receive_gap, receive_old}
 use Rattle.follower_rules.specs.Replicas.{ReplicaOf, may_follow, grown, absorb_to, absorb_at, absorb}
+use Rattle.replica_store.specs.declared.absorbed.Absorbed.{Absorbed}
+use Rattle.replica_store.specs.declared.absorbed.Absorbed.TheVariants.{Old, Gap, Diverged, NotLegal, Took}
+use Rattle.replica_store.specs.Absorbing.{onlooker, taken_if, answer_as, absorbed}
+use Rattle.replica_store.specs.Copies.{CopyOf, in_world}
 
 pub next_of : (g h : HistoryOf) (d : DeltaOf) → IsGrown g d h → IsLegal h.name h.deltas → IsNext g.name g.deltas d
 next_of g h d w l =
@@ -89,3 +96,66 @@ takes_next name r g d normal e =
           held = le_true _ _ v.1;
           short = le_true _ _ w.1;
         }
+
+-- ---- the answer
+
+true_lt : (a b : ℕ) → a < b → nat_lt a b ≡ true
+true_lt a b h = grind (arith, nat_tests)
+
+false_lt : (a b : ℕ) → b ≤ a → nat_lt a b ≡ false
+false_lt a b h = grind (arith, nat_tests)
+
+abbrev answer_old : CopyOf → DeltaOf → Bool → Absorbed
+answer_old c d b = answer_as (receive_old (onlooker c.history) d b).0 (absorb c.history.name (in_world c) d)
+
+abbrev answer_gap : CopyOf → DeltaOf → Bool → Absorbed
+answer_gap c d b = answer_as (receive_gap (onlooker c.history) d b).0 (absorb c.history.name (in_world c) d)
+
+abbrev answer_hash : CopyOf → DeltaOf → Bool → Absorbed
+answer_hash c d b = answer_as (receive_hash (onlooker c.history) d b).0 (absorb c.history.name (in_world c) d)
+
+pub absorbed_old : (c : CopyOf) (d : DeltaOf) → d.from.version < (head_of c.history).at.version → absorbed c d ≡ Old
+absorbed_old c d h = ap (answer_old c d) (true_lt d.from.version (head_of c.history).at.version h)
+
+pub absorbed_gap : (c : CopyOf) (d : DeltaOf) → (head_of c.history).at.version < d.from.version → absorbed c d ≡ Gap
+absorbed_gap c d h = ap (answer_old c d) (false_lt d.from.version (head_of c.history).at.version (omega (arith, h))) ∙ ap (answer_gap c d) (true_lt (head_of c.history).at.version d.from.version h)
+
+at_version : (c : CopyOf) (d : DeltaOf) → (head_of c.history).at.version ≤ d.from.version → d.from.version ≤ (head_of c.history).at.version → absorbed c d ≡ answer_hash c d (same_hash d.from.hash (head_of c.history).at.hash)
+at_version c d low high = ap (answer_old c d) (false_lt d.from.version (head_of c.history).at.version low) ∙ ap (answer_gap c d) (false_lt (head_of c.history).at.version d.from.version high)
+
+pub absorbed_diverged : (c : CopyOf) (d : DeltaOf) → (head_of c.history).at.version ≤ d.from.version → d.from.version ≤ (head_of c.history).at.version → same_hash d.from.hash (head_of c.history).at.hash ≡ false
+    → absorbed c d ≡ Diverged (head_of c.history).at d.from
+absorbed_diverged c d low high e = at_version c d low high ∙ ap (answer_hash c d) e
+
+-- a follower with nothing pending refuses a delta that starts where it is, or advances
+stays_or_moves : (f : FollowerOf) (d : DeltaOf) (o : Option Over) (r : Option ReplicaOf) → answer_as (advance f d o).0 r ≡ taken_if r
+stays_or_moves f d o r = go (next_point f.here d)
+  where
+    moves : (q : Point) (o : Option Over) → answer_as (advance_with f d q o).0 r ≡ taken_if r
+    moves q None = refl
+    moves q (Some x) = refl
+
+    fits : (q : Point) (b : Bool) → answer_as (advance_within f d o q b).0 r ≡ taken_if r
+    fits q false = refl
+    fits q true = moves q o
+
+    go : (p : Option Point) → answer_as (advance_to f d o p).0 r ≡ taken_if r
+    go None = refl
+    go (Some q) = fits q (is_within q d)
+
+absorbed_here : (c : CopyOf) (d : DeltaOf) → d.from ≡ (head_of c.history).at → absorbed c d ≡ taken_if (absorb c.history.name (in_world c) d)
+absorbed_here c d e =
+    let version : d.from.version ≡ (head_of c.history).at.version = ap (λ (v : VersionAt). v.version) e in
+    let hash : same_hash d.from.hash (head_of c.history).at.hash ≡ true = (bytes_decides d.from.hash (head_of c.history).at.hash).1 (ap (λ (v : VersionAt). v.hash) e) in
+    at_version c d (omega (arith, version)) (omega (arith, version)) ∙ ap (answer_hash c d) hash
+    ∙ stays_or_moves (onlooker c.history) d (over None [] (acts_of d)) (absorb c.history.name (in_world c) d)
+
+pub absorbed_took : (c : CopyOf) (d : DeltaOf) → d.from ≡ (head_of c.history).at → IsNext c.history.name c.history.deltas d → absorbed c d ≡ Took
+absorbed_took c d e n = absorbed_here c d e ∙ ap taken_if (takes c.history.name (in_world c) d n)
+
+pub absorbed_illegal : (c : CopyOf) (d : DeltaOf) → d.from ≡ (head_of c.history).at → IsLegal c.history.name c.history.deltas → AreNormal d.ops → ¬ (IsLegal c.history.name (c.history.deltas ++ d ∷ [])) → absorbed c d ≡ NotLegal
+absorbed_illegal c d e l normal other = absorbed_here c d e ∙ go (absorb c.history.name (in_world c) d) refl
+  where
+    go : (o : Option ReplicaOf) → absorb c.history.name (in_world c) d ≡ o → taken_if o ≡ NotLegal
+    go None h = refl
+    go (Some g) h = absurd (other (goes_on c.history.name c.history.deltas d l (takes_next c.history.name (in_world c) g d normal h)))

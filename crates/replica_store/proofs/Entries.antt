@@ -1,8 +1,9 @@
 -- Entries by their ids.
 --     filter_is         what waits without an id
+--     without_none      an id that doesn't wait
 --     claimed_at        there is a claim exactly where one has a place
 --     fewer_at          without the first claim, by its place
-use Rattle.std.proofs.Common.{◌≡◌, ◌+◌, ◌≤◌, ℕ, suc, Bool, true, false, not, cond, ◌||◌, List, [], ◌∷◌, ◌++◌, map, option_map, is_some, take, drop, Option, Some, None, refl, sym, ap, ◌∙◌, arith, add-one}
+use Rattle.std.proofs.Common.{◌≡◌, ◌+◌, ℕ, Bool, true, false, not, cond, ◌||◌, List, [], ◌∷◌, option_map, is_some, Option, Some, None, refl, sym, ap, ◌∙◌, add-one, true≢false}
 use Rattle.std.specs.List.{filter, remove}
 use Rattle.wave_base.specs.Versions.{IdOf, same_id}
 use Rattle.wavelet_op.specs.declared.delta.Submission.{Submission}
@@ -16,6 +17,14 @@ filter_is i (s ∷ ss) = go (same_id i s.id) (filter_is i ss)
     go : (b : Bool) → filter (λ (s : Submission). not (same_id i s.id)) ss ≡ without i ss → cond (not b) (s ∷ filter (λ (s : Submission). not (same_id i s.id)) ss) (filter (λ (s : Submission). not (same_id i s.id)) ss) ≡ cond b (without i ss) (s ∷ without i ss)
     go true h = h
     go false h = ap (λ z. s ∷ z) h
+
+pub without_none : (i : IdOf) (ss : List Submission) → is_waiting i ss ≡ false → without i ss ≡ ss
+without_none i [] e = refl
+without_none i (s ∷ ss) e = go (same_id i s.id) e (without_none i ss)
+  where
+    go : (b : Bool) → (b || is_waiting i ss) ≡ false → (is_waiting i ss ≡ false → without i ss ≡ ss) → cond b (without i ss) (s ∷ without i ss) ≡ s ∷ ss
+    go true e h = absurd (true≢false e)
+    go false e h = ap (λ z. s ∷ z) (h e)
 
 pub claimed_at : (i : IdOf) (is : List IdOf) → is_some (claim_at i is) ≡ is_claimed i is
 claimed_at i [] = refl

@@ -3,12 +3,12 @@
 --     onlooker h              a follower at the head of the history, with nothing pending
 --     absorbed c d            the answer to a delta. It is that of the onlooker, unless the delta starts at the head: then it is taken
 --                             exactly where the copy in the world absorbs it
---     IsTaken b d c           the copy after it took the delta: in the world it absorbed it, and nothing was noted, and there are no
---                             claims, for the delta's id
+--     IsTaken b d c           the copy after it took the delta: the history ends with it, in the world the copy absorbed it, and for
+--                             its id nothing is noted and there is no claim
 --     IsAfter b d a c         the copy after the answer: only `Took` changes it
 use Rattle.std.specs.Prelude.{◌≡◌, [], Option, Some, None}
 use Rattle.wavelet_op.specs.Deltas.{DeltaOf}
-use Rattle.delta_history.specs.Histories.{HistoryOf, head_of}
+use Rattle.delta_history.specs.Histories.{HistoryOf, head_of, IsGrown}
 use Rattle.follower_rules.specs.declared.received.Received.{Received}
 use Rattle.follower_rules.specs.declared.received.Received.TheVariants as received
 use Rattle.follower_rules.specs.Followers.{FollowerOf}
@@ -42,7 +42,7 @@ absorbed c d = answer_as (receive (onlooker c.history) d).0 (absorb c.history.na
 -- ---- the copy after it
 
 pub record IsTaken (b : CopyOf) (d : DeltaOf) (c : CopyOf) : Type 0 where
-  pub name : c.history.name ≡ b.history.name
+  pub grown : IsGrown b.history d c.history
   pub world : absorb b.history.name (in_world b) d ≡ Some (in_world c)
   pub noted : c.noted ≡ unnoted d.id b.noted
   pub claims : c.claims ≡ unclaimed d.id b.claims

@@ -1,5 +1,5 @@
 // Claims on outcomes.
-ghost use Rattle.std.specs.Prelude.{◌≡◌, ◌<◌, length, IfSome};
+ghost use Rattle.std.specs.Prelude.{◌≡◌, ◌<◌, false, length, IfSome};
 ghost use Rattle.replica_store.specs.Settling.{is_claimed, unclaimed, fewer, claim_at};
 
 use wave_base::DeltaId;
@@ -28,6 +28,7 @@ pub(crate) fn is_claimed(list: &[DeltaId], id: &DeltaId) -> bool
 pub(crate) fn give_back(list: &mut Vec<DeltaId>, id: &DeltaId) -> bool
     ensures result { result ≡ is_claimed id.now list.old.items }
     ensures fewer { list.new.items ≡ fewer id.now list.old.items }
+    ensures none { result ≡ false → list.new.items ≡ list.old.items }
 {
     match claim_at(list.as_slice(), id) {
         Some(place) => {

@@ -4,9 +4,9 @@
 
 mod absorbed;
 mod claims;
+mod histories;
 mod outcomes;
 mod queued;
-mod pushing;
 mod replica;
 mod waiting;
 

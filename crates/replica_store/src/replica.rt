@@ -1,18 +1,17 @@
-ghost use Rattle.std.specs.Prelude.{◌≡◌, ◌≢◌, Bool, true, false, [], Some, IfOk, OnOk, OnErr, option_copied, slice_get};
+ghost use Rattle.std.specs.Prelude.{◌≡◌, true, false, [], Some, IfOk, OnOk, OnErr, option_copied, slice_get};
 ghost use Rattle.delta_history.specs.Copying.{IsKeptOutcome};
 ghost use Rattle.delta_history.specs.Histories.{head_of};
-ghost use Rattle.delta_history.specs.Legal.{IsLegal};
+ghost use Rattle.delta_history.specs.Legal.{has_id, IsNext};
 ghost use Rattle.delta_history.specs.Pushes.{IsRefused};
-ghost use Rattle.delta_history.specs.declared.fault.HistoryFault.TheVariants as history;
 ghost use Rattle.follower_rules.specs.Replicas.{is_waiting, queue, settle};
 ghost use Rattle.replica_store.specs.Absorbing.{absorbed, IsAfter};
 ghost use Rattle.replica_store.specs.Copies.{in_world, IsSound, IsSameCopy};
-ghost use Rattle.replica_store.specs.Settling.{outcome, kept_by, waits_in, queue_in, note_in, let_go_in, drop_in};
+ghost use Rattle.replica_store.specs.Settling.{outcome, waits_in, queue_in, note_in, let_go_in, drop_in};
 
 use crate::claims::{give_back, is_claimed, release};
-use crate::outcomes::{Noted, forget, noted_for};
-use crate::pushing::push_copy;
-use crate::waiting::{is_waiting, settle};
+use crate::histories::{kept, push_copy};
+use crate::outcomes::{Noted, forget, forget_unless, note_if, noted_for};
+use crate::waiting::{is_waiting, queue, settle};
 use crate::{Absorbed, Queued};
 use delta_history::{History, HistoryFault};
 use doc_items::Memory;
@@ -141,7 +140,7 @@ impl Replica {
         ensures world { OnOk result (in_world self.new ≡ queue (in_world self.old) submission) }
         ensures same { OnErr result (self.new ≡ self.old) }
     {
-        match self.history.kept(&submission.id) {
+        match kept(&self.history, &submission.id) {
             Some(kept) => Ok(Queued::Kept(kept)),
             None => {
                 self.wait(alloc, submission)?;
@@ -152,15 +151,13 @@ impl Replica {
 
     // The submission waits, and there is one claim more on its outcome.
     fn wait(&mut self, alloc: Global, submission: Submission) -> Result<(), Memory>
-        requires { kept_by self.old submission.id ≡ None }
+        requires { has_id submission.id self.old.history.deltas ≡ false }
         ensures ok { OnOk result (self.new ≡ waits_in self.old submission) }
         ensures same { OnErr result (self.new ≡ self.old) }
     {
         let id = submission.id.copy(alloc)?;
         self.claims.reserve(1)?;
-        if !self.is_waiting(&id) {
-            self.waiting.push(submission)?;
-        }
+        queue(&mut self.waiting, submission)?;
         forget(&mut self.noted, &id);
         match self.claims.push(id) {
             Ok(()) => Ok(()),
@@ -183,10 +180,8 @@ impl Replica {
         if !self.is_waiting(id) {
             return Ok(false);
         }
-        if is_claimed(self.claims.as_slice(), id) {
-            let id = id.copy(alloc)?;
-            self.noted.push(Noted { id, verdict })?;
-        }
+        let claimed = is_claimed(self.claims.as_slice(), id);
+        note_if(alloc, claimed, &mut self.noted, id, verdict)?;
         settle(&mut self.waiting, id);
         Ok(true)
     }
@@ -199,9 +194,8 @@ impl Replica {
         if !give_back(&mut self.claims, id) {
             return false;
         }
-        if !is_claimed(self.claims.as_slice(), id) {
-            forget(&mut self.noted, id);
-        }
+        let claimed = is_claimed(self.claims.as_slice(), id);
+        forget_unless(claimed, &mut self.noted, id);
         true
     }
 
@@ -212,6 +206,8 @@ impl Replica {
     pub fn absorb(&mut self, alloc: Global, delta: &AppliedDelta) -> Result<Absorbed, Memory>
         ensures answer { IfOk result (λ a. a ≡ absorbed self.old delta.now) }
         ensures after { IfOk result (λ a. IsAfter self.old delta.now a self.new) }
+        ensures next { IfOk result (λ a. a ≡ Absorbed.Took → IsNext self.old.history.name self.old.history.deltas delta.now) }
+        ensures illegal { IfOk result (λ a. a ≡ Absorbed.NotLegal → IsRefused self.old.history delta.now HistoryFault.NotLegal) }
         ensures same { OnErr result (IsSameCopy self.old self.new) }
     {
         let head = self.history.head();
@@ -235,6 +231,8 @@ impl Replica {
         requires { delta.now.from ≡ (head_of self.old.history).at }
         ensures answer { IfOk result (λ a. a ≡ absorbed self.old delta.now) }
         ensures after { IfOk result (λ a. IsAfter self.old delta.now a self.new) }
+        ensures next { IfOk result (λ a. a ≡ Absorbed.Took → IsNext self.old.history.name self.old.history.deltas delta.now) }
+        ensures illegal { IfOk result (λ a. a ≡ Absorbed.NotLegal → IsRefused self.old.history delta.now HistoryFault.NotLegal) }
         ensures same { OnErr result (IsSameCopy self.old self.new) }
     {
         match push_copy(alloc, &mut self.history, delta) {

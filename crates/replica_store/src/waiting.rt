@@ -1,7 +1,8 @@
 // Submissions that wait for the host's verdict.
-ghost use Rattle.std.specs.Prelude.{◌≡◌};
+ghost use Rattle.std.specs.Prelude.{◌≡◌, ◌++◌, ◌∷◌, [], if◌then◌else◌, OnOk, OnErr};
 ghost use Rattle.follower_rules.specs.Replicas.{is_waiting, without};
 
+use doc_items::Memory;
 use wave_base::DeltaId;
 use wavelet_op::Submission;
 
@@ -15,6 +16,17 @@ pub(crate) fn is_waiting(list: &[Submission], id: &DeltaId) -> bool
         }
     }
     false
+}
+
+/// The submission waits behind the others, unless one of its id does. After want of memory all is as it was.
+pub(crate) fn queue(list: &mut Vec<Submission>, submission: Submission) -> Result<(), Memory>
+    ensures ok { OnOk result (list.new.items ≡ (if is_waiting submission.id list.old.items then list.old.items else list.old.items ++ submission ∷ [])) }
+    ensures same { OnErr result (list.new.items ≡ list.old.items) }
+{
+    if !is_waiting(list.as_slice(), &submission.id) {
+        list.push(submission)?;
+    }
+    Ok(())
 }
 
 /// None of the id waits.
