@@ -20,7 +20,7 @@ use Rattle.replica_store.proofs.Entries.{filter_is}
 
 -- ---- an id more
 
-other : (i j : IdOf) → same_id j i ≡ false → same_id i j ≡ false
+pub other : (i j : IdOf) → same_id j i ≡ false → same_id i j ≡ false
 other i j e = go (same_id i j) refl
   where
     go : (b : Bool) → same_id i j ≡ b → b ≡ false
@@ -166,7 +166,7 @@ stands_none i (d ∷ ds) e = go (same_id i d.id) e (stands_none i ds)
 -- ---- the calls
 
 -- what stands of an id after a change that is about another: the same
-by_id : (j : IdOf) (P : IdOf → Type 0) → P j → ((i : IdOf) → same_id j i ≡ false → P i) → (i : IdOf) → P i
+pub by_id : (j : IdOf) (P : IdOf → Type 0) → P j → ((i : IdOf) → same_id j i ≡ false → P i) → (i : IdOf) → P i
 by_id j P own rest i = go (same_id j i) refl
   where
     go : (b : Bool) → same_id j i ≡ b → P i

@@ -1,3 +1,4 @@
 pub mod Copies
 pub mod Settling
 pub mod Absorbing
+pub mod Laws

@@ -5,11 +5,13 @@
 mod absorbed;
 mod claims;
 mod histories;
+mod laws;
 mod outcomes;
 mod queued;
 mod replica;
 mod waiting;
 
 pub use absorbed::Absorbed;
+pub use laws::{claims_hold, copies_absorb};
 pub use queued::Queued;
 pub use replica::Replica;

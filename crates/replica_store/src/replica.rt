@@ -95,7 +95,7 @@ impl Replica {
     /// place isn't below their number. No two of them have one id, and the history has none of the ids.
     pub fn unsettled(&self, place: u64) -> Option<&Submission>
         ensures value { option_copied result ≡ slice_get self.now.waiting place }
-        ensures once { IsSound self.now }
+        ensures sound { IsSound self.now }
     {
         self.waiting.as_slice().get(place as usize)
     }
