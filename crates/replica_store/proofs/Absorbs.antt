@@ -24,8 +24,8 @@ use Rattle.delta_history.proofs.Points.{and_then_is}
 use Rattle.follower_rules.specs.Followers.{FollowerOf}
 use Rattle.follower_rules.specs.Receiving.{Over, over, is_within, advance_with, advance_within, advance_to, advance, receive_hash, receive_gap, receive_old}
 use Rattle.follower_rules.specs.Replicas.{ReplicaOf, may_follow, grown, absorb_to, absorb_at, absorb}
-use Rattle.replica_store.specs.declared.absorbed.Absorbed.{Absorbed}
-use Rattle.replica_store.specs.declared.absorbed.Absorbed.TheVariants.{Old, Gap, Diverged, NotLegal, Took}
+use Rattle.peer_turns.specs.declared.absorbed.Absorbed.{Absorbed}
+use Rattle.peer_turns.specs.declared.absorbed.Absorbed.TheVariants.{Old, Gap, Diverged, NotLegal, Took}
 use Rattle.replica_store.specs.Absorbing.{onlooker, taken_if, answer_as, absorbed}
 use Rattle.replica_store.specs.Copies.{CopyOf, in_world}
 

@@ -14,8 +14,8 @@ use Rattle.follower_rules.specs.declared.received.Received.TheVariants as receiv
 use Rattle.follower_rules.specs.Followers.{FollowerOf}
 use Rattle.follower_rules.specs.Receiving.{receive}
 use Rattle.follower_rules.specs.Replicas.{ReplicaOf, absorb}
-use Rattle.replica_store.specs.declared.absorbed.Absorbed.{Absorbed}
-use Rattle.replica_store.specs.declared.absorbed.Absorbed.TheVariants.{Old, Gap, Diverged, NotLegal, Took}
+use Rattle.peer_turns.specs.declared.absorbed.Absorbed.{Absorbed}
+use Rattle.peer_turns.specs.declared.absorbed.Absorbed.TheVariants.{Old, Gap, Diverged, NotLegal, Took}
 use Rattle.replica_store.specs.Copies.{CopyOf, in_world, IsSameCopy}
 use Rattle.replica_store.specs.Settling.{unclaimed, unnoted}
 

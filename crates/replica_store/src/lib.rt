@@ -2,7 +2,6 @@
 //! verdicts that somebody still waits for.
 #![tactic(auto)]
 
-mod absorbed;
 mod claims;
 mod histories;
 mod laws;
@@ -11,7 +10,7 @@ mod queued;
 mod replica;
 mod waiting;
 
-pub use absorbed::Absorbed;
 pub use laws::{claims_hold, copies_absorb};
+pub use peer_turns::Absorbed;
 pub use queued::Queued;
 pub use replica::Replica;

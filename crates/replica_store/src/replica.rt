@@ -8,13 +8,14 @@ ghost use Rattle.replica_store.specs.Absorbing.{absorbed, IsAfter};
 ghost use Rattle.replica_store.specs.Copies.{in_world, IsSound, IsSameCopy};
 ghost use Rattle.replica_store.specs.Settling.{outcome, waits_in, queue_in, note_in, let_go_in, drop_in};
 
+use crate::Queued;
 use crate::claims::{give_back, is_claimed, release};
 use crate::histories::{kept, push_copy};
 use crate::outcomes::{Noted, forget, forget_unless, note_if, noted_for};
 use crate::waiting::{is_waiting, queue, settle};
-use crate::{Absorbed, Queued};
 use delta_history::{History, HistoryFault};
 use doc_items::Memory;
+use peer_turns::Absorbed;
 use std::alloc::{AllocError, Global};
 use std::marker::Model;
 use wave_base::{DeltaId, WaveletName};

@@ -3,7 +3,7 @@ use Rattle.wavelet_op.specs.Deltas.{DeltaOf}
 use Rattle.delta_history.specs.Histories.{IsGrown}
 use Rattle.delta_history.specs.Legal.{has_id}
 use Rattle.delta_history.specs.Pushes.{IsRefused}
-use Rattle.replica_store.specs.declared.absorbed.Absorbed.TheVariants.{NotLegal}
+use Rattle.peer_turns.specs.declared.absorbed.Absorbed.TheVariants.{NotLegal}
 use Rattle.replica_store.specs.Absorbing.{absorbed}
 use Rattle.replica_store.specs.Copies.{CopyOf}
 use Rattle.replica_store.proofs.Absorbs.{absorbed_illegal}
