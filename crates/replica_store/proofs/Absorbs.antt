@@ -2,21 +2,20 @@
 --     next_of           the delta by which a history grew could come next
 --     takes             a copy in the world absorbs the delta that may come next
 --     takes_next        what it absorbs may come next
---     absorbed_old, absorbed_gap, absorbed_diverged     the answer to a delta that doesn't start at the head
---     absorbed_took, absorbed_illegal     to one that starts there: whether it may come next
-use Rattle.std.proofs.Common.{◌≡◌, ◌≢◌, ◌<◌, ◌≤◌, ℕ, Bool, true, false, not, cond, ◌&&◌, nat_le, nat_lt, List, [], ◌∷◌, ◌++◌, length, Option, Some, None, option_and_then, refl, sym, ap, subst, ◌∙◌, arith}
+--     absorbed_illegal  the answer to a delta that starts at the head and may not come next
+use Rattle.std.proofs.Common.{◌≡◌, ◌<◌, ◌≤◌, ℕ, Bool, true, false, not, cond, ◌&&◌, nat_le, nat_lt, List, [], ◌∷◌, ◌++◌, length, Option, Some, None, refl, sym, ap, subst, ◌∙◌, arith}
 use Rattle.std.specs.Cmp.Lexicographic.{bytes_decides}
 use Rattle.std.proofs.lemmas.Bool.{and_parts, and_from}
 use Rattle.std.proofs.lemmas.Bool.Decides.{nat_tests}
 use Rattle.doc_items.specs.Maps.{Key}
-use Rattle.doc_op.proofs.Applying.{no_value, same_Some}
+use Rattle.doc_op.proofs.Applying.{no_value}
 use Rattle.wave_base.specs.Versions.{VersionAt, same_version}
 use Rattle.wave_base.proofs.Same.{same_version-is, same_version-refl}
 use Rattle.wavelet_op.specs.Acts.{AreNormal}
 use Rattle.wavelet_op.specs.Deltas.{DeltaOf, is_count}
 use Rattle.wavelet_op.proofs.Partial.{and_then_some}
 use Rattle.delta_history.specs.Histories.{HistoryOf, head_of, IsGrown}
-use Rattle.delta_history.specs.Legal.{has_id, standing, may_write, IsNext, IsLegalFrom, IsLegal}
+use Rattle.delta_history.specs.Legal.{has_id, standing, may_write, IsNext, IsLegal}
 use Rattle.delta_history.specs.Verdicts.{same_hash}
 use Rattle.delta_history.specs.Points.{Point, start, acts_of, next_point, replay}
 use Rattle.delta_history.proofs.Chains.{legal_behind, goes_on}
@@ -25,7 +24,7 @@ use Rattle.follower_rules.specs.Followers.{FollowerOf}
 use Rattle.follower_rules.specs.Receiving.{Over, over, is_within, advance_with, advance_within, advance_to, advance, receive_hash, receive_gap, receive_old}
 use Rattle.follower_rules.specs.Replicas.{ReplicaOf, may_follow, grown, absorb_to, absorb_at, absorb}
 use Rattle.peer_turns.specs.declared.absorbed.Absorbed.{Absorbed}
-use Rattle.peer_turns.specs.declared.absorbed.Absorbed.TheVariants.{Old, Gap, Diverged, NotLegal, Took}
+use Rattle.peer_turns.specs.declared.absorbed.Absorbed.TheVariants.{NotLegal}
 use Rattle.replica_store.specs.Absorbing.{onlooker, taken_if, answer_as, absorbed}
 use Rattle.replica_store.specs.Copies.{CopyOf, in_world}
 
@@ -114,18 +113,8 @@ answer_gap c d b = answer_as (receive_gap (onlooker c.history) d b).0 (absorb c.
 abbrev answer_hash : CopyOf → DeltaOf → Bool → Absorbed
 answer_hash c d b = answer_as (receive_hash (onlooker c.history) d b).0 (absorb c.history.name (in_world c) d)
 
-pub absorbed_old : (c : CopyOf) (d : DeltaOf) → d.from.version < (head_of c.history).at.version → absorbed c d ≡ Old
-absorbed_old c d h = ap (answer_old c d) (true_lt d.from.version (head_of c.history).at.version h)
-
-pub absorbed_gap : (c : CopyOf) (d : DeltaOf) → (head_of c.history).at.version < d.from.version → absorbed c d ≡ Gap
-absorbed_gap c d h = ap (answer_old c d) (false_lt d.from.version (head_of c.history).at.version (omega (arith, h))) ∙ ap (answer_gap c d) (true_lt (head_of c.history).at.version d.from.version h)
-
 at_version : (c : CopyOf) (d : DeltaOf) → (head_of c.history).at.version ≤ d.from.version → d.from.version ≤ (head_of c.history).at.version → absorbed c d ≡ answer_hash c d (same_hash d.from.hash (head_of c.history).at.hash)
 at_version c d low high = ap (answer_old c d) (false_lt d.from.version (head_of c.history).at.version low) ∙ ap (answer_gap c d) (false_lt (head_of c.history).at.version d.from.version high)
-
-pub absorbed_diverged : (c : CopyOf) (d : DeltaOf) → (head_of c.history).at.version ≤ d.from.version → d.from.version ≤ (head_of c.history).at.version → same_hash d.from.hash (head_of c.history).at.hash ≡ false
-    → absorbed c d ≡ Diverged (head_of c.history).at d.from
-absorbed_diverged c d low high e = at_version c d low high ∙ ap (answer_hash c d) e
 
 -- a follower with nothing pending refuses a delta that starts where it is, or advances
 stays_or_moves : (f : FollowerOf) (d : DeltaOf) (o : Option Over) (r : Option ReplicaOf) → answer_as (advance f d o).0 r ≡ taken_if r
@@ -149,9 +138,6 @@ absorbed_here c d e =
     let hash : same_hash d.from.hash (head_of c.history).at.hash ≡ true = (bytes_decides d.from.hash (head_of c.history).at.hash).1 (ap (λ (v : VersionAt). v.hash) e) in
     at_version c d (omega (arith, version)) (omega (arith, version)) ∙ ap (answer_hash c d) hash
     ∙ stays_or_moves (onlooker c.history) d (over None [] (acts_of d)) (absorb c.history.name (in_world c) d)
-
-pub absorbed_took : (c : CopyOf) (d : DeltaOf) → d.from ≡ (head_of c.history).at → IsNext c.history.name c.history.deltas d → absorbed c d ≡ Took
-absorbed_took c d e n = absorbed_here c d e ∙ ap taken_if (takes c.history.name (in_world c) d n)
 
 pub absorbed_illegal : (c : CopyOf) (d : DeltaOf) → d.from ≡ (head_of c.history).at → IsLegal c.history.name c.history.deltas → AreNormal d.ops → ¬ (IsLegal c.history.name (c.history.deltas ++ d ∷ [])) → absorbed c d ≡ NotLegal
 absorbed_illegal c d e l normal other = absorbed_here c d e ∙ go (absorb c.history.name (in_world c) d) refl

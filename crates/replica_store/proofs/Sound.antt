@@ -3,7 +3,7 @@
 --     gone, others      in a list without an id
 --     longer            in a list with one more
 --     sound_took, sound_waits, sound_noted, sound_fewer     the calls
-use Rattle.std.proofs.Common.{◌≡◌, ◌+◌, ◌≤◌, ℕ, zero, suc, Bool, true, false, not, cond, ◌||◌, List, [], ◌∷◌, ◌++◌, map, refl, sym, ap, subst, ◌∙◌, arith, true≢false, if◌then◌else◌}
+use Rattle.std.proofs.Common.{◌≡◌, ◌+◌, ◌≤◌, ℕ, suc, Bool, true, false, not, cond, ◌||◌, List, [], ◌∷◌, ◌++◌, map, refl, sym, ap, subst, ◌∙◌, arith, true≢false, if◌then◌else◌}
 use Rattle.std.specs.List.{filter}
 use Rattle.wave_base.specs.Versions.{IdOf, same_id}
 use Rattle.wave_base.proofs.Same.{same_id-is, same_id-refl}

@@ -4,7 +4,7 @@
 --     queue_tells, note_tells, take_tells, letting_go_tells     the calls
 use Rattle.std.proofs.Common.{◌≡◌, Bool, true, false, not, cond, ◌||◌, List, [], ◌∷◌, ◌++◌, Option, Some, None, refl, sym, ap, subst, ◌∙◌, true≢false}
 use Rattle.wave_base.specs.Versions.{IdOf, same_id}
-use Rattle.wave_base.proofs.Same.{same_id-is, same_id-refl}
+use Rattle.wave_base.proofs.Same.{same_id-is}
 use Rattle.wavelet_op.specs.declared.verdict.Verdict.{Verdict}
 use Rattle.replica_store.specs.declared.outcomes.Noted.{Noted}
 use Rattle.replica_store.specs.Settling.{is_claimed, unclaimed, fewer, noted_for, unnoted, noted_if, noted_while}
@@ -55,7 +55,6 @@ or_true false = refl
 claimed_more : (i j : IdOf) (is : List IdOf) → same_id j i ≡ false → is_claimed i (is ++ j ∷ []) ≡ is_claimed i is
 claimed_more i j [] e = ap (λ b. b || false) (other i j e)
 claimed_more i j (k ∷ is) e = ap (λ b. same_id i k || b) (claimed_more i j is e)
-
 
 unclaimed_other : (i j : IdOf) (is : List IdOf) → is_claimed i (unclaimed j is) ≡ true → is_claimed i is ≡ true
 unclaimed_other i j [] e = e

@@ -1,4 +1,4 @@
-ghost use Rattle.std.specs.Prelude.{◌≡◌, true, false, [], Some, IfOk, OnOk, OnErr, option_copied, slice_get};
+ghost use Rattle.std.specs.Prelude.{◌≡◌, false, [], Some, IfOk, OnOk, OnErr, option_copied, slice_get};
 ghost use Rattle.delta_history.specs.Copying.{IsKeptOutcome};
 ghost use Rattle.delta_history.specs.Histories.{head_of};
 ghost use Rattle.delta_history.specs.Legal.{has_id, IsNext};

@@ -1,4 +1,4 @@
-use Rattle.std.proofs.Common.{◌≡◌, Bool, false, refl, sym, ap, ◌∙◌}
+use Rattle.std.proofs.Common.{◌≡◌, Bool, false, refl, ap, ◌∙◌}
 use Rattle.replica_store.specs.Copies.{CopyOf}
 use Rattle.replica_store.specs.Settling.{is_claimed, noted_while, let_go_claimed, let_go_in}
 use Rattle.replica_store.proofs.Sound.{sound_fewer, sound_as}

@@ -1,4 +1,4 @@
-use Rattle.std.proofs.Common.{◌≡◌, ◌++◌, ◌∷◌, [], List, false, sym, ap, subst, ◌∙◌}
+use Rattle.std.proofs.Common.{◌≡◌, ◌++◌, ◌∷◌, [], false, sym, ap, subst, ◌∙◌}
 use Rattle.wave_base.specs.Versions.{IdOf}
 use Rattle.delta_history.specs.Legal.{has_id}
 use Rattle.replica_store.specs.Copies.{CopyOf}
