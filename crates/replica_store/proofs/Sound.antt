@@ -173,9 +173,9 @@ by_id j P own rest i = go (same_id j i) refl
     go true e = subst P (same_id-is j i e) own
     go false e = rest i e
 
-pub sound_took : (b : CopyOf) (h : HistoryOf) (d : DeltaOf) → IsSound b → IsGrown b.history d h → has_id d.id b.history.deltas ≡ false
-    → IsSound (record { history = h; waiting = without d.id b.waiting; noted = unnoted d.id b.noted; claims = unclaimed d.id b.claims; dropped = false })
-sound_took b h d s g new = record {
+pub sound_took : (b : CopyOf) (h : HistoryOf) (d : DeltaOf) (p : Bool) → IsSound b → IsGrown b.history d h → has_id d.id b.history.deltas ≡ false
+    → IsSound (record { history = h; waiting = without d.id b.waiting; noted = unnoted d.id b.noted; claims = unclaimed d.id b.claims; dropped = p })
+sound_took b h d p s g new = record {
   once = by_id d.id (λ i. waits i (without d.id b.waiting) + notes i (unnoted d.id b.noted) + stands i h.deltas ≤ 1)
       (let t = times_own d.id in let u = grown d.id in let v = stands_none d.id b.history.deltas new in omega (arith, w0, n0, t, u, v))
       (λ i e. let w = unsettled i d.id b.waiting e in let n = others (λ (n : Noted). n.id) i d.id b.noted e in let t = times_other i d.id e in let u = grown i in let o = s.once i in omega (arith, w, n, t, u, o));

@@ -16,7 +16,7 @@ invariant_of-self c =
     let after = c.push_copy.new.history in
     let grown = subst (λ (d : DeltaOf). IsGrown before.history d after) (sym c.delta.view_is) c.in-Ok.ensures.grown in
     let new = subst (λ (d : DeltaOf). has_id d.id before.history.deltas ≡ false) (sym c.delta.view_is) c.in-Ok.ensures.next.new in
-    sound_as after _ _ _ _ _ _ false c.settle.ensures c.forget.ensures c.release.ensures (sound_took before after _ c.self.invariant grown new)
+    sound_as after _ _ _ _ _ _ _ c.settle.ensures c.forget.ensures c.release.ensures (sound_took before after _ _ c.self.invariant grown new)
 
 pub returns-in-Err-NotLegal-clause-answer : goal.returns-in-Err-NotLegal-clause-answer
 returns-in-Err-NotLegal-clause-answer c =
