@@ -57,7 +57,7 @@ takes name r d n =
     let is : absorb_at r d p ≡ Some (grown r d) = ap (λ t. cond t (absorb_to r d p (next_point p d)) None) version ∙ (ap (absorb_to r d p) n.goes ∙ ap (λ t. cond t (Some (grown r d)) None) may) in
     and_then_is (replay (start name) r.deltas) (absorb_at r d) p n.is_head ∙ is
 
--- a test that was passed, and what is behind it
+-- a test that was passed, and what stood under it
 record Passed {A : Type 0} (b : Bool) (o : Option A) (x : A) : Type 0 where
   test : b ≡ true
   rest : o ≡ Some x

@@ -2,4 +2,4 @@ pub mod Entries
 pub mod Kept
 pub mod Absorbs
 pub mod Sound
-pub mod Told
+pub mod Held

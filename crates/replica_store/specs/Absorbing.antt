@@ -3,17 +3,17 @@
 --     onlooker h              a follower at the head of the history, with nothing pending
 --     absorbed c d            the answer to a delta. It is that of the onlooker, unless the delta starts at the head: then it is taken
 --                             exactly where the copy in the world absorbs it
---     IsTaken b d c           the copy after it took the delta: the history ends with it, in the world the copy absorbed it, and for
---                             its id nothing is noted and there is no claim
+--     IsTaken b d c           the copy after it took the delta: the history ends with it, its id waits no more, nothing is noted for
+--                             the id and there is no claim on it, and the copy isn't dropped; in the world the copy absorbed it
 --     IsAfter b d a c         the copy after the answer: only `Took` changes it
-use Rattle.std.specs.Prelude.{◌≡◌, [], Option, Some, None}
+use Rattle.std.specs.Prelude.{◌≡◌, false, [], Option, Some, None}
 use Rattle.wavelet_op.specs.Deltas.{DeltaOf}
 use Rattle.delta_history.specs.Histories.{HistoryOf, head_of, IsGrown}
 use Rattle.follower_rules.specs.declared.received.Received.{Received}
 use Rattle.follower_rules.specs.declared.received.Received.TheVariants as received
 use Rattle.follower_rules.specs.Followers.{FollowerOf}
 use Rattle.follower_rules.specs.Receiving.{receive}
-use Rattle.follower_rules.specs.Replicas.{ReplicaOf, absorb}
+use Rattle.follower_rules.specs.Replicas.{ReplicaOf, without, absorb}
 use Rattle.peer_turns.specs.declared.absorbed.Absorbed.{Absorbed}
 use Rattle.peer_turns.specs.declared.absorbed.Absorbed.TheVariants.{Old, Gap, Diverged, NotLegal, Took}
 use Rattle.replica_store.specs.Copies.{CopyOf, in_world, IsSameCopy}
@@ -43,9 +43,11 @@ absorbed c d = answer_as (receive (onlooker c.history) d).0 (absorb c.history.na
 
 pub record IsTaken (b : CopyOf) (d : DeltaOf) (c : CopyOf) : Type 0 where
   pub grown : IsGrown b.history d c.history
-  pub world : absorb b.history.name (in_world b) d ≡ Some (in_world c)
+  pub waiting : c.waiting ≡ without d.id b.waiting
   pub noted : c.noted ≡ unnoted d.id b.noted
   pub claims : c.claims ≡ unclaimed d.id b.claims
+  pub dropped : c.dropped ≡ false
+  pub world : absorb b.history.name (in_world b) d ≡ Some (in_world c)
 
 abbrev pub IsAfter : CopyOf → DeltaOf → Absorbed → CopyOf → Type 0
 IsAfter b d Old c = IsSameCopy b c

@@ -1,9 +1,9 @@
 -- The laws of copies.
 --     AbsorbsNext, NextIsAbsorbed     the copy in the world absorbs exactly what may come next in its history: one definition of the
 --                             next delta
---     IsTold c all            for each id on whose outcome there is a claim, what is noted is as in this list, from which nothing was
---                             let go
---     QueueTells, NoteTells, TakeTells, LettingGoTells     each call keeps it so: nothing is lost that somebody has a claim on
+--     IsAsNoted c all         for each id on whose outcome there is a claim, what is noted is as in this list, from which nothing
+--                             was let go
+--     QueueKeeps, NoteKeeps, TakeKeeps, LettingGoKeeps     each call keeps it so: nothing is lost that somebody has a claim on
 use Rattle.std.specs.Prelude.{◌≡◌, true, List, [], ◌∷◌, ◌++◌, Some}
 use Rattle.doc_items.specs.Maps.{Key}
 use Rattle.wave_base.specs.Versions.{IdOf}
@@ -28,17 +28,17 @@ NextIsAbsorbed = (name : Key) (r s : ReplicaOf) (d : DeltaOf) → AreNormal d.op
 
 -- ---- claims
 
-abbrev pub IsTold : CopyOf → List Noted → Type 0
-IsTold c all = (i : IdOf) → is_claimed i c.claims ≡ true → noted_for i c.noted ≡ noted_for i all
+abbrev pub IsAsNoted : CopyOf → List Noted → Type 0
+IsAsNoted c all = (i : IdOf) → is_claimed i c.claims ≡ true → noted_for i c.noted ≡ noted_for i all
 
-abbrev pub QueueTells : Type 0
-QueueTells = (c : CopyOf) (all : List Noted) (s : Submission) → IsTold c all → IsTold (waits_in c s) (unnoted s.id all)
+abbrev pub QueueKeeps : Type 0
+QueueKeeps = (c : CopyOf) (all : List Noted) (s : Submission) → IsAsNoted c all → IsAsNoted (waits_in c s) (unnoted s.id all)
 
-abbrev pub NoteTells : Type 0
-NoteTells = (c : CopyOf) (all : List Noted) (i : IdOf) (v : Verdict) → IsTold c all → IsTold (settled_in c i v) (all ++ record { id = i; verdict = v } ∷ [])
+abbrev pub NoteKeeps : Type 0
+NoteKeeps = (c : CopyOf) (all : List Noted) (i : IdOf) (v : Verdict) → IsAsNoted c all → IsAsNoted (settled_in c i v) (all ++ record { id = i; verdict = v } ∷ [])
 
-abbrev pub TakeTells : Type 0
-TakeTells = (b c : CopyOf) (all : List Noted) (d : DeltaOf) → IsTold b all → IsTaken b d c → IsTold c (unnoted d.id all)
+abbrev pub TakeKeeps : Type 0
+TakeKeeps = (b c : CopyOf) (all : List Noted) (d : DeltaOf) → IsAsNoted b all → IsTaken b d c → IsAsNoted c (unnoted d.id all)
 
-abbrev pub LettingGoTells : Type 0
-LettingGoTells = (c : CopyOf) (all : List Noted) (i : IdOf) → IsTold c all → IsTold (less_claimed c i) all
+abbrev pub LettingGoKeeps : Type 0
+LettingGoKeeps = (c : CopyOf) (all : List Noted) (i : IdOf) → IsAsNoted c all → IsAsNoted (less_claimed c i) all

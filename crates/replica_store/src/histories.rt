@@ -21,7 +21,7 @@ pub(crate) fn kept(history: &History, id: &DeltaId) -> Option<Kept>
     history.kept(id)
 }
 
-/// An equal delta is behind the others. The refusals are those of `push_applied`.
+/// An equal delta is after the others. The refusals are those of `push_applied`.
 pub(crate) fn push_copy(
     alloc: Global,
     history: &mut History,

@@ -1,4 +1,4 @@
-ghost use Rattle.replica_store.specs.Laws.{AbsorbsNext, NextIsAbsorbed, QueueTells, NoteTells, TakeTells, LettingGoTells};
+ghost use Rattle.replica_store.specs.Laws.{AbsorbsNext, NextIsAbsorbed, QueueKeeps, NoteKeeps, TakeKeeps, LettingGoKeeps};
 
 /// The law of the next delta: a copy in the world absorbs exactly what may come next in its history.
 pub fn copies_absorb()
@@ -8,8 +8,8 @@ pub fn copies_absorb()
 
 /// The law of claims: what is noted for an id on whose outcome there is a claim is what would be noted if nothing was ever let go.
 pub fn claims_hold()
-    ensures queue { QueueTells }
-    ensures note { NoteTells }
-    ensures take { TakeTells }
-    ensures let_go { LettingGoTells }
+    ensures queue { QueueKeeps }
+    ensures note { NoteKeeps }
+    ensures take { TakeKeeps }
+    ensures let_go { LettingGoKeeps }
 {}

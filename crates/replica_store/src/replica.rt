@@ -1,4 +1,4 @@
-ghost use Rattle.std.specs.Prelude.{◌≡◌, false, [], Some, IfOk, OnOk, OnErr, option_copied, slice_get};
+ghost use Rattle.std.specs.Prelude.{◌≡◌, false, [], length, Some, IfOk, OnOk, OnErr, option_copied, slice_get};
 ghost use Rattle.delta_history.specs.Copying.{IsKeptOutcome};
 ghost use Rattle.delta_history.specs.Histories.{head_of};
 ghost use Rattle.delta_history.specs.Legal.{has_id, IsNext};
@@ -101,6 +101,13 @@ impl Replica {
         self.waiting.as_slice().get(place as usize)
     }
 
+    /// How many submissions wait for the host's verdict.
+    pub fn unsettled_count(&self) -> u64
+        ensures { result ≡ length self.now.waiting }
+    {
+        self.waiting.len() as u64
+    }
+
     /// Whether a submission of the id waits for the host's verdict.
     pub fn is_waiting(&self, id: &DeltaId) -> bool
         ensures { result ≡ is_waiting id.now self.now.waiting }
@@ -130,7 +137,7 @@ impl Replica {
         self.dropped = true;
     }
 
-    /// A submission to the copy. `Kept` exactly where the history has its id; else it waits for the host's verdict, behind the others,
+    /// A submission to the copy. `Kept` exactly where the history has its id; else it waits for the host's verdict, after the others,
     /// unless one of its id does, and there is one claim more on its outcome. After want of memory the copy is as it was.
     pub fn queue_submission(
         &mut self,

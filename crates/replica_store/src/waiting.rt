@@ -18,7 +18,7 @@ pub(crate) fn is_waiting(list: &[Submission], id: &DeltaId) -> bool
     false
 }
 
-/// The submission waits behind the others, unless one of its id does. After want of memory all is as it was.
+/// The submission waits after the others, unless one of its id does. After want of memory all is as it was.
 pub(crate) fn queue(list: &mut Vec<Submission>, submission: Submission) -> Result<(), Memory>
     ensures ok { OnOk result (list.new.items ≡ (if is_waiting submission.id list.old.items then list.old.items else list.old.items ++ submission ∷ [])) }
     ensures same { OnErr result (list.new.items ≡ list.old.items) }

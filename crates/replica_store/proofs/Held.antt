@@ -1,14 +1,14 @@
 -- What is noted for an id with a claim is as if nothing was ever let go.
 --     noted_own, noted_other     what is noted for an id among what was noted for others
 --     noted_more                 with one verdict more
---     queue_tells, note_tells, take_tells, letting_go_tells     the calls
+--     queue_keeps, note_keeps, take_keeps, letting_go_keeps     the calls
 use Rattle.std.proofs.Common.{◌≡◌, Bool, true, false, not, cond, ◌||◌, List, [], ◌∷◌, ◌++◌, Option, Some, None, refl, sym, ap, subst, ◌∙◌, true≢false}
 use Rattle.wave_base.specs.Versions.{IdOf, same_id}
 use Rattle.wave_base.proofs.Same.{same_id-is}
 use Rattle.wavelet_op.specs.declared.verdict.Verdict.{Verdict}
 use Rattle.replica_store.specs.declared.outcomes.Noted.{Noted}
 use Rattle.replica_store.specs.Settling.{is_claimed, unclaimed, fewer, noted_for, unnoted, noted_if, noted_while}
-use Rattle.replica_store.specs.Laws.{QueueTells, NoteTells, TakeTells, LettingGoTells}
+use Rattle.replica_store.specs.Laws.{QueueKeeps, NoteKeeps, TakeKeeps, LettingGoKeeps}
 use Rattle.replica_store.proofs.Sound.{other, by_id}
 
 -- ---- what is noted
@@ -76,39 +76,39 @@ fewer_claimed i j (k ∷ is) e = go (same_id j k) (same_id i k) refl e (fewer_cl
 
 -- ---- the calls
 
-pub queue_tells : QueueTells
-queue_tells c all s told = by_id s.id (λ i. is_claimed i (c.claims ++ s.id ∷ []) ≡ true → noted_for i (unnoted s.id c.noted) ≡ noted_for i (unnoted s.id all))
+pub queue_keeps : QueueKeeps
+queue_keeps c all s same = by_id s.id (λ i. is_claimed i (c.claims ++ s.id ∷ []) ≡ true → noted_for i (unnoted s.id c.noted) ≡ noted_for i (unnoted s.id all))
     (λ m. noted_own s.id c.noted ∙ sym (noted_own s.id all))
-    (λ i e m. noted_other i s.id c.noted e ∙ told i (sym (claimed_more i s.id c.claims e) ∙ m) ∙ sym (noted_other i s.id all e))
+    (λ i e m. noted_other i s.id c.noted e ∙ same i (sym (claimed_more i s.id c.claims e) ∙ m) ∙ sym (noted_other i s.id all e))
 
-pub note_tells : NoteTells
-note_tells c all i v told = λ k m. go k m (is_claimed i c.claims) refl
+pub note_keeps : NoteKeeps
+note_keeps c all i v same = λ k m. go k m (is_claimed i c.claims) refl
   where
     own : Noted
     own = record { id = i; verdict = v }
 
     go : (k : IdOf) → is_claimed k c.claims ≡ true → (t : Bool) → is_claimed i c.claims ≡ t → noted_for k (noted_if t c.noted i v) ≡ noted_for k (all ++ own ∷ [])
-    go k m true e = noted_more k c.noted own ∙ ap (or_else k own) (told k m) ∙ sym (noted_more k all own)
-    go k m false e = told k m ∙ sym (noted_more k all own ∙ more_other k own (noted_for k all) (apart (same_id k i) refl))
+    go k m true e = noted_more k c.noted own ∙ ap (or_else k own) (same k m) ∙ sym (noted_more k all own)
+    go k m false e = same k m ∙ sym (noted_more k all own ∙ more_other k own (noted_for k all) (apart (same_id k i) refl))
       where
         apart : (b : Bool) → same_id k i ≡ b → b ≡ false
         apart false s = refl
         apart true s = absurd (true≢false (sym m ∙ subst (λ z. is_claimed z c.claims ≡ false) (sym (same_id-is k i s)) e))
 
-pub take_tells : TakeTells
-take_tells b c all d told t = λ i m. subst (λ ns. noted_for i ns ≡ noted_for i (unnoted d.id all)) (sym t.noted) (go i (subst (λ is. is_claimed i is ≡ true) t.claims m))
+pub take_keeps : TakeKeeps
+take_keeps b c all d same t = λ i m. subst (λ ns. noted_for i ns ≡ noted_for i (unnoted d.id all)) (sym t.noted) (go i (subst (λ is. is_claimed i is ≡ true) t.claims m))
   where
     go : (i : IdOf) → is_claimed i (unclaimed d.id b.claims) ≡ true → noted_for i (unnoted d.id b.noted) ≡ noted_for i (unnoted d.id all)
     go = by_id d.id (λ i. is_claimed i (unclaimed d.id b.claims) ≡ true → noted_for i (unnoted d.id b.noted) ≡ noted_for i (unnoted d.id all))
         (λ m. noted_own d.id b.noted ∙ sym (noted_own d.id all))
-        (λ i e m. noted_other i d.id b.noted e ∙ told i (unclaimed_other i d.id b.claims m) ∙ sym (noted_other i d.id all e))
+        (λ i e m. noted_other i d.id b.noted e ∙ same i (unclaimed_other i d.id b.claims m) ∙ sym (noted_other i d.id all e))
 
-pub letting_go_tells : LettingGoTells
-letting_go_tells c all i told = go (is_claimed i (fewer i c.claims)) refl
+pub letting_go_keeps : LettingGoKeeps
+letting_go_keeps c all i same = go (is_claimed i (fewer i c.claims)) refl
   where
     go : (t : Bool) → is_claimed i (fewer i c.claims) ≡ t → (k : IdOf) → is_claimed k (fewer i c.claims) ≡ true → noted_for k (noted_while t i c.noted) ≡ noted_for k all
-    go true e k m = told k (fewer_claimed k i c.claims m)
+    go true e k m = same k (fewer_claimed k i c.claims m)
     go false e k m = by_id i (λ j. is_claimed j (fewer i c.claims) ≡ true → noted_for j (unnoted i c.noted) ≡ noted_for j all)
         (λ n. absurd (true≢false (sym n ∙ e)))
-        (λ j f n. noted_other j i c.noted f ∙ told j (fewer_claimed j i c.claims n))
+        (λ j f n. noted_other j i c.noted f ∙ same j (fewer_claimed j i c.claims n))
         k m
