@@ -12,10 +12,10 @@ use Rattle.wavelet_op.specs.declared.delta.Submission.{Submission}
 use Rattle.wavelet_op.specs.declared.verdict.Verdict.{Verdict}
 use Rattle.delta_history.specs.Histories.{HistoryOf, IsGrown}
 use Rattle.delta_history.specs.Legal.{has_id}
-use Rattle.follower_rules.specs.Replicas.{is_waiting, without}
+use Rattle.follower_rules.specs.Replicas.{ReplicaOf, is_waiting, without}
 use Rattle.replica_store.specs.declared.outcomes.Noted.{Noted}
 use Rattle.replica_store.specs.Copies.{CopyOf, times, IsSound}
-use Rattle.replica_store.specs.Settling.{is_claimed, unclaimed, fewer, unnoted, noted_if, noted_while}
+use Rattle.replica_store.specs.Settling.{is_claimed, unclaimed, fewer, unnoted, with_waiting, noted_if, noted_while}
 use Rattle.replica_store.proofs.Entries.{filter_is}
 
 -- ---- an id more
@@ -202,7 +202,7 @@ pub sound_as : (h : HistoryOf) (ws ws' : List Submission) (ns ns' : List Noted) 
 sound_as h ws ws' ns ns' is is' p a b c s = subst IsSound (λ i. record { history = h; waiting = sym a i; noted = sym b i; claims = sym c i; dropped = p }) s
 
 pub sound_waits : (b : CopyOf) (s : Submission) → IsSound b → has_id s.id b.history.deltas ≡ false
-    → IsSound (record { history = b.history; waiting = if is_waiting s.id b.waiting then b.waiting else b.waiting ++ s ∷ []; noted = unnoted s.id b.noted; claims = b.claims ++ s.id ∷ []; dropped = b.dropped })
+    → IsSound (record { history = b.history; waiting = with_waiting s b.waiting; noted = unnoted s.id b.noted; claims = b.claims ++ s.id ∷ []; dropped = b.dropped })
 sound_waits b s o new = go (is_waiting s.id b.waiting) refl
   where
     n0 : notes s.id (unnoted s.id b.noted) ≡ 0
@@ -211,7 +211,10 @@ sound_waits b s o new = go (is_waiting s.id b.waiting) refl
     d0 : stands s.id b.history.deltas ≡ 0
     d0 = stands_none s.id b.history.deltas new
 
-    go : (t : Bool) → is_waiting s.id b.waiting ≡ t → IsSound (record { history = b.history; waiting = if t then b.waiting else b.waiting ++ s ∷ []; noted = unnoted s.id b.noted; claims = b.claims ++ s.id ∷ []; dropped = b.dropped })
+    lined_up : Bool → List Submission
+    lined_up t = (cond {A = ReplicaOf} t (record { deltas = []; waiting = b.waiting; dropped = false }) (record { deltas = []; waiting = b.waiting ++ s ∷ []; dropped = false })).waiting
+
+    go : (t : Bool) → is_waiting s.id b.waiting ≡ t → IsSound (record { history = b.history; waiting = lined_up t; noted = unnoted s.id b.noted; claims = b.claims ++ s.id ∷ []; dropped = b.dropped })
     go true e = record {
       once = by_id s.id (λ i. waits i b.waiting + notes i (unnoted s.id b.noted) + stands i b.history.deltas ≤ 1)
           (let m = o.once s.id in omega (arith, n0, m))

@@ -1,6 +1,7 @@
 -- A copy of another domain's wavelet.
 --     CopyOf                  its history; the submissions that wait for the host's verdict, in order; the verdicts that were noted; an
 --                             id for each claim on an outcome; whether the host gives it no more
+--     copy ..                 the copy of these parts
 --     in_world c              the copy as it is in the world
 --     waiting_ids c, noted_ids c, delta_ids c     the ids of what waits, of what was noted, and of the deltas
 --     times i is              how often an id stands in a list
@@ -21,6 +22,9 @@ pub record CopyOf : Type 0 where
   pub noted : List Noted
   pub claims : List IdOf
   pub dropped : Bool
+
+abbrev pub copy : HistoryOf → List Submission → List Noted → List IdOf → Bool → CopyOf
+copy history waiting noted claims dropped = record { history = history; waiting = waiting; noted = noted; claims = claims; dropped = dropped }
 
 abbrev pub in_world : CopyOf → ReplicaOf
 in_world c = record { deltas = c.history.deltas; waiting = c.waiting; dropped = c.dropped }

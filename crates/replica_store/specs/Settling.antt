@@ -7,6 +7,7 @@
 --     noted_for i ns          the verdict that was noted for the id
 --     unnoted i ns            what was noted for others
 --     outcome c i             the acknowledgement of the id's delta, where the history has it, else what was noted for the id
+--     with_waiting s ss       what waits with one submission more, unless one of its id does, as in the world
 --     queue_in c s            the answer to a submission, and the copy after it: the submission waits, once, unless the history has it;
 --                             while it waits nothing is noted for it, and there is one claim more on its outcome
 --     note_in c i v           whether the id waits, and the copy after the host's verdict on it: it waits no more, and the verdict is
@@ -23,11 +24,11 @@ use Rattle.wavelet_op.specs.declared.verdict.Verdict.TheVariants.{Ack}
 use Rattle.delta_history.specs.declared.kept.Kept.{Kept}
 use Rattle.delta_history.specs.Points.{start}
 use Rattle.delta_history.specs.Verdicts.{kept}
-use Rattle.follower_rules.specs.Replicas.{is_waiting, queue, settle}
+use Rattle.follower_rules.specs.Replicas.{is_waiting, without, queue}
 use Rattle.replica_store.specs.declared.outcomes.Noted.{Noted}
 use Rattle.replica_store.specs.declared.queued.Queued.{Queued}
 use Rattle.replica_store.specs.declared.queued.Queued.TheVariants as queued
-use Rattle.replica_store.specs.Copies.{CopyOf, in_world}
+use Rattle.replica_store.specs.Copies.{CopyOf}
 
 -- ---- claims
 
@@ -67,8 +68,11 @@ outcome c i = outcome_kept i c.noted (kept_by c i)
 
 -- ---- a submission
 
+abbrev pub with_waiting : Submission → List Submission → List Submission
+with_waiting s ss = (queue (record { deltas = []; waiting = ss; dropped = false }) s).waiting
+
 abbrev pub waits_in : CopyOf → Submission → CopyOf
-waits_in c s = record { history = c.history; waiting = (queue (in_world c) s).waiting; noted = unnoted s.id c.noted; claims = c.claims ++ s.id ∷ []; dropped = c.dropped }
+waits_in c s = record c { waiting = with_waiting s c.waiting; noted = unnoted s.id c.noted; claims = c.claims ++ s.id ∷ [] }
 
 abbrev pub queue_kept : CopyOf → Submission → Option Kept → Queued × CopyOf
 queue_kept c s (Some k) = (queued.Kept k, c)
@@ -84,7 +88,7 @@ noted_if false ns i v = ns
 noted_if true ns i v = ns ++ record { id = i; verdict = v } ∷ []
 
 abbrev pub settled_in : CopyOf → IdOf → Verdict → CopyOf
-settled_in c i v = record { history = c.history; waiting = (settle (in_world c) i).waiting; noted = noted_if (is_claimed i c.claims) c.noted i v; claims = c.claims; dropped = c.dropped }
+settled_in c i v = record c { waiting = without i c.waiting; noted = noted_if (is_claimed i c.claims) c.noted i v }
 
 abbrev pub note_waiting : CopyOf → IdOf → Verdict → Bool → Bool × CopyOf
 note_waiting c i v false = (false, c)
@@ -100,7 +104,7 @@ noted_while false i ns = unnoted i ns
 noted_while true i ns = ns
 
 abbrev pub less_claimed : CopyOf → IdOf → CopyOf
-less_claimed c i = record { history = c.history; waiting = c.waiting; noted = noted_while (is_claimed i (fewer i c.claims)) i c.noted; claims = fewer i c.claims; dropped = c.dropped }
+less_claimed c i = record c { noted = noted_while (is_claimed i (fewer i c.claims)) i c.noted; claims = fewer i c.claims }
 
 abbrev pub let_go_claimed : CopyOf → IdOf → Bool → Bool × CopyOf
 let_go_claimed c i false = (false, c)
@@ -112,4 +116,4 @@ let_go_in c i = let_go_claimed c i (is_claimed i c.claims)
 -- ---- a drop
 
 abbrev pub drop_in : CopyOf → CopyOf
-drop_in c = record { history = c.history; waiting = c.waiting; noted = c.noted; claims = c.claims; dropped = true }
+drop_in c = record c { dropped = true }

@@ -48,15 +48,15 @@ impl Model for Replica {
     ghost use Rattle.delta_history.specs.contracts.history.History as history_row;
     ghost use Rattle.wavelet_op.specs.contracts.delta.Submission as submission_row;
     ghost use Rattle.replica_store.specs.contracts.outcomes.Noted as noted_row;
-    ghost use Rattle.replica_store.specs.Copies.{CopyOf, IsSound};
+    ghost use Rattle.replica_store.specs.Copies.{CopyOf, copy, IsSound};
 
     ghost Value = { CopyOf };
 
     ghost coded = { Prim.hlevel (codes, history_row.the_row.coded, submission_row.the_row.coded, noted_row.the_row.coded) };
 
-    ghost view = { λ r. record { history = r.history; waiting = r.waiting.items; noted = r.noted.items; claims = r.claims.items; dropped = r.dropped } };
+    ghost view = { λ r. copy r.history r.waiting.items r.noted.items r.claims.items r.dropped };
 
-    ghost invariant = { λ r. IsSound (record { history = r.history; waiting = r.waiting.items; noted = r.noted.items; claims = r.claims.items; dropped = r.dropped }) };
+    ghost invariant = { λ r. IsSound (copy r.history r.waiting.items r.noted.items r.claims.items r.dropped) };
 }
 
 impl Replica {

@@ -1,6 +1,7 @@
 // Submissions that wait for the host's verdict.
-ghost use Rattle.std.specs.Prelude.{◌≡◌, ◌++◌, ◌∷◌, [], if◌then◌else◌, OnOk, OnErr};
+ghost use Rattle.std.specs.Prelude.{◌≡◌, OnOk, OnErr};
 ghost use Rattle.follower_rules.specs.Replicas.{is_waiting, without};
+ghost use Rattle.replica_store.specs.Settling.{with_waiting};
 
 use doc_items::Memory;
 use wave_base::DeltaId;
@@ -20,7 +21,7 @@ pub(crate) fn is_waiting(list: &[Submission], id: &DeltaId) -> bool
 
 /// The submission waits after the others, unless one of its id does. After want of memory all is as it was.
 pub(crate) fn queue(list: &mut Vec<Submission>, submission: Submission) -> Result<(), Memory>
-    ensures ok { OnOk result (list.new.items ≡ (if is_waiting submission.id list.old.items then list.old.items else list.old.items ++ submission ∷ [])) }
+    ensures ok { OnOk result (list.new.items ≡ with_waiting submission list.old.items) }
     ensures same { OnErr result (list.new.items ≡ list.old.items) }
 {
     if !is_waiting(list.as_slice(), &submission.id) {
