@@ -3,7 +3,7 @@
 --     gone, others      in a list without an id
 --     longer            in a list with one more
 --     sound_took, sound_waits, sound_noted, sound_fewer     the calls
-use Rattle.std.proofs.Common.{◌≡◌, ◌+◌, ◌≤◌, ℕ, suc, Bool, true, false, not, cond, ◌||◌, List, [], ◌∷◌, ◌++◌, map, refl, sym, ap, subst, ◌∙◌, arith, true≢false, if◌then◌else◌}
+use Rattle.std.proofs.Common.{◌≡◌, ◌+◌, ◌≤◌, ℕ, suc, Bool, true, false, not, cond, ◌||◌, List, [], ◌∷◌, ◌++◌, map, refl, sym, ap, subst, ◌∙◌, arith, true≢false}
 use Rattle.std.specs.List.{filter}
 use Rattle.wave_base.specs.Versions.{IdOf, same_id}
 use Rattle.wave_base.proofs.Same.{same_id-is, same_id-refl}
@@ -14,8 +14,8 @@ use Rattle.delta_history.specs.Histories.{HistoryOf, IsGrown}
 use Rattle.delta_history.specs.Legal.{has_id}
 use Rattle.follower_rules.specs.Replicas.{ReplicaOf, is_waiting, without}
 use Rattle.replica_store.specs.declared.outcomes.Noted.{Noted}
-use Rattle.replica_store.specs.Copies.{CopyOf, times, IsSound}
-use Rattle.replica_store.specs.Settling.{is_claimed, unclaimed, fewer, unnoted, with_waiting, noted_if, noted_while}
+use Rattle.replica_store.specs.Copies.{CopyOf, copy, times, IsSound}
+use Rattle.replica_store.specs.Settling.{is_claimed, unclaimed, fewer, unnoted, noted_if, noted_while, waits_in, settled_in, less_claimed}
 use Rattle.replica_store.proofs.Entries.{filter_is}
 
 -- ---- an id more
@@ -174,7 +174,7 @@ by_id j P own rest i = go (same_id j i) refl
     go false e = rest i e
 
 pub sound_took : (b : CopyOf) (h : HistoryOf) (d : DeltaOf) (p : Bool) → IsSound b → IsGrown b.history d h → has_id d.id b.history.deltas ≡ false
-    → IsSound (record { history = h; waiting = without d.id b.waiting; noted = unnoted d.id b.noted; claims = unclaimed d.id b.claims; dropped = p })
+    → IsSound (copy h (without d.id b.waiting) (unnoted d.id b.noted) (unclaimed d.id b.claims) p)
 sound_took b h d p s g new = record {
   once = by_id d.id (λ i. waits i (without d.id b.waiting) + notes i (unnoted d.id b.noted) + stands i h.deltas ≤ 1)
       (let t = times_own d.id in let u = grown d.id in let v = stands_none d.id b.history.deltas new in omega (arith, w0, n0, t, u, v))
@@ -198,11 +198,10 @@ sound_took b h d p s g new = record {
 
 -- with other lists that are equal
 pub sound_as : (h : HistoryOf) (ws ws' : List Submission) (ns ns' : List Noted) (is is' : List IdOf) (p : Bool) → ws' ≡ ws → ns' ≡ ns → is' ≡ is
-    → IsSound (record { history = h; waiting = ws; noted = ns; claims = is; dropped = p }) → IsSound (record { history = h; waiting = ws'; noted = ns'; claims = is'; dropped = p })
-sound_as h ws ws' ns ns' is is' p a b c s = subst IsSound (λ i. record { history = h; waiting = sym a i; noted = sym b i; claims = sym c i; dropped = p }) s
+    → IsSound (copy h ws ns is p) → IsSound (copy h ws' ns' is' p)
+sound_as h ws ws' ns ns' is is' p a b c s = subst IsSound (λ i. copy h (sym a i) (sym b i) (sym c i) p) s
 
-pub sound_waits : (b : CopyOf) (s : Submission) → IsSound b → has_id s.id b.history.deltas ≡ false
-    → IsSound (record { history = b.history; waiting = with_waiting s b.waiting; noted = unnoted s.id b.noted; claims = b.claims ++ s.id ∷ []; dropped = b.dropped })
+pub sound_waits : (b : CopyOf) (s : Submission) → IsSound b → has_id s.id b.history.deltas ≡ false → IsSound (waits_in b s)
 sound_waits b s o new = go (is_waiting s.id b.waiting) refl
   where
     n0 : notes s.id (unnoted s.id b.noted) ≡ 0
@@ -214,7 +213,7 @@ sound_waits b s o new = go (is_waiting s.id b.waiting) refl
     lined_up : Bool → List Submission
     lined_up t = (cond {A = ReplicaOf} t (record { deltas = []; waiting = b.waiting; dropped = false }) (record { deltas = []; waiting = b.waiting ++ s ∷ []; dropped = false })).waiting
 
-    go : (t : Bool) → is_waiting s.id b.waiting ≡ t → IsSound (record { history = b.history; waiting = lined_up t; noted = unnoted s.id b.noted; claims = b.claims ++ s.id ∷ []; dropped = b.dropped })
+    go : (t : Bool) → is_waiting s.id b.waiting ≡ t → IsSound (record b { waiting = lined_up t; noted = unnoted s.id b.noted; claims = b.claims ++ s.id ∷ [] })
     go true e = record {
       once = by_id s.id (λ i. waits i b.waiting + notes i (unnoted s.id b.noted) + stands i b.history.deltas ≤ 1)
           (let m = o.once s.id in omega (arith, n0, m))
@@ -238,8 +237,7 @@ sound_waits b s o new = go (is_waiting s.id b.waiting) refl
           (λ i f m. let l = longer (λ (x : Submission). x.id) i b.waiting s in let n = others (λ (n : Noted). n.id) i s.id b.noted f in let c = one_claim i b.claims s.id in let t = times_other i s.id f in let k = o.claims i (omega (arith, m, c, t)) in omega (arith, k, n, l));
     }
 
-pub sound_noted : (b : CopyOf) (i : IdOf) (v : Verdict) → IsSound b → is_waiting i b.waiting ≡ true
-    → IsSound (record { history = b.history; waiting = without i b.waiting; noted = noted_if (is_claimed i b.claims) b.noted i v; claims = b.claims; dropped = b.dropped })
+pub sound_noted : (b : CopyOf) (i : IdOf) (v : Verdict) → IsSound b → is_waiting i b.waiting ≡ true → IsSound (settled_in b i v)
 sound_noted b i v o waits_now = go (is_claimed i b.claims) refl
   where
     w0 : waits i (without i b.waiting) ≡ 0
@@ -248,7 +246,7 @@ sound_noted b i v o waits_now = go (is_claimed i b.claims) refl
     w1 : 1 ≤ waits i b.waiting
     w1 = waits_some i b.waiting waits_now
 
-    go : (t : Bool) → is_claimed i b.claims ≡ t → IsSound (record { history = b.history; waiting = without i b.waiting; noted = noted_if t b.noted i v; claims = b.claims; dropped = b.dropped })
+    go : (t : Bool) → is_claimed i b.claims ≡ t → IsSound (record b { waiting = without i b.waiting; noted = noted_if t b.noted i v })
     go true e = record {
       once = by_id i (λ k. waits k (without i b.waiting) + notes k (b.noted ++ record { id = i; verdict = v } ∷ []) + stands k b.history.deltas ≤ 1)
           (let l = longer (λ (n : Noted). n.id) i b.noted (record { id = i; verdict = v }) in let t = times_own i in let m = o.once i in omega (arith, w0, w1, l, t, m))
@@ -270,14 +268,13 @@ sound_noted b i v o waits_now = go (is_claimed i b.claims) refl
           (λ k f m. let w = unsettled k i b.waiting f in let c = o.claims k m in omega (arith, w, c));
     }
 
-pub sound_fewer : (b : CopyOf) (i : IdOf) → IsSound b
-    → IsSound (record { history = b.history; waiting = b.waiting; noted = noted_while (is_claimed i (fewer i b.claims)) i b.noted; claims = fewer i b.claims; dropped = b.dropped })
+pub sound_fewer : (b : CopyOf) (i : IdOf) → IsSound b → IsSound (less_claimed b i)
 sound_fewer b i o = go (is_claimed i (fewer i b.claims)) refl
   where
     n0 : notes i (unnoted i b.noted) ≡ 0
     n0 = gone (λ (n : Noted). n.id) i b.noted
 
-    go : (t : Bool) → is_claimed i (fewer i b.claims) ≡ t → IsSound (record { history = b.history; waiting = b.waiting; noted = noted_while t i b.noted; claims = fewer i b.claims; dropped = b.dropped })
+    go : (t : Bool) → is_claimed i (fewer i b.claims) ≡ t → IsSound (record b { noted = noted_while t i b.noted; claims = fewer i b.claims })
     go true e = record {
       once = o.once;
       claimed = by_id i (λ k. 1 ≤ notes k b.noted → 1 ≤ times k (fewer i b.claims))

@@ -210,7 +210,7 @@ impl Replica {
     /// A delta of the host's history. The first of these that holds: `Old` where the delta starts below the copy's version, `Gap` where
     /// it starts above it, `Diverged` where it starts there with another hash, `NotLegal` where the history with it wouldn't be legal;
     /// else `Took`: the history ends with it, its id waits no more, and the copy isn't dropped. Only `Took` changes the copy. `Old`,
-    /// `Gap` and `Diverged` take no memory.
+    /// `Gap` and `Diverged` take no memory. After want of memory all but the history's room is as it was.
     pub fn absorb(&mut self, alloc: Global, delta: &AppliedDelta) -> Result<Absorbed, Memory>
         ensures answer { IfOk result (λ a. a ≡ absorbed self.old delta.now) }
         ensures after { IfOk result (λ a. IsAfter self.old delta.now a self.new) }
