@@ -1,0 +1,4 @@
+pub mod Copies
+pub mod Settling
+pub mod Absorbing
+pub mod Laws

@@ -1,0 +1,16 @@
+//! Copies of other domains' wavelets: the history as far as it came, the submissions that wait for the host's verdict, and the
+//! verdicts that somebody still waits for.
+#![tactic(auto)]
+
+mod claims;
+mod histories;
+mod laws;
+mod outcomes;
+mod queued;
+mod replica;
+mod waiting;
+
+pub use laws::{claims_hold, copies_absorb};
+pub use peer_turns::Absorbed;
+pub use queued::Queued;
+pub use replica::Replica;
