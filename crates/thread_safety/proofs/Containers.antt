@@ -1,3 +1,5 @@
+-- A wavelet with its journal, over any disk that may go to another thread.
+--     cache_send, trail_send, cached_send, stage_send, journal_send, container_send, and each with `sync`
 use denote.RattleType.{RattleType}
 use denote.Param.Send.{IsSend, IsSync, sendable}
 use denote.Param.SendFields.{declared_send, declared_sync, variants_send, variants_sync, as_row_send, as_row_sync}
@@ -38,10 +40,12 @@ pub trail_sync : IsSync trail.the_row
 trail_sync = search (sendable, crosses, state_sync, ops_sync) depth 40
 
 cached_inside_send : IsSend cached_inside.the_row
-cached_inside_send = declared_send cached_inside.the_type (search (sendable, crosses, history_send, cache_send, trail_send) depth 40)
+cached_inside_send = declared_send cached_inside.the_type
+    (search (sendable, crosses, history_send, cache_send, trail_send) depth 40)
 
 cached_inside_sync : IsSync cached_inside.the_row
-cached_inside_sync = declared_sync cached_inside.the_type (search (sendable, crosses, history_sync, cache_sync, trail_sync) depth 40)
+cached_inside_sync = declared_sync cached_inside.the_type
+    (search (sendable, crosses, history_sync, cache_sync, trail_sync) depth 40)
 
 pub cached_send : IsSend cached.the_row
 cached_send = search (sendable, cached_inside_send) depth 10
@@ -69,13 +73,17 @@ bytes_field_sync = as_row_sync (Vec.the_field u8 Heap.the_row ghosts) bytes_sync
 
 module _ (K : RattleType) (g : Ghosts K.Denot) where
   pub journal_send : IsSend K → IsSend (journal.the_row K g)
-  journal_send s = declared_send (journal.the_type K g) (search (sendable, as_row_send, crosses, bytes_field_send, stage_send, s) depth 40)
+  journal_send s = declared_send (journal.the_type K g)
+      (search (sendable, as_row_send, crosses, bytes_field_send, stage_send, s) depth 40)
 
   pub journal_sync : IsSync K → IsSync (journal.the_row K g)
-  journal_sync s = declared_sync (journal.the_type K g) (search (sendable, as_row_sync, crosses, bytes_field_sync, stage_sync, s) depth 40)
+  journal_sync s = declared_sync (journal.the_type K g)
+      (search (sendable, as_row_sync, crosses, bytes_field_sync, stage_sync, s) depth 40)
 
   pub container_send : IsSend K → IsSend (container.the_row K g)
-  container_send s = declared_send (container.the_type K g) (search (sendable, as_row_send, crosses, cached_send, journal_send, s) depth 40)
+  container_send s = declared_send (container.the_type K g)
+      (search (sendable, as_row_send, crosses, cached_send, journal_send, s) depth 40)
 
   pub container_sync : IsSync K → IsSync (container.the_row K g)
-  container_sync s = declared_sync (container.the_type K g) (search (sendable, as_row_sync, crosses, cached_sync, journal_sync, s) depth 40)
+  container_sync s = declared_sync (container.the_type K g)
+      (search (sendable, as_row_sync, crosses, cached_sync, journal_sync, s) depth 40)

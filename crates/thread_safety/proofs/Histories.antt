@@ -1,9 +1,12 @@
+-- Deltas, a wavelet's state, and its history.
+--     delta_id_send, hashed_send, delta_send, roles_send, draft_send, state_send, ids_send, log_send, twin_send, history_send,
+--     and each with `sync`
 use denote.Param.Send.{IsSend, IsSync, sendable}
 use denote.Param.SendFields.{declared_send, declared_sync, variants_send, variants_sync}
 use Rattle.std.proofs.Crossing.{crosses}
 use Rattle.std.proofs.MapsCrossing as maps
 use Rattle.thread_safety.proofs.Operations.{name_send, name_sync, address_send, address_sync}
-use Rattle.thread_safety.proofs.States.{documents_send, documents_sync, op_send, op_sync, ops_send, ops_sync}
+use Rattle.thread_safety.proofs.States.{documents_send, documents_sync, ops_send, ops_sync}
 use Rattle.wavelet_op.specs.contracts.delta.AppliedDelta as delta
 use Rattle.wavelet_state.specs.contracts.state.WaveletState as state
 use Rattle.wavelet_state.specs.contracts.state.WaveletState.TheInside as state_inside
@@ -73,11 +76,13 @@ ids_send = search (sendable, crosses, maps.crosses, address_send) depth 40
 pub ids_sync : IsSync ids.the_row
 ids_sync = search (sendable, crosses, maps.crosses, address_sync) depth 40
 
-pub log_inside_send : IsSend log_inside.the_row
-log_inside_send = declared_send log_inside.the_type (search (sendable, crosses, ids_send, hashed_send, delta_send, name_send) depth 40)
+log_inside_send : IsSend log_inside.the_row
+log_inside_send = declared_send log_inside.the_type
+    (search (sendable, crosses, ids_send, hashed_send, delta_send, name_send) depth 40)
 
-pub log_inside_sync : IsSync log_inside.the_row
-log_inside_sync = declared_sync log_inside.the_type (search (sendable, crosses, ids_sync, hashed_sync, delta_sync, name_sync) depth 40)
+log_inside_sync : IsSync log_inside.the_row
+log_inside_sync = declared_sync log_inside.the_type
+    (search (sendable, crosses, ids_sync, hashed_sync, delta_sync, name_sync) depth 40)
 
 pub log_send : IsSend log.the_row
 log_send = search (sendable, log_inside_send) depth 10
@@ -86,10 +91,10 @@ pub log_sync : IsSync log.the_row
 log_sync = search (sendable, log_inside_sync) depth 10
 
 pub twin_send : IsSend twin.the_row
-twin_send = variants_send twin.enum (search (sendable, crosses, state_send, op_send, ops_send) depth 40)
+twin_send = variants_send twin.enum (search (sendable, crosses, state_send) depth 40)
 
 pub twin_sync : IsSync twin.the_row
-twin_sync = variants_sync twin.enum (search (sendable, crosses, state_sync, op_sync, ops_sync) depth 40)
+twin_sync = variants_sync twin.enum (search (sendable, crosses, state_sync) depth 40)
 
 history_inside_send : IsSend history_inside.the_row
 history_inside_send = declared_send history_inside.the_type (search (sendable, twin_send, log_send, state_send) depth 40)

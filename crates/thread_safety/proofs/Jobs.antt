@@ -1,3 +1,5 @@
+-- A shard, the hub, and a session's job and end.
+--     job_send, end_send
 use denote.RattleType.{RattleType}
 use denote.Param.Send.{IsSend, IsSync, sendable}
 use denote.Param.SendFields.{declared_send, declared_sync, variants_send, variants_sync, as_row_send, as_row_sync}
@@ -42,21 +44,69 @@ records_sync = search (sendable, crosses, record_sync) depth 20
 
 module _ (F K : RattleType) (f : folder.Ghosts F.Denot K.Denot) (g : disk.Ghosts K.Denot) where
   shard_send : IsSend F → IsSend K → IsSend (shard.the_row F K f g)
-  shard_send s k = declared_send (shard.the_type F K f g) (domain_send, (search (sendable, as_row_send), (shelf_send F K f g s k, (as_row_send (Vec.the_field record_row.the_row Heap.the_row ghosts) records_send, tt))))
+  shard_send s k = declared_send (shard.the_type F K f g) (
+    domain_send,
+    (
+      search (sendable, as_row_send),
+      (
+        shelf_send F K f g s k,
+        (as_row_send (Vec.the_field record_row.the_row Heap.the_row ghosts) records_send, tt),
+      ),
+    ),
+  )
 
   shard_sync : IsSync F → IsSync K → IsSync (shard.the_row F K f g)
-  shard_sync s k = declared_sync (shard.the_type F K f g) (domain_sync, (search (sendable, as_row_sync), (shelf_sync F K f g s k, (as_row_sync (Vec.the_field record_row.the_row Heap.the_row ghosts) records_sync, tt))))
+  shard_sync s k = declared_sync (shard.the_type F K f g) (
+    domain_sync,
+    (
+      search (sendable, as_row_sync),
+      (
+        shelf_sync F K f g s k,
+        (as_row_sync (Vec.the_field record_row.the_row Heap.the_row ghosts) records_sync, tt),
+      ),
+    ),
+  )
 
   hub_send : IsSend F → IsSend K → IsSend (hub.the_row F K f g)
   hub_send s k = let h = shard_send s k in declared_send (hub.the_type F K f g) (domain_send, (search (cells_send, h), tt))
 
   hub_sync : IsSend F → IsSend K → IsSync F → IsSync K → IsSync (hub.the_row F K f g)
-  hub_sync s k y z = let h = shard_send s k in let v = shard_sync y z in declared_sync (hub.the_type F K f g) (domain_sync, (search (cells_sync, h, v), tt))
+  hub_sync s k y z = let h = shard_send s k in
+      let v = shard_sync y z in
+      declared_sync (hub.the_type F K f g) (
+        domain_sync,
+        (search (cells_sync, h, v), tt),
+      )
 
 module _ (L F C G K : RattleType) (l : link.Ghosts L.Denot) (f : folder.Ghosts F.Denot K.Denot) (g : disk.Ghosts K.Denot) (c : clock.Ghosts C.Denot) where
   pub job_send : IsSend L → IsSend F → IsSync F → IsSend K → IsSync K → IsSend C → IsSend G → IsSend (job.the_row L F C G K l f g c)
-  job_send l' s y k z c' g' = let h = hub_send F K f g s k in let v = hub_sync F K f g s k y z in let p = shard_send F K f g s k in declared_send (job.the_type L F C G K l f g c) (search (as_row_send, crosses, h, v), (search (passes_send, p), (search (as_row_send, l'), (search (as_row_send, c'), (search (as_row_send, g'), (search (sendable, as_row_send), tt))))))
+  job_send l' s y k z c' g' = let h = hub_send F K f g s k in
+      let v = hub_sync F K f g s k y z in
+      let p = shard_send F K f g s k in
+      declared_send (job.the_type L F C G K l f g c) (
+        search (as_row_send, crosses, h, v),
+        (
+          search (passes_send, p),
+          (
+            search (as_row_send, l'),
+            (
+              search (as_row_send, c'),
+              (
+                search (as_row_send, g'),
+                (search (sendable, as_row_send), tt),
+              ),
+            ),
+          ),
+        ),
+      )
 
 module _ (L F K : RattleType) (f : folder.Ghosts F.Denot K.Denot) (g : disk.Ghosts K.Denot) where
   pub end_send : IsSend L → IsSend F → IsSend K → IsSend (link_end.the_row L F K f g)
-  end_send l s k = let p = shard_send F K f g s k in declared_send (link_end.the_type L F K f g) (search (as_row_send, l), (search (passes_send, p), (search (sendable, cause_send), tt)))
+  end_send l s k = let p = shard_send F K f g s k in
+      declared_send (link_end.the_type L F K f g) (
+        search (as_row_send, l),
+        (
+          search (passes_send, p),
+          (search (sendable, cause_send), tt),
+        ),
+      )

@@ -1,3 +1,5 @@
+-- Names, and an operation on a document.
+--     name_send, address_send, document_name_send, component_send, doc_op_send, and each with `sync`
 use denote.Param.Send.{IsSend, IsSync, sendable}
 use denote.Param.SendFields.{declared_send, declared_sync, variants_send, variants_sync}
 use Rattle.std.proofs.Crossing.{crosses}

@@ -1,3 +1,5 @@
+-- A rope: its pieces, the tree that holds itself, and what is inside a rope.
+--     rope_send, rope_sync
 use denote.Param.Send.{IsSend, IsSync, sendable}
 use denote.Param.SendFields.{declared_send, declared_sync, variants_send, variants_sync, as_row_send, as_row_sync}
 use denote.RattleType.{RattleType}
@@ -17,10 +19,10 @@ piece_send = search (sendable, crosses, maps.crosses) depth 40
 piece_sync : IsSync piece.the_row
 piece_sync = search (sendable, crosses, maps.crosses) depth 40
 
-pub tree_send : (x : RattleType) → IsSend x → IsSend (layer-Tree x)
+tree_send : (x : RattleType) → IsSend x → IsSend (layer-Tree x)
 tree_send x s = variants_send (type-Tree x) (search (sendable, crosses, maps.crosses, s) depth 40)
 
-pub tree_sync : (x : RattleType) → IsSync x → IsSync (layer-Tree x)
+tree_sync : (x : RattleType) → IsSync x → IsSync (layer-Tree x)
 tree_sync x s = variants_sync (type-Tree x) (search (sendable, crosses, maps.crosses, s) depth 40)
 
 node_send : (x y : RattleType) → IsSend x → IsSend y → IsSend (layer-Node x y)
@@ -30,10 +32,16 @@ node_sync : (x y : RattleType) → IsSync x → IsSync y → IsSync (layer-Node 
 node_sync x y s t = declared_sync (type-Node x y) (search (sendable, as_row_sync, piece_sync, crosses, s, t) depth 40)
 
 steps : (i : _) → Sends ring i
-steps i = elim i as (λ i'. Sends ring i') [ member-Tree ↦ record { send = λ h s. tree_send (h member-Node) (s member-Node) } | member-Node ↦ record { send = λ h s. node_send (h member-Tree) (h member-Tree) (s member-Tree) (s member-Tree) } ]
+steps i = elim i as (λ i'. Sends ring i') [
+  | member-Tree ↦ record { send = λ h s. tree_send (h member-Node) (s member-Node) }
+  | member-Node ↦ record { send = λ h s. node_send (h member-Tree) (h member-Tree) (s member-Tree) (s member-Tree) }
+]
 
 layers : (i : _) → Syncs ring i
-layers i = elim i as (λ i'. Syncs ring i') [ member-Tree ↦ record { sync = λ h s. tree_sync (h member-Node) (s member-Node) } | member-Node ↦ record { sync = λ h s. node_sync (h member-Tree) (h member-Tree) (s member-Tree) (s member-Tree) } ]
+layers i = elim i as (λ i'. Syncs ring i') [
+  | member-Tree ↦ record { sync = λ h s. tree_sync (h member-Node) (s member-Node) }
+  | member-Node ↦ record { sync = λ h s. node_sync (h member-Tree) (h member-Tree) (s member-Tree) (s member-Tree) }
+]
 
 held_send : IsSend hole-Node
 held_send = fix_send ring steps member-Node

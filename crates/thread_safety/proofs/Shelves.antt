@@ -1,3 +1,5 @@
+-- A shelf, over any folder and disk that may go to another thread.
+--     shelf_send, shelf_sync
 use denote.RattleType.{RattleType}
 use denote.Param.Send.{IsSend, IsSync, sendable}
 use denote.Param.SendFields.{declared_send, declared_sync, as_row_send, as_row_sync}
@@ -26,20 +28,26 @@ hashing_sync = search sendable depth 20
 
 module _ (K : RattleType) (g : disk.Ghosts K.Denot) where
   filed_send : IsSend K → IsSend (filed.the_row K g)
-  filed_send k = let c = container_send K g k in declared_send (filed.the_type K g) (search (sendable, as_row_send, crosses, maps.crosses, c) depth 40)
+  filed_send k = let c = container_send K g k in
+      declared_send (filed.the_type K g) (search (sendable, as_row_send, crosses, maps.crosses, c) depth 40)
 
   filed_sync : IsSync K → IsSync (filed.the_row K g)
-  filed_sync k = let c = container_sync K g k in declared_sync (filed.the_type K g) (search (sendable, as_row_sync, crosses, maps.crosses, c) depth 40)
+  filed_sync k = let c = container_sync K g k in
+      declared_sync (filed.the_type K g) (search (sendable, as_row_sync, crosses, maps.crosses, c) depth 40)
 
   containers_send : IsSend K → IsSend (containers.the_row K g)
-  containers_send k = declared_send (containers.the_type K g) (index_field_send name.the_row (filed.the_row K g) hashing fold.the_row _ _ _ _ name_send (filed_send k) hashing_send, tt)
+  containers_send k = declared_send (containers.the_type K g)
+      (index_field_send name.the_row (filed.the_row K g) hashing fold.the_row _ _ _ _ name_send (filed_send k) hashing_send, tt)
 
   containers_sync : IsSync K → IsSync (containers.the_row K g)
-  containers_sync k = declared_sync (containers.the_type K g) (index_field_sync name.the_row (filed.the_row K g) hashing fold.the_row _ _ _ _ name_sync (filed_sync k) hashing_sync, tt)
+  containers_sync k = declared_sync (containers.the_type K g)
+      (index_field_sync name.the_row (filed.the_row K g) hashing fold.the_row _ _ _ _ name_sync (filed_sync k) hashing_sync, tt)
 
 module _ (F K : RattleType) (f : folder.Ghosts F.Denot K.Denot) (g : disk.Ghosts K.Denot) where
   pub shelf_send : IsSend F → IsSend K → IsSend (shelf.the_row F K f g)
-  shelf_send s k = let c = containers_send K g k in declared_send (shelf.the_type F K f g) (search (sendable, as_row_send, crosses, s, c) depth 40)
+  shelf_send s k = let c = containers_send K g k in
+      declared_send (shelf.the_type F K f g) (search (sendable, as_row_send, crosses, s, c) depth 40)
 
   pub shelf_sync : IsSync F → IsSync K → IsSync (shelf.the_row F K f g)
-  shelf_sync s k = let c = containers_sync K g k in declared_sync (shelf.the_type F K f g) (search (sendable, as_row_sync, crosses, s, c) depth 40)
+  shelf_sync s k = let c = containers_sync K g k in
+      declared_sync (shelf.the_type F K f g) (search (sendable, as_row_sync, crosses, s, c) depth 40)

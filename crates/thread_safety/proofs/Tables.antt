@@ -1,3 +1,5 @@
+-- The table of `indexmap`, from its fields.
+--     table_send, columns_send, index_send, index_field_send, and each with `sync`
 use denote.RattleType.{RattleType}
 use denote.Hole.{as_row}
 use denote.Param.Send.{IsSend, IsSync, sendable}
@@ -30,10 +32,12 @@ table_sync = search (sendable, table_inside_sync) depth 10
 
 module _ (K V : RattleType) where
   columns_inside_send : IsSend K → IsSend V → IsSend (columns_inside.the_row K V Heap.the_row ghosts)
-  columns_inside_send k v = declared_send (columns_inside.the_type K V Heap.the_row ghosts) (search (sendable, as_row_send, crosses, k, v) depth 40)
+  columns_inside_send k v = declared_send (columns_inside.the_type K V Heap.the_row ghosts)
+      (search (sendable, crosses, k, v) depth 40)
 
   columns_inside_sync : IsSync K → IsSync V → IsSync (columns_inside.the_row K V Heap.the_row ghosts)
-  columns_inside_sync k v = declared_sync (columns_inside.the_type K V Heap.the_row ghosts) (search (sendable, as_row_sync, crosses, k, v) depth 40)
+  columns_inside_sync k v = declared_sync (columns_inside.the_type K V Heap.the_row ghosts)
+      (search (sendable, crosses, k, v) depth 40)
 
   pub columns_send : IsSend K → IsSend V → IsSend (columns.the_row K V Heap.the_row ghosts)
   columns_send k v = let inside = columns_inside_send k v in search (sendable, inside) depth 10
@@ -43,10 +47,14 @@ module _ (K V : RattleType) where
 
 module _ (K V S T : RattleType) (e : eq.Ghosts K.Denot) (h : hash.Ghosts K.Denot) (b : builder.Ghosts S.Denot T.Denot) (w : hasher.Ghosts T.Denot) where
   index_inside_send : IsSend K → IsSend V → IsSend S → IsSend (index_inside.the_row K V S Heap.the_row T e h b w ghosts)
-  index_inside_send k v s = let both = columns_send K V k v in declared_send (index_inside.the_type K V S Heap.the_row T e h b w ghosts) (search (sendable, as_row_send, crosses, both, table_send, s) depth 40)
+  index_inside_send k v s = let both = columns_send K V k v in
+      declared_send (index_inside.the_type K V S Heap.the_row T e h b w ghosts)
+      (search (sendable, crosses, both, table_send, s) depth 40)
 
   index_inside_sync : IsSync K → IsSync V → IsSync S → IsSync (index_inside.the_row K V S Heap.the_row T e h b w ghosts)
-  index_inside_sync k v s = let both = columns_sync K V k v in declared_sync (index_inside.the_type K V S Heap.the_row T e h b w ghosts) (search (sendable, as_row_sync, crosses, both, table_sync, s) depth 40)
+  index_inside_sync k v s = let both = columns_sync K V k v in
+      declared_sync (index_inside.the_type K V S Heap.the_row T e h b w ghosts)
+      (search (sendable, crosses, both, table_sync, s) depth 40)
 
   pub index_send : IsSend K → IsSend V → IsSend S → IsSend (index.the_row K V S Heap.the_row T e h b w ghosts)
   index_send k v s = let inside = index_inside_send k v s in search (sendable, inside) depth 10
