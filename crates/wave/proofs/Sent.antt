@@ -30,5 +30,10 @@ clock_send : IsSend (clock.the_row runtime.the_row)
 clock_send = search (sendable, crosses) depth 60
 
 pub thread_send : (R : RattleType) → IsSend R → IsSend (session.the_row R)
-thread_send R r = declared_send (session.the_type R) (search (as_row_send, r), (search (sendable, as_row_send, send) depth 20,
-    (search (job_send, socket_send, folder_send, folder_sync, disk_send, disk_sync, clock_send, gate_send) depth 20 fits 20000, tt)))
+thread_send R r = declared_send (session.the_type R) (
+  search (as_row_send, r),
+  (
+    search (sendable, as_row_send, send) depth 20,
+    (search (job_send, socket_send, folder_send, folder_sync, disk_send, disk_sync, clock_send, gate_send) depth 20 fits 20000, tt),
+  ),
+)

@@ -92,12 +92,7 @@ impl<R: Threads + Wait + Copy + Send + Sync + Drop + 'static> Spawner<RealJob, R
         running.is_done()
     }
 
-    fn take(
-        &mut self,
-        rt: &R,
-        _alloc: Global,
-        running: Child<SessionThread<R>>,
-    ) -> RealEnd {
+    fn take(&mut self, rt: &R, _alloc: Global, running: Child<SessionThread<R>>) -> RealEnd {
         running.join(rt)
     }
 }

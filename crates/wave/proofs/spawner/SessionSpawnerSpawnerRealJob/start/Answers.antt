@@ -8,7 +8,7 @@ use Rattle.wave.proofs.spawner.SessionSpawnerSpawnerRealJob.start.Goals as goal
 
 pub start-requires-send-W : goal.start-requires-send-W
 start-requires-send-W g c κs within = let handle : IsSend (copied 0 g.row.R) = search (sendable, c.requires) depth 10 in
-  param_send 0 _ (arg_send _ no _ (thread_send (copied 0 g.row.R) handle))
+    param_send 0 _ (arg_send _ no _ (thread_send (copied 0 g.row.R) handle))
 
 pub start-requires-send-W-End : goal.start-requires-send-W-End
 start-requires-send-W-End g c κs within = param_send 2 _ (arg_send _ no _ (end_send _ _ _ _ _ socket_send folder_send disk_send))
