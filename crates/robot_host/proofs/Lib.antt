@@ -1,0 +1,3 @@
+pub mod Participants
+pub mod Prefixes
+pub mod Walking

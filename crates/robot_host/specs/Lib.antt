@@ -1,0 +1,6 @@
+pub mod Calls
+pub mod Views
+pub mod Robots
+pub mod Presence
+pub mod Places
+pub mod Walks

@@ -1,0 +1,14 @@
+//! Participants that are programs: each is shown the deltas of others once and in order, and answers with edits.
+#![tactic(auto)]
+
+mod edit;
+mod places;
+mod presence;
+mod reaction;
+mod robot;
+mod seat;
+mod walk;
+
+pub use edit::RobotEdit;
+pub use reaction::Reaction;
+pub use robot::Robot;

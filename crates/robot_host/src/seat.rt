@@ -1,0 +1,37 @@
+use crate::Robot;
+use std::snapshot::Snapshot;
+use wave_base::Address;
+
+/// A robot of the host: one that is there, or what is known in proofs of one that isn't any more.
+pub(crate) enum Seated {
+    Here(Box<dyn Robot>),
+    /// The robot as it was last.
+    Gone(Snapshot<Box<dyn Robot>>),
+}
+
+impl Drop for Seated {
+    fn drop(self) {
+        match self {
+            Seated::Here(_robot) => {}
+            Seated::Gone(_last) => {}
+        }
+    }
+}
+
+/// The place of a robot in the host. It stays when the robot is dropped.
+pub(crate) struct Seat {
+    pub address: Address,
+    /// The robot as it was added.
+    pub first: Snapshot<Box<dyn Robot>>,
+    pub robot: Seated,
+}
+
+impl Drop for Seat {
+    fn drop(self) {
+        let Seat {
+            address: _address,
+            first: _first,
+            robot: _robot,
+        } = self;
+    }
+}
