@@ -1,3 +1,5 @@
 pub mod Participants
 pub mod Prefixes
 pub mod Walking
+pub mod Ends
+pub mod Reacting

@@ -4,3 +4,5 @@ pub mod Robots
 pub mod Presence
 pub mod Places
 pub mod Walks
+pub mod Reactions
+pub mod Showing

@@ -1,12 +1,14 @@
 //! Participants that are programs: each is shown the deltas of others once and in order, and answers with edits.
 #![tactic(auto)]
 
+mod asking;
 mod edit;
 mod places;
 mod presence;
 mod reaction;
 mod robot;
 mod seat;
+mod showing;
 mod walk;
 
 pub use edit::RobotEdit;

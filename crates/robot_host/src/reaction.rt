@@ -1,6 +1,7 @@
 use wavelet_op::Ops;
 
 /// What a robot answers to a delta.
+#[derive(Drop)]
 pub enum Reaction {
     /// Nothing.
     Quiet,
@@ -8,14 +9,4 @@ pub enum Reaction {
     Edit(Ops),
     /// It takes no part any more.
     Leave,
-}
-
-impl Drop for Reaction {
-    fn drop(self) {
-        match self {
-            Reaction::Quiet => {}
-            Reaction::Edit(_ops) => {}
-            Reaction::Leave => {}
-        }
-    }
 }

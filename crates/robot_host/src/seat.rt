@@ -1,3 +1,7 @@
+ghost use Rattle.std.specs.Prelude.{◌≡◌};
+ghost use Rattle.robot_host.specs.Robots.{robot_by};
+ghost use Rattle.robot_host.specs.Showing.{dropped};
+
 use crate::Robot;
 use std::snapshot::Snapshot;
 use wave_base::Address;
@@ -33,5 +37,17 @@ impl Drop for Seat {
             first: _first,
             robot: _robot,
         } = self;
+    }
+}
+
+impl Seat {
+    /// The robot is dropped; one that isn't there stays so.
+    pub fn leave(&mut self)
+        ensures { robot_by calls self.new ≡ dropped (robot_by calls self.old) }
+    {
+        if let Seated::Here(robot) = &self.robot {
+            let last = Snapshot::of(robot);
+            self.robot = Seated::Gone(last);
+        }
     }
 }
