@@ -3,3 +3,4 @@ pub mod Prefixes
 pub mod Walking
 pub mod Ends
 pub mod Reacting
+pub mod Shown

@@ -1,6 +1,6 @@
 // A robot that is shown deltas in turn.
-ghost use Rattle.std.specs.Prelude.{◌≡◌, ◌<◌, true, length, reverse, OnOk, OnErr};
-ghost use Rattle.std.specs.List.{All};
+ghost use Rattle.std.specs.Prelude.{◌≡◌, true, length, reverse, OnOk, OnErr};
+ghost use Rattle.robot_host.specs.Places.{AreWithin};
 ghost use Rattle.robot_host.specs.Robots.{robot_by, is_here};
 ghost use Rattle.robot_host.specs.Showing.{HasShown, HasShownAll, HasShownSome};
 ghost use Rattle.robot_host.specs.Walks.{IsReached};
@@ -26,12 +26,14 @@ pub(crate) fn show_places(
     walk: &mut Walk,
 ) -> Result<(), Memory>
     requires here { is_here seat.old.robot ≡ true }
-    requires within { All (λ i. i < length history.now.deltas) places.items }
+    requires within { AreWithin (length history.now.deltas) (reverse places.items) }
     requires reached { IsReached history.now.deltas walk.old }
     ensures reached { IsReached history.now.deltas walk.new }
     ensures all { OnOk result (HasShownAll history.now robot (reverse places.items) count.old (robot_by calls seat.old) (robot_by calls seat.new) count.new edits.old.items edits.new.items) }
     ensures some { OnErr result (HasShownSome history.now robot (reverse places.items) count.old (robot_by calls seat.old) (robot_by calls seat.new) count.new edits.old.items edits.new.items) }
 {
+    // The places fit their type.
+    let _most = history.deltas().len();
     let mut left = places;
     while let Some(place) = left.pop() {
         let stays = show_at(alloc, seat, edits, robot, history, place, walk)?;
