@@ -4,3 +4,5 @@ pub mod Walking
 pub mod Ends
 pub mod Reacting
 pub mod Shown
+pub mod Turning
+pub mod Table

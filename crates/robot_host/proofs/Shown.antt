@@ -16,7 +16,7 @@ use Rattle.robot_host.specs.Reactions.{Answered, stays, HasStayed, AfterAnswer, 
 use Rattle.robot_host.specs.Robots.{RobotOf}
 use Rattle.robot_host.specs.Showing.{asked, dropped, after_answer, HasReacted, AreTaken, HasShown}
 
-with_none : (o : Option (List Call)) → with_calls o [] ≡ o
+pub with_none : (o : Option (List Call)) → with_calls o [] ≡ o
 with_none None = refl
 with_none (Some l) = ap Some (append-nil l)
 

@@ -6,3 +6,4 @@ pub mod Places
 pub mod Walks
 pub mod Reactions
 pub mod Showing
+pub mod Turns

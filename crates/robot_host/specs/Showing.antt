@@ -6,8 +6,8 @@
 --     AreTaken h n is as m left        of the places the first ones were taken in turn, with these answers; the robot then went through
 --                                      m deltas
 --     HasShown h r is left n s t m es es'      so the robot was shown the deltas at these places, but for those that are left
---     HasShownSome, HasShownAll     so for some that are left; none are where the robot is there still
-use Rattle.std.specs.Prelude.{◌≡◌, ℕ, suc, true, false, cond, List, [], ◌∷◌, ◌++◌, map}
+--     HasShownSome, HasShownAll     so for some that are left; where the robot stays, none are, and it went through all deltas
+use Rattle.std.specs.Prelude.{◌≡◌, ℕ, suc, true, false, cond, List, [], ◌∷◌, ◌++◌, length, map}
 use Rattle.doc_items.specs.Maps.{Key}
 use Rattle.wavelet_op.specs.Deltas.{DeltaOf}
 use Rattle.wavelet_op.specs.States.{State}
@@ -53,5 +53,7 @@ pub record HasShownSome (h : HistoryOf) (r : ℕ) (is : List ℕ) (n : ℕ) (s t
 
 pub record HasShownAll (h : HistoryOf) (r : ℕ) (is : List ℕ) (n : ℕ) (s t : RobotOf) (m : ℕ) (es es' : List RobotEdit) : Type 0 where
   pub left : List ℕ
-  pub shown : HasShown h r is left n s t m es es'
-  pub none_left : t.here ≡ true → left ≡ []
+  pub reached : ℕ
+  pub shown : HasShown h r is left n s t reached es es'
+  pub through : t.here ≡ true → (left ≡ []) × (m ≡ length h.deltas)
+  pub gone : t.here ≡ false → m ≡ reached

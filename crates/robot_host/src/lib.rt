@@ -5,6 +5,7 @@ mod asking;
 mod edit;
 mod places;
 mod presence;
+mod progress;
 mod reaction;
 mod robot;
 mod seat;

@@ -1,5 +1,5 @@
 ghost use Rattle.std.specs.Prelude.{◌≡◌};
-ghost use Rattle.robot_host.specs.Robots.{robot_by};
+ghost use Rattle.robot_host.specs.Robots.{is_here, robot_by};
 ghost use Rattle.robot_host.specs.Showing.{dropped};
 
 use crate::Robot;
@@ -41,6 +41,16 @@ impl Drop for Seat {
 }
 
 impl Seat {
+    /// Whether the robot is there.
+    pub fn is_here(&self) -> bool
+        ensures { result ≡ is_here self.now.robot }
+    {
+        match &self.robot {
+            Seated::Here(_) => true,
+            Seated::Gone(_) => false,
+        }
+    }
+
     /// The robot is dropped; one that isn't there stays so.
     pub fn leave(&mut self)
         ensures { robot_by calls self.new ≡ dropped (robot_by calls self.old) }

@@ -14,7 +14,7 @@ use doc_items::Memory;
 use std::alloc::Global;
 
 /// Shows the robot that is there the deltas at these places, the last one first, until it leaves. `count` is how many deltas it went
-/// through. The error is want of memory: what the robot was shown before counts.
+/// through; all of them, where it stays. The error is want of memory: what the robot was shown before counts.
 pub(crate) fn show_places(
     alloc: Global,
     seat: &mut Seat,
@@ -32,8 +32,7 @@ pub(crate) fn show_places(
     ensures all { OnOk result (HasShownAll history.now robot (reverse places.items) count.old (robot_by calls seat.old) (robot_by calls seat.new) count.new edits.old.items edits.new.items) }
     ensures some { OnErr result (HasShownSome history.now robot (reverse places.items) count.old (robot_by calls seat.old) (robot_by calls seat.new) count.new edits.old.items edits.new.items) }
 {
-    // The places fit their type.
-    let _most = history.deltas().len();
+    let most = history.deltas().len() as u64;
     let mut left = places;
     while let Some(place) = left.pop() {
         let stays = show_at(alloc, seat, edits, robot, history, place, walk)?;
@@ -42,5 +41,6 @@ pub(crate) fn show_places(
             return Ok(());
         }
     }
+    *count = most;
     Ok(())
 }
