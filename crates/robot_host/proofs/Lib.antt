@@ -6,3 +6,4 @@ pub mod Reacting
 pub mod Shown
 pub mod Turning
 pub mod Table
+pub mod AllTurns

@@ -7,7 +7,10 @@
 --     IsOneTurn robots h r ss ts ns ms es es'    so, among all robots and their numbers; its edits are behind the others
 --     IsThrough h r ss ns        the robot, if it is there, went through all deltas
 --     of_robot r es              the edits of a robot
---     AreTurns robots h k ss ts ns ms es     so each of the robots below the number k, and the others are as they were
+--     AreTurns robots h ss ts ns ms es       so each of the robots
+--     AreTurnsBelow k ..         those with numbers from k on are as they were
+--     HaveTurnedBelow, HaveTurned     so, with their edits behind the others
+--     AreThrough h ss ns         each robot that is there went through all deltas
 --     IsShown robots h s n       of the first n deltas the robot was shown exactly its view since it was added, where it tells its calls
 --     AreShown robots h ss ns    so each robot that is there
 use Rattle.std.specs.Prelude.{◌≡◌, ◌≢◌, ◌<◌, ◌≤◌, ℕ, ◌==◌, Bool, true, false, List, [], ◌++◌, length, map, filter, slice_get, slice_set, Some, IfSome, unwrap_or}
@@ -55,12 +58,29 @@ IsThrough h r ss ns = (s : RobotOf) → slice_get ss r ≡ Some s → s.here ≡
 abbrev pub of_robot : ℕ → List RobotEdit → List RobotEdit
 of_robot r es = filter (λ e. e.robot == r) es
 
-pub record AreTurns (robots : List Key) (h : HistoryOf) (k : ℕ) (ss ts : List RobotOf) (ns ms : List ℕ) (es : List RobotEdit) : Type 0 where
+pub record AreTurns (robots : List Key) (h : HistoryOf) (ss ts : List RobotOf) (ns ms : List ℕ) (es : List RobotEdit) : Type 0 where
   pub length : length ts ≡ length ss
-  pub turned : (r : ℕ) (s t : RobotOf) → r < k → slice_get ss r ≡ Some s → slice_get ts r ≡ Some t → IsTurnOf robots h r s t (number_of ns r) (number_of ms r) (of_robot r es)
+  pub turned : (r : ℕ) (s t : RobotOf) → slice_get ss r ≡ Some s → slice_get ts r ≡ Some t → IsTurnOf robots h r s t (number_of ns r) (number_of ms r) (of_robot r es)
+
+pub record AreTurnsBelow (k : ℕ) (robots : List Key) (h : HistoryOf) (ss ts : List RobotOf) (ns ms : List ℕ) (es : List RobotEdit) : Type 0 where
+  pub turns : AreTurns robots h ss ts ns ms es
   pub others : (r : ℕ) → k ≤ r → slice_get ts r ≡ slice_get ss r
   pub numbers : (r : ℕ) → k ≤ r → slice_get ms r ≡ slice_get ns r
   pub own : (r : ℕ) → k ≤ r → of_robot r es ≡ []
+  pub through : (r : ℕ) → r < k → IsThrough h r ts ms
+
+pub record HaveTurnedBelow (k : ℕ) (robots : List Key) (h : HistoryOf) (ss ts : List RobotOf) (ns ms : List ℕ) (es es' : List RobotEdit) : Type 0 where
+  pub answered : List RobotEdit
+  pub below : AreTurnsBelow k robots h ss ts ns ms answered
+  pub edits : es' ≡ es ++ answered
+
+pub record HaveTurned (robots : List Key) (h : HistoryOf) (ss ts : List RobotOf) (ns ms : List ℕ) (es es' : List RobotEdit) : Type 0 where
+  pub answered : List RobotEdit
+  pub turns : AreTurns robots h ss ts ns ms answered
+  pub edits : es' ≡ es ++ answered
+
+abbrev pub AreThrough : HistoryOf → List RobotOf → List ℕ → Type 0
+AreThrough h ss ns = (r : ℕ) → IsThrough h r ss ns
 
 pub record WasShown (before now : List Call) (name : Key) (shown : List Seen) : Type 0 where
   pub since : List Call

@@ -1,7 +1,7 @@
 // How far the robots are with one wavelet.
-ghost use Rattle.std.specs.Prelude.{◌≡◌, ◌<◌, ◌≤◌, true, length, map, OnOk};
-ghost use Rattle.robot_host.specs.Robots.{robot_by};
-ghost use Rattle.robot_host.specs.Turns.{is_there, number_of, IsOneTurn, IsThrough};
+ghost use Rattle.std.specs.Prelude.{◌≡◌, ◌<◌, ◌≤◌, ℕ, true, length, map, OnOk};
+ghost use Rattle.robot_host.specs.Robots.{robot_by, addresses};
+ghost use Rattle.robot_host.specs.Turns.{is_there, number_of, IsOneTurn, IsThrough, HaveTurned, AreThrough};
 ghost use Rattle.robot_host.specs.Walks.{IsReached};
 
 use crate::RobotEdit;
@@ -55,7 +55,7 @@ fn show_robot(
     requires within { number_of progress.old.counts.items robot ≤ length history.now.deltas }
     requires reached { IsReached history.now.deltas walk.old }
     ensures reached { IsReached history.now.deltas walk.new }
-    ensures turn { IsOneTurn (map (λ s. s.address) seats.old) history.now robot (map (robot_by calls) seats.old) (map (robot_by calls) seats.new) progress.old.counts.items progress.new.counts.items progress.old.edits.items progress.new.edits.items }
+    ensures turn { IsOneTurn (addresses (map (robot_by calls) seats.old)) history.now robot (map (robot_by calls) seats.old) (map (robot_by calls) seats.new) progress.old.counts.items progress.new.counts.items progress.old.edits.items progress.new.edits.items }
     ensures through { OnOk result (IsThrough history.now robot (map (robot_by calls) seats.new) progress.new.counts.items) }
 {
     let from = progress.counts[robot] as usize;
@@ -87,11 +87,30 @@ fn turn_robot(
     requires within { is_there (map (robot_by calls) seats.old) robot ≡ true → number_of progress.old.counts.items robot ≤ length history.now.deltas }
     requires reached { IsReached history.now.deltas walk.old }
     ensures reached { IsReached history.now.deltas walk.new }
-    ensures turn { IsOneTurn (map (λ s. s.address) seats.old) history.now robot (map (robot_by calls) seats.old) (map (robot_by calls) seats.new) progress.old.counts.items progress.new.counts.items progress.old.edits.items progress.new.edits.items }
+    ensures turn { IsOneTurn (addresses (map (robot_by calls) seats.old)) history.now robot (map (robot_by calls) seats.old) (map (robot_by calls) seats.new) progress.old.counts.items progress.new.counts.items progress.old.edits.items progress.new.edits.items }
     ensures through { OnOk result (IsThrough history.now robot (map (robot_by calls) seats.new) progress.new.counts.items) }
 {
     if is_there(seats, robot as u64) {
         return show_robot(alloc, seats, progress, robot, history, walk);
+    }
+    Ok(())
+}
+
+// So all robots, one after the other.
+fn turn_all(
+    alloc: Global,
+    seats: &mut [Seat],
+    progress: &mut Progress,
+    history: &History,
+) -> Result<(), Memory>
+    requires counted { length seats.old ≤ length progress.old.counts.items }
+    requires within { (r : ℕ) → is_there (map (robot_by calls) seats.old) r ≡ true → number_of progress.old.counts.items r ≤ length history.now.deltas }
+    ensures turns { HaveTurned (addresses (map (robot_by calls) seats.old)) history.now (map (robot_by calls) seats.old) (map (robot_by calls) seats.new) progress.old.counts.items progress.new.counts.items progress.old.edits.items progress.new.edits.items }
+    ensures through { OnOk result (AreThrough history.now (map (robot_by calls) seats.new) progress.new.counts.items) }
+{
+    let mut walk = Walk::new(alloc);
+    for robot in 0..seats.len() {
+        turn_robot(alloc, seats, progress, robot, history, &mut walk)?;
     }
     Ok(())
 }
