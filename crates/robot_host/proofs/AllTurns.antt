@@ -144,3 +144,22 @@ pub same_addresses : (robots : List Key) (h : HistoryOf) (k : ℕ) (ss ts : List
 same_addresses robots h k ss ts ns ms es es' o =
     let same : o.after.address ≡ o.before.address = ap (λ (s : RobotOf). s.address) o.turn.robot in
     ap (map (λ (s : RobotOf). s.address)) o.seats ∙ map-set_same (λ (s : RobotOf). s.address) ss k o.after o.before (same ∙ sym (ap (λ (s : RobotOf). s.address) (get_or_from_slice_get ss k o.before o.before o.was)))
+
+-- ---- as a loop goes on
+
+pub next_turn : {robots names : List Key} {h : HistoryOf} {k : ℕ} {ss ts us : List RobotOf} {ns ms ls : List ℕ} {xs xs' xs'' : List RobotEdit} → HaveTurnedBelow k robots h ss ts ns ms xs xs' → names ≡ robots → k < length ms → IsOneTurn names h k ts us ms ls xs' xs'' → IsThrough h k us ls → HaveTurnedBelow (k + 1) robots h ss us ns ls xs xs''
+next_turn {robots = robots} {names = names} {h = h} {k = k} {ss = ss} {ts = ts} {us = us} {ns = ns} {ms = ms} {ls = ls} {xs = xs} {xs' = xs'} {xs'' = xs''} turned same counted one through =
+    subst (λ n. HaveTurnedBelow n robots h ss us ns ls xs xs'') (let e : suc k ≡ k + 1 = omega arith in e) (one_more robots h k ss ts us ns ms ls turned.answered xs xs' xs'' turned.below turned.edits counted (subst (λ z. IsOneTurn z h k ts us ms ls xs' xs'') same one) through)
+
+pub last_turn : {robots names : List Key} {h : HistoryOf} {k : ℕ} {ss ts us : List RobotOf} {ns ms ls : List ℕ} {xs xs' xs'' : List RobotEdit} → HaveTurnedBelow k robots h ss ts ns ms xs xs' → names ≡ robots → k < length ms → IsOneTurn names h k ts us ms ls xs' xs'' → HaveTurned robots h ss us ns ls xs xs''
+last_turn {robots = robots} {names = names} {h = h} {k = k} {ss = ss} {ts = ts} {us = us} {ns = ns} {ms = ms} {ls = ls} {xs = xs} {xs' = xs'} {xs'' = xs''} turned same counted one =
+    one_less robots h k ss ts us ns ms ls turned.answered xs xs' xs'' turned.below turned.edits counted (subst (λ z. IsOneTurn z h k ts us ms ls xs' xs'') same one)
+
+pub turned_below : {robots : List Key} {h : HistoryOf} {k : ℕ} {ss ts : List RobotOf} {ns ms : List ℕ} {xs xs' : List RobotEdit} → HaveTurnedBelow k robots h ss ts ns ms xs xs' → HaveTurned robots h ss ts ns ms xs xs'
+turned_below turned = record { answered = turned.answered; turns = turned.below.turns; edits = turned.edits }
+
+pub all_through : {robots : List Key} {h : HistoryOf} {k : ℕ} {ss ts : List RobotOf} {ns ms : List ℕ} {xs xs' : List RobotEdit} → HaveTurnedBelow k robots h ss ts ns ms xs xs' → length ss ≤ k → AreThrough h ts ms
+all_through {ts = ts} turned all r s at here = let w = slice_get_within ts r s at in let e = turned.below.turns.length in turned.below.through r (omega (arith, w, e, all)) s at here
+
+pub same_lengths : {robots : List Key} {h : HistoryOf} {k : ℕ} {ss ts : List RobotOf} {ns ms : List ℕ} {xs xs' : List RobotEdit} → IsOneTurn robots h k ss ts ns ms xs xs' → (length ts ≡ length ss) × (length ms ≡ length ns)
+same_lengths {k = k} {ss = ss} {ns = ns} o = (ap length o.seats ∙ length-set ss k o.after, ap length o.numbers ∙ length-set ns k o.number)

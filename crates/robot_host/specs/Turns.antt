@@ -10,6 +10,9 @@
 --     AreTurns robots h ss ts ns ms es       so each of the robots
 --     AreTurnsBelow k ..         those with numbers from k on are as they were
 --     HaveTurnedBelow, HaveTurned     so, with their edits behind the others
+--     is_of_there robots e       the edit is of a robot that is there
+--     HaveAnswered .. es given   each robot had its part; what is given are the edits kept before and then those answered, of robots that
+--                                are there
 --     AreThrough h ss ns         each robot that is there went through all deltas
 --     IsShown robots h s n       of the first n deltas the robot was shown exactly its view since it was added, where it tells its calls
 --     AreShown robots h ss ns    so each robot that is there
@@ -78,6 +81,14 @@ pub record HaveTurned (robots : List Key) (h : HistoryOf) (ss ts : List RobotOf)
   pub answered : List RobotEdit
   pub turns : AreTurns robots h ss ts ns ms answered
   pub edits : es' ≡ es ++ answered
+
+abbrev pub is_of_there : List RobotOf → RobotEdit → Bool
+is_of_there robots e = is_there robots e.robot
+
+pub record HaveAnswered (robots : List Key) (h : HistoryOf) (ss ts : List RobotOf) (ns ms : List ℕ) (es given : List RobotEdit) : Type 0 where
+  pub answered : List RobotEdit
+  pub turns : AreTurns robots h ss ts ns ms answered
+  pub edits : given ≡ filter (is_of_there ts) (es ++ answered)
 
 abbrev pub AreThrough : HistoryOf → List RobotOf → List ℕ → Type 0
 AreThrough h ss ns = (r : ℕ) → IsThrough h r ss ns

@@ -1,7 +1,7 @@
 // How far the robots are with one wavelet.
-ghost use Rattle.std.specs.Prelude.{◌≡◌, ◌<◌, ◌≤◌, ℕ, true, length, map, OnOk};
+ghost use Rattle.std.specs.Prelude.{◌≡◌, ◌<◌, ◌≤◌, ℕ, [], true, length, map, filter, IfOk, OnOk, OnErr};
 ghost use Rattle.robot_host.specs.Robots.{robot_by, addresses};
-ghost use Rattle.robot_host.specs.Turns.{is_there, number_of, IsOneTurn, IsThrough, HaveTurned, AreThrough};
+ghost use Rattle.robot_host.specs.Turns.{is_there, number_of, IsOneTurn, IsThrough, HaveTurned, HaveAnswered, AreThrough, is_of_there};
 ghost use Rattle.robot_host.specs.Walks.{IsReached};
 
 use crate::RobotEdit;
@@ -12,6 +12,7 @@ use crate::walk::Walk;
 use delta_history::History;
 use doc_items::Memory;
 use std::alloc::Global;
+use std::mem::replace;
 
 /// How far the robots are with a wavelet.
 pub(crate) struct Progress {
@@ -113,4 +114,57 @@ fn turn_all(
         turn_robot(alloc, seats, progress, robot, history, &mut walk)?;
     }
     Ok(())
+}
+
+// Drops the edits of robots that aren't there.
+fn drop_gone(seats: &[Seat], edits: &mut Vec<RobotEdit>)
+    ensures { edits.new.items ≡ filter (is_of_there (map (robot_by calls) seats.now)) edits.old.items }
+{
+    edits.retain(|edit: &RobotEdit| is_there(seats, edit.robot));
+}
+
+impl Progress {
+    /// Nothing yet.
+    pub fn new(alloc: Global) -> Progress
+        ensures counts { result.counts.items ≡ [] }
+        ensures edits { result.edits.items ≡ [] }
+    {
+        Progress {
+            counts: Vec::new(alloc),
+            edits: Vec::new(alloc),
+        }
+    }
+
+    /// Has a number for each of so many robots, 0 where it had none. The error is want of memory.
+    pub fn count(&mut self, robots: usize) -> Result<(), Memory>
+        ensures counted { OnOk result (robots ≤ length self.new.counts.items) }
+        ensures numbers { (r : ℕ) → number_of self.new.counts.items r ≡ number_of self.old.counts.items r }
+        ensures edits { self.new.edits ≡ self.old.edits }
+    {
+        for _ in self.counts.len()..robots {
+            self.counts.push(0)?;
+        }
+        Ok(())
+    }
+
+    /// Shows the robots what of their views they weren't shown yet, and gives the edits that were kept and then those answered. The error
+    /// is want of memory: then the edits are kept.
+    pub fn turn(
+        &mut self,
+        alloc: Global,
+        seats: &mut [Seat],
+        history: &History,
+    ) -> Result<Vec<RobotEdit>, Memory>
+        requires counted { length seats.old ≤ length self.old.counts.items }
+        requires within { (r : ℕ) → is_there (map (robot_by calls) seats.old) r ≡ true → number_of self.old.counts.items r ≤ length history.now.deltas }
+        ensures given { IfOk result (λ given. HaveAnswered (addresses (map (robot_by calls) seats.old)) history.now (map (robot_by calls) seats.old) (map (robot_by calls) seats.new) self.old.counts.items self.new.counts.items self.old.edits.items given.items) }
+        ensures none_kept { OnOk result (self.new.edits.items ≡ []) }
+        ensures through { OnOk result (AreThrough history.now (map (robot_by calls) seats.new) self.new.counts.items) }
+        ensures kept { OnErr result (HaveTurned (addresses (map (robot_by calls) seats.old)) history.now (map (robot_by calls) seats.old) (map (robot_by calls) seats.new) self.old.counts.items self.new.counts.items self.old.edits.items self.new.edits.items) }
+    {
+        turn_all(alloc, seats, self, history)?;
+        let mut given = replace(&mut self.edits, Vec::new(alloc));
+        drop_gone(seats, &mut given);
+        Ok(given)
+    }
 }
