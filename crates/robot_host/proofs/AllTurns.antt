@@ -163,3 +163,11 @@ all_through {ts = ts} turned all r s at here = let w = slice_get_within ts r s a
 
 pub same_lengths : {robots : List Key} {h : HistoryOf} {k : ℕ} {ss ts : List RobotOf} {ns ms : List ℕ} {xs xs' : List RobotEdit} → IsOneTurn robots h k ss ts ns ms xs xs' → (length ts ≡ length ss) × (length ms ≡ length ns)
 same_lengths {k = k} {ss = ss} {ns = ns} o = (ap length o.seats ∙ length-set ss k o.after, ap length o.numbers ∙ length-set ns k o.number)
+
+-- ---- numbers that are 0
+
+pub number_more : (ns : List ℕ) (r : ℕ) → number_of (ns ++ 0 ∷ []) r ≡ number_of ns r
+number_more [] zero = refl
+number_more [] (suc r) = refl
+number_more (n ∷ ns) zero = refl
+number_more (n ∷ ns) (suc r) = number_more ns r

@@ -7,3 +7,4 @@ pub mod Walks
 pub mod Reactions
 pub mod Showing
 pub mod Turns
+pub mod Hosts

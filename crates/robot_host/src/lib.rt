@@ -3,6 +3,7 @@
 
 mod asking;
 mod edit;
+mod host;
 mod places;
 mod presence;
 mod progress;
@@ -13,5 +14,6 @@ mod showing;
 mod walk;
 
 pub use edit::RobotEdit;
+pub use host::RobotHost;
 pub use reaction::Reaction;
 pub use robot::Robot;
