@@ -3,19 +3,26 @@
 --     turned_robot           its part, after it was shown deltas
 --     through_robot          it went through all deltas, if it is there still
 --     not_turned             where it was shown nothing
+--     kept_of                what a filter keeps
+--     robots_more            one robot more
 use Rattle.std.proofs.Common.{◌≡◌, ℕ, zero, suc, ◌<◌, arith, Bool, true, false, List, [], ◌∷◌, ◌++◌, length, map, get_or, slice_get, slice_set, Option, Some, None, unwrap_or, Result, Ok, Err, OnOk, OnErr, refl, sym, ap, subst, ◌∙◌, append-nil}
 use Rattle.std.specs.Option.{option_map, option_map_or}
 use Rattle.std.specs.declared.alloc.Global.{Global}
 use Rattle.std.specs.declared.dyn_box.DynBox.{DynBox}
-use Rattle.std.proofs.lemmas.List.{map-set, set-get_or, get_or-set_same, length-set, length-map}
+use Rattle.std.proofs.lemmas.List.{map-append, map-set, set-get_or, get_or-set_same, length-set, length-map}
+use Rattle.std.specs.List.{filter}
+use Rattle.std.specs.List.Retain.{IsFiltered}
+use Rattle.std.proofs.lemmas.Fn.{filter_same}
 use Rattle.std.proofs.lemmas.Option.{slice_get-map, slice_get-get_or, get_or_from_slice_get, unwrap_or-slice_get}
 use Rattle.doc_op.proofs.Applying.{same_Some}
 use Rattle.delta_history.specs.Histories.{HistoryOf}
 use Rattle.robot_host.specs.declared.edit.RobotEdit.{RobotEdit}
 use Rattle.robot_host.specs.declared.seat.Seat.{Seat}
 use Rattle.robot_host.specs.Calls.{Call}
+use Rattle.robot_host.specs.declared.seat.Seated.TheVariants.{Here}
+use Rattle.robot_host.specs.Hosts.{added}
 use Rattle.robot_host.specs.Places.{AreNext}
-use Rattle.robot_host.specs.Robots.{RobotOf, robot_by, is_here, addresses}
+use Rattle.robot_host.specs.Robots.{RobotOf, robot_by, is_here, last_of, addresses}
 use Rattle.robot_host.specs.Showing.{HasShownSome, HasShownAll}
 use Rattle.robot_host.specs.Turns.{is_there, number_of, IsTurnOf, IsOneTurn, IsThrough}
 use Rattle.robot_host.specs.Views.{view}
@@ -102,3 +109,13 @@ module _ {V : Type 0} {T : V → Type 0} (calls : DynBox V Global T → Option (
     turn = none_turned (addresses (robots seats)) h r (number_of ns r) (robot_by calls e);
     edits = sym (append-nil es);
   }
+
+-- ---- the seats as a list
+
+pub kept_of : {X F : Type 0} {R : F → X → Bool → F → Type 0} {f : F} {xs ys : List X} → IsFiltered R f xs ys → (test : X → Bool) → ((x : X) (b : Bool) (f' : F) → R f x b f' → (b ≡ test x) × (f' ≡ f)) → ys ≡ filter test xs
+kept_of {R = R} {f = f} {xs = xs} {ys = ys} filtered test says = filter_same R test f says xs ys filtered
+
+pub robots_more : {V : Type 0} {T : V → Type 0} (calls : DynBox V Global T → Option (List Call)) (seats seats' : List (Seat V T)) (seat : Seat V T) (b : DynBox V Global T) (a : List ℕ) → seats' ≡ seats ++ seat ∷ [] → seat.address ≡ a → seat.first.value ≡ b → seat.robot ≡ Here b → map (robot_by calls) seats' ≡ map (robot_by calls) seats ++ added a (calls b) ∷ []
+robots_more calls seats seats' seat b a is address first robot =
+    let one : robot_by calls seat ≡ added a (calls b) = λ i. record { address = address i; here = is_here (robot i); before = calls (first i); calls = calls (last_of (robot i)) } in
+    ap (map (robot_by calls)) is ∙ map-append (robot_by calls) seats (seat ∷ []) ∙ ap (λ z. map (robot_by calls) seats ++ z ∷ []) one

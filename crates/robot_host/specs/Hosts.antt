@@ -6,7 +6,7 @@
 --     added a calls              a robot that is added
 --     MayTurn g h                each robot that is there went through at most the deltas of a history, and was shown exactly its view of
 --                                those that it went through
-use Rattle.std.specs.Prelude.{◌≡◌, ◌≢◌, ℕ, true, List, [], ◌++◌, length, map, filter, slice_get, Option, Some}
+use Rattle.std.specs.Prelude.{◌≡◌, ◌≢◌, ℕ, true, List, [], ◌++◌, length, map, filter, slice_get, slice_set, Option, Some}
 use Rattle.std.specs.Cmp.Lexicographic.{slice_cmp}
 use Rattle.std.specs.Option.{option_map_or}
 use Rattle.std.specs.Ordering.{nat_cmp}
@@ -20,6 +20,7 @@ use Rattle.robot_host.specs.declared.host.RobotHost.{RobotHost}
 use Rattle.robot_host.specs.declared.progress.Progress.{Progress}
 use Rattle.robot_host.specs.Calls.{Call}
 use Rattle.robot_host.specs.Robots.{RobotOf, robot_by, addresses}
+use Rattle.robot_host.specs.Showing.{dropped}
 use Rattle.robot_host.specs.Turns.{number_of, is_of_there, of_robot, IsTurnOf, IsShown}
 
 pub record HostOf : Type 0 where
@@ -51,3 +52,34 @@ added a calls = record { address = a; here = true; before = calls; calls = calls
 
 abbrev pub MayTurn : HostOf → HistoryOf → Type 0
 MayTurn g h = (r : ℕ) (s : RobotOf) → slice_get g.robots r ≡ Some s → s.here ≡ true → IsShown (addresses g.robots) h s (g.number h.name r)
+
+-- the robot r before and after a turn, with the edits that it answered
+pub record HasTurnedAs (g g' : HostOf) (h : HistoryOf) (answered : List RobotEdit) : Type 0 where
+  pub length : length g'.robots ≡ length g.robots
+  pub turned : (r : ℕ) (s t : RobotOf) → slice_get g.robots r ≡ Some s → slice_get g'.robots r ≡ Some t → IsTurnOf (addresses g.robots) h r s t (g.number h.name r) (g'.number h.name r) (of_robot r answered)
+
+pub record HasTurned (g : HostOf) (h : HistoryOf) (g' : HostOf) (all : List RobotEdit) : Type 0 where
+  pub answered : List RobotEdit
+  pub turns : HasTurnedAs g g' h answered
+  pub edits : all ≡ filter (is_of_there g'.robots) (kept g h.name ++ answered)
+
+pub record AreOthersKept (g g' : HostOf) (name : Key) : Type 0 where
+  pub numbers : (other : Key) (r : ℕ) → other ≢ name → g'.number other r ≡ g.number other r
+  pub edits : (other : Key) → other ≢ name → kept g' other ≡ filter (is_of_there g'.robots) (kept g other)
+
+abbrev pub AreThroughAll : HostOf → HistoryOf → Type 0
+AreThroughAll g h = (r : ℕ) (s : RobotOf) → slice_get g.robots r ≡ Some s → s.here ≡ true → g.number h.name r ≡ length h.deltas
+
+-- ---- without a robot
+
+abbrev pub without : List RobotOf → ℕ → List RobotOf
+without robots r = option_map_or (λ s. slice_set robots r (dropped s)) (slice_get robots r) robots
+
+pub record IsWithout (g : HostOf) (r : ℕ) (g' : HostOf) : Type 0 where
+  pub robots : g'.robots ≡ without g.robots r
+  pub numbers : (name : Key) (q : ℕ) → g'.number name q ≡ g.number name q
+  pub edits : (name : Key) → kept g' name ≡ filter (is_of_there g'.robots) (kept g name)
+
+pub record AreSameWavelets (m m' : tree.BTreeMap Key Progress) : Type 0 where
+  pub numbers : (name : Key) (r : ℕ) → number_in (progress_in m' name) r ≡ number_in (progress_in m name) r
+  pub edits : (name : Key) → edits_in (progress_in m' name) ≡ edits_in (progress_in m name)

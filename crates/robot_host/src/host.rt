@@ -1,5 +1,6 @@
-ghost use Rattle.std.specs.Prelude.{◌≡◌, ◌++◌, ◌∷◌, [], OnOk, OnErr};
-ghost use Rattle.robot_host.specs.Hosts.{host_by, added, IsNew};
+ghost use Rattle.std.specs.Prelude.{◌≡◌, ◌≤◌, ◌++◌, ◌∷◌, [], length, IfSome, IsSome, IfOk, OnOk, OnErr};
+ghost use Rattle.robot_host.specs.Hosts.{host_by, kept, added, progress_in, IsNew, IsWithout, AreSameWavelets, MayTurn, HasTurned, AreThroughAll, AreOthersKept};
+ghost use Rattle.robot_host.specs.Turns.{is_there};
 
 use crate::progress::Progress;
 use crate::seat::{Seat, Seated};
@@ -54,5 +55,60 @@ impl RobotHost {
             robot: Seated::Here(robot),
         })?;
         Ok(())
+    }
+
+    // Has what is kept of a wavelet, with a number for each robot. The error is want of memory. Numbers and edits stay.
+    fn begin(&mut self, alloc: Global, name: &WaveletName) -> Result<(), Memory>
+        ensures seats { self.new.seats ≡ self.old.seats }
+        ensures counted { OnOk result (IfSome (progress_in self.new.wavelets name.now) (λ p. length self.new.seats.items ≤ length p.counts.items)) }
+        ensures there { OnOk result (IsSome (progress_in self.new.wavelets name.now)) }
+        ensures same { AreSameWavelets self.old.wavelets self.new.wavelets }
+    {
+        let robots = self.seats.len();
+        if !self.wavelets.contains_key(name) {
+            let name = name.copy(alloc)?;
+            let _none = self.wavelets.insert(name, Progress::new(alloc))?;
+        }
+        match self.wavelets.get_mut(name) {
+            Some(progress) => progress.count(robots),
+            None => unreachable!(),
+        }
+    }
+
+    /// Shows each robot that is there what of its view of the history it wasn't shown yet, in order, and gives the edits that were kept
+    /// for the wavelet and then those answered, of the robots that are there then. A robot that answers `Leave` is dropped. The error is
+    /// want of memory: deltas that robots reacted to before count as shown, and the edits are kept for the next turn.
+    pub fn turn(&mut self, alloc: Global, history: &History) -> Result<Vec<RobotEdit>, Memory>
+        requires may { MayTurn (host_by calls self.old) history.now }
+        ensures given { IfOk result (λ given. HasTurned (host_by calls self.old) history.now (host_by calls self.new) given.items) }
+        ensures none_kept { OnOk result (kept (host_by calls self.new) history.now.name ≡ []) }
+        ensures through { OnOk result (AreThroughAll (host_by calls self.new) history.now) }
+        ensures kept { OnErr result (HasTurned (host_by calls self.old) history.now (host_by calls self.new) (kept (host_by calls self.new) history.now.name)) }
+        ensures shown { MayTurn (host_by calls self.new) history.now }
+        ensures others { AreOthersKept (host_by calls self.old) (host_by calls self.new) history.now.name }
+    {
+        self.begin(alloc, history.name())?;
+        match self.wavelets.get_mut(history.name()) {
+            Some(progress) => progress.turn(alloc, self.seats.as_mut_slice(), history),
+            None => unreachable!(),
+        }
+    }
+
+    /// The robot of a number is dropped, whose submission was invalid; with it go its kept edits. The other robots stay as they are.
+    pub fn refused(&mut self, robot: u64)
+        ensures { IsWithout (host_by calls self.old) robot (host_by calls self.new) }
+    {
+        let _was = self.retire(robot);
+    }
+
+    /// The robot of a number is dropped, and with it its kept edits. Whether it was there. The other robots stay as they are.
+    pub fn retire(&mut self, robot: u64) -> bool
+        ensures was { result ≡ is_there (host_by calls self.old).robots robot }
+        ensures without { IsWithout (host_by calls self.old) robot (host_by calls self.new) }
+    {
+        match self.seats.get_mut(robot as usize) {
+            Some(seat) => seat.retire(),
+            None => false,
+        }
     }
 }
