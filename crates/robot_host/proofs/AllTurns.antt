@@ -37,7 +37,7 @@ set_apart (y ∷ ys) zero (suc j) x h = refl
 set_apart (y ∷ ys) (suc i) zero x h = refl
 set_apart (y ∷ ys) (suc i) (suc j) x h = set_apart ys i j x (λ e. h (ap suc e))
 
-by_number : (r k : ℕ) {P : Type 0} → (r ≡ k → P) → (r ≢ k → P) → P
+pub by_number : (r k : ℕ) {P : Type 0} → (r ≡ k → P) → (r ≢ k → P) → P
 by_number zero zero f g = f refl
 by_number zero (suc k) f g = g (λ e. let x : zero ≡ suc k = e in omega (arith, x))
 by_number (suc r) zero f g = g (λ e. let x : suc r ≡ zero = e in omega (arith, x))

@@ -7,3 +7,4 @@ pub mod Shown
 pub mod Turning
 pub mod Table
 pub mod AllTurns
+pub mod Hosting

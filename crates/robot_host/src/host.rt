@@ -57,22 +57,18 @@ impl RobotHost {
         Ok(())
     }
 
-    // Has what is kept of a wavelet, with a number for each robot. The error is want of memory. Numbers and edits stay.
+    // Has a place for what is kept of a wavelet. The error is want of memory. Numbers and edits stay.
     fn begin(&mut self, alloc: Global, name: &WaveletName) -> Result<(), Memory>
         ensures seats { self.new.seats ≡ self.old.seats }
-        ensures counted { OnOk result (IfSome (progress_in self.new.wavelets name.now) (λ p. length self.new.seats.items ≤ length p.counts.items)) }
         ensures there { OnOk result (IsSome (progress_in self.new.wavelets name.now)) }
         ensures same { AreSameWavelets self.old.wavelets self.new.wavelets }
     {
-        let robots = self.seats.len();
-        if !self.wavelets.contains_key(name) {
-            let name = name.copy(alloc)?;
-            let _none = self.wavelets.insert(name, Progress::new(alloc))?;
+        if self.wavelets.contains_key(name) {
+            return Ok(());
         }
-        match self.wavelets.get_mut(name) {
-            Some(progress) => progress.count(robots),
-            None => unreachable!(),
-        }
+        let name = name.copy(alloc)?;
+        let _none = self.wavelets.insert(name, Progress::new(alloc))?;
+        Ok(())
     }
 
     /// Shows each robot that is there what of its view of the history it wasn't shown yet, in order, and gives the edits that were kept

@@ -120,7 +120,11 @@ fn turn_all(
 fn drop_gone(seats: &[Seat], edits: &mut Vec<RobotEdit>)
     ensures { edits.new.items ≡ filter (is_of_there (map (robot_by calls) seats.now)) edits.old.items }
 {
-    edits.retain(|edit: &RobotEdit| is_there(seats, edit.robot));
+    edits.retain(
+        |edit: &RobotEdit| -> bool
+            ensures { result ≡ is_of_there (map (robot_by calls) seats.entry.now) edit.now }
+        { is_there(seats, edit.robot) },
+    );
 }
 
 impl Progress {
