@@ -11,7 +11,7 @@ use Rattle.std.specs.Ordering.{nat_cmp}
 use Rattle.std.specs.Cmp.Lexicographic.{slice_cmp, texts_ties, bytes_decides}
 use Rattle.std.specs.BTreeMap as tree
 use Rattle.std.proofs.lemmas.List.{map-append, map-set, set-get_or}
-use Rattle.std.proofs.lemmas.Option.{slice_get-map, slice_get_within}
+use Rattle.std.proofs.lemmas.Option.{slice_get-map, slice_get_within, get_or_from_slice_get}
 use Rattle.doc_items.specs.Maps.{Key}
 use Rattle.doc_op.proofs.Applying.{no_value, same_Some}
 use Rattle.robot_host.specs.declared.edit.RobotEdit.{RobotEdit}
@@ -101,3 +101,25 @@ same_put m m' a o p was put numbers edits = record {
 
 pub same_twice : (m m' m'' : tree.BTreeMap Key Progress) → AreSameWavelets m m' → AreSameWavelets m' m'' → AreSameWavelets m m''
 same_twice m m' m'' a b = record { numbers = λ q r. b.numbers q r ∙ a.numbers q r; edits = λ q. b.edits q ∙ a.edits q }
+
+-- ---- a robot that isn't there
+
+pub without_gone : (robots : List RobotOf) (r : ℕ) (number : Key → ℕ → ℕ) (edits : Key → List RobotEdit) → is_there robots r ≡ false → IsWithout (record { robots = robots; number = number; edits = edits }) r (record { robots = robots; number = number; edits = edits })
+without_gone robots r number edits gone = go (slice_get robots r) refl
+  where
+    go : (o : Option RobotOf) → slice_get robots r ≡ o → IsWithout (record { robots = robots; number = number; edits = edits }) r (record { robots = robots; number = number; edits = edits })
+    go None e = without_none robots r number edits e
+    go (Some s) e =
+        let here : s.here ≡ false = sym (ap (λ o. option_map_or (λ (z : RobotOf). z.here) o false) e) ∙ gone in
+        let same : dropped s ≡ s = λ i. record { address = s.address; here = sym here i; before = s.before; calls = s.calls } in
+        let set : slice_set robots r (dropped s) ≡ robots = ap (slice_set robots r) (same ∙ sym (get_or_from_slice_get robots r s s e)) ∙ set-get_or robots r s in
+        record {
+          robots = sym (ap (λ o. option_map_or (λ z. slice_set robots r (dropped z)) o robots) e ∙ set);
+          numbers = λ name q. refl;
+          edits = λ name. kept_still robots robots (λ q h. h) (edits name);
+        }
+
+pub inside_there : {V : Type 0} {T : V → Type 0} (calls : DynBox V Global T → Option (List Call)) (seats : List (Seat V T)) (r : ℕ) → is_there (map (robot_by calls) seats) r ≡ true → r < length seats
+inside_there calls [] r there = absurd (true≢false (sym there))
+inside_there calls (s ∷ seats) zero there = omega arith
+inside_there calls (s ∷ seats) (suc r) there = let w = inside_there calls seats r there in omega (arith, w)

@@ -1,8 +1,8 @@
 ghost use Rattle.std.specs.Prelude.{◌≡◌, ◌≤◌, ◌++◌, ◌∷◌, [], length, IfSome, IsSome, IfOk, OnOk, OnErr};
 ghost use Rattle.robot_host.specs.Hosts.{host_by, kept, added, progress_in, IsNew, IsWithout, AreSameWavelets, MayTurn, HasTurned, AreThroughAll, AreOthersKept};
-ghost use Rattle.robot_host.specs.Turns.{is_there};
+ghost use Rattle.robot_host.specs.Turns.{is_there as is_robot_there};
 
-use crate::progress::Progress;
+use crate::progress::{Progress, is_there};
 use crate::seat::{Seat, Seated};
 use crate::{Robot, RobotEdit};
 use delta_history::History;
@@ -10,7 +10,7 @@ use doc_items::Memory;
 use std::alloc::Global;
 use std::collections::BTreeMap;
 use std::snapshot::Snapshot;
-use wave_base::WaveletName;
+use wave_base::{Address, WaveletName};
 
 /// The robots of a server. Each has a number, which stays: robots are numbered from 0 as they are added.
 pub struct RobotHost {
@@ -25,6 +25,13 @@ impl Drop for RobotHost {
             wavelets: _wavelets,
         } = self;
     }
+}
+
+// The address of a robot, to keep.
+fn address_of(alloc: Global, robot: &Box<dyn Robot>) -> Result<Address, Memory>
+    ensures { IfOk result (λ a. a ≡ named robot.now) }
+{
+    robot.address().copy(alloc)
 }
 
 impl RobotHost {
@@ -47,7 +54,7 @@ impl RobotHost {
         ensures robots { OnOk result ((host_by calls self.new).robots ≡ (host_by calls self.old).robots ++ added (named robot) (calls robot) ∷ []) }
         ensures same { OnErr result ((host_by calls self.new).robots ≡ (host_by calls self.old).robots) }
     {
-        let address = robot.address().copy(alloc)?;
+        let address = address_of(alloc, &robot)?;
         let first = Snapshot::of(&robot);
         self.seats.push(Seat {
             address,
@@ -99,12 +106,13 @@ impl RobotHost {
 
     /// The robot of a number is dropped, and with it its kept edits. Whether it was there. The other robots stay as they are.
     pub fn retire(&mut self, robot: u64) -> bool
-        ensures was { result ≡ is_there (host_by calls self.old).robots robot }
+        ensures was { result ≡ is_robot_there (host_by calls self.old).robots robot }
         ensures without { IsWithout (host_by calls self.old) robot (host_by calls self.new) }
     {
-        match self.seats.get_mut(robot as usize) {
-            Some(seat) => seat.retire(),
-            None => false,
+        if !is_there(&self.seats, robot) {
+            return false;
         }
+        self.seats[robot as usize].leave();
+        true
     }
 }

@@ -31,8 +31,8 @@ impl Drop for Progress {
     }
 }
 
-// Whether the robot of a number is there.
-fn is_there(seats: &[Seat], robot: u64) -> bool
+/// Whether the robot of a number is there.
+pub(crate) fn is_there(seats: &[Seat], robot: u64) -> bool
     ensures { result ≡ is_there (map (robot_by calls) seats.now) robot }
 {
     match seats.get(robot as usize) {

@@ -60,14 +60,4 @@ impl Seat {
             self.robot = Seated::Gone(last);
         }
     }
-
-    /// The robot is dropped, if it is there; whether it was.
-    pub fn retire(&mut self) -> bool
-        ensures was { result ≡ is_here self.old.robot }
-        ensures robot { robot_by calls self.new ≡ dropped (robot_by calls self.old) }
-    {
-        let was = self.is_here();
-        self.leave();
-        was
-    }
 }
