@@ -8,3 +8,4 @@ pub mod Turning
 pub mod Table
 pub mod AllTurns
 pub mod Hosting
+pub mod HostTurns

@@ -139,8 +139,8 @@ impl Progress {
         }
     }
 
-    /// Has a number for each of so many robots, 0 where it had none. The error is want of memory.
-    pub fn count(&mut self, robots: usize) -> Result<(), Memory>
+    // Has a number for each of so many robots, 0 where it had none. The error is want of memory.
+    fn count(&mut self, robots: usize) -> Result<(), Memory>
         ensures counted { OnOk result (robots ≤ length self.new.counts.items) }
         ensures numbers { (r : ℕ) → number_of self.new.counts.items r ≡ number_of self.old.counts.items r }
         ensures edits { self.new.edits ≡ self.old.edits }
@@ -159,13 +159,13 @@ impl Progress {
         seats: &mut [Seat],
         history: &History,
     ) -> Result<Vec<RobotEdit>, Memory>
-        requires counted { length seats.old ≤ length self.old.counts.items }
         requires within { (r : ℕ) → is_there (map (robot_by calls) seats.old) r ≡ true → number_of self.old.counts.items r ≤ length history.now.deltas }
         ensures given { IfOk result (λ given. HaveAnswered (addresses (map (robot_by calls) seats.old)) history.now (map (robot_by calls) seats.old) (map (robot_by calls) seats.new) self.old.counts.items self.new.counts.items self.old.edits.items given.items) }
         ensures none_kept { OnOk result (self.new.edits.items ≡ []) }
         ensures through { OnOk result (AreThrough history.now (map (robot_by calls) seats.new) self.new.counts.items) }
         ensures kept { OnErr result (HaveTurned (addresses (map (robot_by calls) seats.old)) history.now (map (robot_by calls) seats.old) (map (robot_by calls) seats.new) self.old.counts.items self.new.counts.items self.old.edits.items self.new.edits.items) }
     {
+        self.count(seats.len())?;
         turn_all(alloc, seats, self, history)?;
         let mut given = replace(&mut self.edits, Vec::new(alloc));
         drop_gone(seats, &mut given);
