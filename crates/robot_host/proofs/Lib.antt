@@ -9,3 +9,4 @@ pub mod Table
 pub mod AllTurns
 pub mod Hosting
 pub mod HostTurns
+pub mod HostSteps
