@@ -90,14 +90,14 @@ none_below robots h ss ns es = record {
 module _ (robots : List Key) (h : HistoryOf) (k : ℕ) (ss ts us : List RobotOf) (ns ms ls : List ℕ) (es : List RobotEdit) where
   step_turn : (b : AreTurnsBelow k robots h ss ts ns ms es) (xs xs' : List RobotEdit) (o : IsOneTurn robots h k ts us ms ls xs xs') → k < length ms → (r : ℕ) (s t : RobotOf) → slice_get ss r ≡ Some s → slice_get us r ≡ Some t → IsTurnOf robots h r s t (number_of ns r) (number_of ls r) (of_robot r (es ++ o.added))
   step_turn b xs xs' o counted r s t e f = by_number r k
-    (λ same.
+      (λ same.
       let was : o.before ≡ s = same_Some (sym o.was ∙ b.others k (omega arith) ∙ ap (slice_get ss) (sym same) ∙ e) in
       let is : o.after ≡ t = same_Some (sym (set_here ts k o.after (slice_get_within ts k o.before o.was)) ∙ ap (λ z. slice_get z k) (sym o.seats) ∙ ap (slice_get us) (sym same) ∙ f) in
       let from : number_of ms k ≡ number_of ns r = ap (λ z. unwrap_or z 0) (b.numbers k (omega arith)) ∙ ap (number_of ns) (sym same) in
       let to : o.number ≡ number_of ls r = sym (ap (λ z. number_of z r) o.numbers ∙ ap (number_of (slice_set ms k o.number)) same ∙ ap (λ z. unwrap_or z 0) (set_here ms k o.number counted)) in
       let mine : o.added ≡ of_robot r (es ++ o.added) = sym (filter-append (λ e. e.robot == r) es o.added ∙ ap (λ z. of_robot z es ++ of_robot z o.added) same ∙ ap (λ z. z ++ of_robot k o.added) (b.own k (omega arith)) ∙ ap (of_robot k) o.turn.edits ∙ own_edits k o.before.address o.turn.shown ∙ sym o.turn.edits) in
       moved o.turn (sym same) was is from to mine)
-    (λ apart.
+      (λ apart.
       let at : slice_get ts r ≡ Some t = sym (ap (λ z. slice_get z r) o.seats ∙ set_apart ts k r o.after apart) ∙ f in
       let to : number_of ms r ≡ number_of ls r = sym (ap (λ z. number_of z r) o.numbers ∙ ap (λ z. unwrap_or z 0) (set_apart ms k r o.number apart)) in
       let mine : of_robot r es ≡ of_robot r (es ++ o.added) = sym (filter-append (λ e. e.robot == r) es o.added ∙ ap (λ z. of_robot r es ++ z) (ap (of_robot r) o.turn.edits ∙ other_edits k r o.before.address o.turn.shown apart) ∙ append-nil (of_robot r es)) in
@@ -117,11 +117,11 @@ module _ (robots : List Key) (h : HistoryOf) (k : ℕ) (ss ts us : List RobotOf)
       others = λ r w. ap (λ z. slice_get z r) o.seats ∙ set_apart ts k r o.after (λ e. let x : r ≡ k = e in absurd (omega (arith, w, x))) ∙ b.others r (omega (arith, w));
       numbers = λ r w. ap (λ z. slice_get z r) o.numbers ∙ set_apart ms k r o.number (λ e. let x : r ≡ k = e in absurd (omega (arith, w, x))) ∙ b.numbers r (omega (arith, w));
       own = λ r w.
-        let apart : r ≢ k = λ e. let x : r ≡ k = e in absurd (omega (arith, w, x)) in
-        filter-append (λ e. e.robot == r) es o.added ∙ ap (λ z. z ++ of_robot r o.added) (b.own r (omega (arith, w))) ∙ ap (of_robot r) o.turn.edits ∙ other_edits k r o.before.address o.turn.shown apart;
+          let apart : r ≢ k = λ e. let x : r ≡ k = e in absurd (omega (arith, w, x)) in
+          filter-append (λ e. e.robot == r) es o.added ∙ ap (λ z. z ++ of_robot r o.added) (b.own r (omega (arith, w))) ∙ ap (of_robot r) o.turn.edits ∙ other_edits k r o.before.address o.turn.shown apart;
       through = λ r w. by_number r k
-        (λ same. subst (λ z. IsThrough h z us ls) (sym same) through)
-        (λ apart t at here.
+          (λ same. subst (λ z. IsThrough h z us ls) (sym same) through)
+          (λ apart t at here.
           ap (λ z. number_of z r) o.numbers ∙ ap (λ z. unwrap_or z 0) (set_apart ms k r o.number apart) ∙ b.through r (below r w apart) t (sym (ap (λ z. slice_get z r) o.seats ∙ set_apart ts k r o.after apart) ∙ at) here);
     };
     edits = o.edits ∙ ap (λ z. z ++ o.added) before ∙ append_assoc xs es o.added;

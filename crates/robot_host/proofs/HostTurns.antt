@@ -92,7 +92,7 @@ mapped_at f (x ∷ xs) (suc r) y e = mapped_at f xs r y e
 
 addresses_stay : (g g' : HostOf) (h : HistoryOf) (es : List RobotEdit) → HasTurnedAs g g' h es → addresses g'.robots ≡ addresses g.robots
 addresses_stay g g' h es turns = same_list (addresses g.robots) (addresses g'.robots) (length-map g'.robots (λ (s : RobotOf). s.address) ∙ turns.length ∙ sym (length-map g.robots (λ (s : RobotOf). s.address)))
-  (λ r x y e f.
+    (λ r x y e f.
     let s = mapped_at (λ (z : RobotOf). z.address) g.robots r x e in
     let t = mapped_at (λ (z : RobotOf). z.address) g'.robots r y f in
     sym t.2 ∙ ap (λ (z : RobotOf). z.address) (turns.turned r s.0 t.0 s.1 t.1).robot ∙ s.2)

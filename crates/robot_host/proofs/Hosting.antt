@@ -42,8 +42,8 @@ kept_still p q h es = filter_both (is_of_there p) (is_of_there q) (λ e. h e.rob
 
 pub dropped_there : (robots : List RobotOf) (r : ℕ) (s : RobotOf) → slice_get robots r ≡ Some s → (q : ℕ) → is_there (slice_set robots r (dropped s)) q ≡ true → is_there robots q ≡ true
 dropped_there robots r s at q here = by_number q r
-  (λ same. absurd (true≢false (sym here ∙ ap (is_there (slice_set robots r (dropped s))) same ∙ ap (λ o. option_map_or (λ (z : RobotOf). z.here) o false) (set_here robots r (dropped s) (slice_get_within robots r s at)))))
-  (λ apart. ap (λ o. option_map_or (λ (z : RobotOf). z.here) o false) (sym (set_apart robots r q (dropped s) apart)) ∙ here)
+    (λ same. absurd (true≢false (sym here ∙ ap (is_there (slice_set robots r (dropped s))) same ∙ ap (λ o. option_map_or (λ (z : RobotOf). z.here) o false) (set_here robots r (dropped s) (slice_get_within robots r s at)))))
+    (λ apart. ap (λ o. option_map_or (λ (z : RobotOf). z.here) o false) (sym (set_apart robots r q (dropped s) apart)) ∙ here)
 
 pub without_robot : (robots robots' : List RobotOf) (r : ℕ) (s : RobotOf) (number : Key → ℕ → ℕ) (edits : Key → List RobotEdit) → slice_get robots r ≡ Some s → robots' ≡ slice_set robots r (dropped s)
     → IsWithout (record { robots = robots; number = number; edits = edits }) r (record { robots = robots'; number = number; edits = edits })

@@ -61,19 +61,19 @@ act_before s t Idle a e = ap (λ z. is_some (role_of z a)) (same_Some e)
 act_before s t (Adds b) a e =
     let set = role_set_to s t b (added (role_of s b)) e in
     by_text a b (λ x. is_some (role_of s a) ≡ (not x && is_some (role_of t a)))
-      (λ same. ap is_some (role_here s t a b (added (role_of s b)) set same).0 ∙ added_none (role_of s b) set.role set.is)
-      (λ other. ap is_some (sym (role_there s t a b (added (role_of s b)) set other)))
+    (λ same. ap is_some (role_here s t a b (added (role_of s b)) set same).0 ∙ added_none (role_of s b) set.role set.is)
+    (λ other. ap is_some (sym (role_there s t a b (added (role_of s b)) set other)))
 act_before s t (Removes b) a e =
     let set = role_set_to s t b (removed (role_of s b)) e in
     by_text a b (λ x. is_some (role_of s a) ≡ (x || is_some (role_of t a)))
-      (λ same. ap is_some (role_here s t a b (removed (role_of s b)) set same).0 ∙ removed_some (role_of s b) set.role set.is)
-      (λ other. ap is_some (sym (role_there s t a b (removed (role_of s b)) set other)))
+    (λ same. ap is_some (role_here s t a b (removed (role_of s b)) set same).0 ∙ removed_some (role_of s b) set.role set.is)
+    (λ other. ap is_some (sym (role_there s t a b (removed (role_of s b)) set other)))
 act_before s t (Sets b old new) a e =
     let set = role_set_to s t b (role_set old new (role_of s b)) e in
     let some = set_some old new (role_of s b) set.role set.is in
     by_text a b (λ x. is_some (role_of s a) ≡ is_some (role_of t a))
-      (λ same. let here = role_here s t a b (role_set old new (role_of s b)) set same in ap is_some here.0 ∙ some.0 ∙ sym (ap is_some here.1 ∙ some.1))
-      (λ other. ap is_some (sym (role_there s t a b (role_set old new (role_of s b)) set other)))
+    (λ same. let here = role_here s t a b (role_set old new (role_of s b)) set same in ap is_some here.0 ∙ some.0 ∙ sym (ap is_some here.1 ∙ some.1))
+    (λ other. ap is_some (sym (role_there s t a b (role_set old new (role_of s b)) set other)))
 act_before s t (Mutates d acts) a e =
     let m = and_then_some (mutate acts (document_of s d)) (λ items. Some (with_document s d items)) t e in
     ap (λ z. is_some (role_of z a)) (same_Some m.2)

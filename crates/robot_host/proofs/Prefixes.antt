@@ -109,8 +109,8 @@ step_back robots a h n k d here is same l e there next =
     record {
       next = next_if robots a h k d is e i (subst (λ z. AreNext robots a h (view robots a h z) is) same next) (not (is_among d.id.author robots) && here) (ap (λ b. not (is_among d.id.author robots) && b) (sym now));
       was = λ p q.
-        let at : p ≡ i.before = same_Some (sym q ∙ i.led) in
-        sym (ap (λ (z : Point). is_some (role_of z.state a)) at ∙ acts_before i.before.state behind.state (acts_of d) a behind.goes ∙ ap (λ z. were_before a (acts_of d) (is_some (role_of z a))) (sym behind.same) ∙ ap (were_before a (acts_of d)) (sym now));
+          let at : p ≡ i.before = same_Some (sym q ∙ i.led) in
+          sym (ap (λ (z : Point). is_some (role_of z.state a)) at ∙ acts_before i.before.state behind.state (acts_of d) a behind.goes ∙ ap (λ z. were_before a (acts_of d) (is_some (role_of z a))) (sym behind.same) ∙ ap (were_before a (acts_of d)) (sym now));
     }
 
 pub whole_taken : (h : HistoryOf) (p : Point) → IsLegal h.name h.deltas → replay (start h.name) (take (length h.deltas) h.deltas) ≡ Some p → head_of h ≡ p

@@ -83,8 +83,8 @@ module _ {V : Type 0} {T : V → Type 0} (calls : DynBox V Global T → Option (
       let same : now ≡ number_of ns r = number_read ns r now counted is_now in
       let first : AreNext (addresses (robots seats)) e.address h (view (addresses (robots seats)) e.address h (number_of ns r)) places = subst (λ n. AreNext (addresses (robots seats)) e.address h (view (addresses (robots seats)) e.address h n) places) start (subst (λ (z : Seat V T). AreNext (addresses (robots seats)) z.address h (view (addresses (robots seats)) z.address h from) places) (sym is_seat) (subst (λ names. AreNext names (get_or seats r e).address h (view names (get_or seats r e).address h from) places) (seat_addresses seats) next)) in
       go result all some
-        (λ shown. one_turn seats r e seat' h ns m es es' at (turn_all (addresses (robots seats)) h r places (number_of ns r) m (robot_by calls e) (robot_by calls seat') es es' here first (subst (λ n. HasShownAll h r places n (robot_by calls e) (robot_by calls seat') m es es') same (subst (λ z. HasShownAll h r places now (robot_by calls z) (robot_by calls seat') m es es') seat shown))))
-        (λ shown. one_turn seats r e seat' h ns m es es' at (turn_some (addresses (robots seats)) h r places (number_of ns r) m (robot_by calls e) (robot_by calls seat') es es' here first (subst (λ n. HasShownSome h r places n (robot_by calls e) (robot_by calls seat') m es es') same (subst (λ z. HasShownSome h r places now (robot_by calls z) (robot_by calls seat') m es es') seat shown))))
+      (λ shown. one_turn seats r e seat' h ns m es es' at (turn_all (addresses (robots seats)) h r places (number_of ns r) m (robot_by calls e) (robot_by calls seat') es es' here first (subst (λ n. HasShownAll h r places n (robot_by calls e) (robot_by calls seat') m es es') same (subst (λ z. HasShownAll h r places now (robot_by calls z) (robot_by calls seat') m es es') seat shown))))
+      (λ shown. one_turn seats r e seat' h ns m es es' at (turn_some (addresses (robots seats)) h r places (number_of ns r) m (robot_by calls e) (robot_by calls seat') es es' here first (subst (λ n. HasShownSome h r places n (robot_by calls e) (robot_by calls seat') m es es') same (subst (λ z. HasShownSome h r places now (robot_by calls z) (robot_by calls seat') m es es') seat shown))))
     where
       go : {P Q R : Type 0} (r : Result (Unit {0}) E) → OnOk r P → OnErr r Q → (P → R) → (Q → R) → R
       go (Ok u) p q f g = f p
@@ -94,8 +94,8 @@ module _ {V : Type 0} {T : V → Type 0} (calls : DynBox V Global T → Option (
       → r < length seats → r < length ns → OnOk result (HasShownAll h r places n s (robot_by calls seat') m es es') → OnOk result (IsThrough h r (robots (slice_set seats r seat')) (slice_set ns r m))
   through_robot seats r s seat' h ns n m places es es' (Err e) inside counted all = tt
   through_robot seats r s seat' h ns n m places es es' (Ok u) inside counted all = λ t at here.
-    let is : robot_by calls seat' ≡ t = same_Some (sym (set_read (robots seats) r (robot_by calls seat') (subst (λ k. r < k) (sym (length-map seats (robot_by calls))) inside)) ∙ ap (λ z. slice_get z r) (sym (map-set (robot_by calls) seats r seat')) ∙ at) in
-    ap (λ o. unwrap_or o 0) (set_read ns r m counted) ∙ (all.through (ap (λ (z : RobotOf). z.here) is ∙ here)).1
+      let is : robot_by calls seat' ≡ t = same_Some (sym (set_read (robots seats) r (robot_by calls seat') (subst (λ k. r < k) (sym (length-map seats (robot_by calls))) inside)) ∙ ap (λ z. slice_get z r) (sym (map-set (robot_by calls) seats r seat')) ∙ at) in
+      ap (λ o. unwrap_or o 0) (set_read ns r m counted) ∙ (all.through (ap (λ (z : RobotOf). z.here) is ∙ here)).1
 
   pub not_turned : (seats : List (Seat V T)) (r : ℕ) (h : HistoryOf) (ns : List ℕ) (es : List RobotEdit) → (e : Seat V T) → slice_get seats r ≡ Some e → IsOneTurn (addresses (robots seats)) h r (robots seats) (robots seats) ns ns es es
   not_turned seats r h ns es e at = record {

@@ -81,12 +81,12 @@ by_here false f g = g refl
 
 pub turn_all : (robots : List Key) (h : HistoryOf) (r : ℕ) (is : List ℕ) (n m : ℕ) (s t : RobotOf) (es es' : List RobotEdit) → s.here ≡ true → AreNext robots s.address h (view robots s.address h n) is → HasShownAll h r is n s t m es es' → IsTurned robots h r s t n m es es'
 turn_all robots h r is n m s t es es' here next shown = by_here t.here
-  (λ stays.
+    (λ stays.
     let end = shown.through stays in
     let last = (viewed robots s.address h (view robots s.address h n) n is shown.shown.shown shown.reached shown.left refl next shown.shown.taken).next in
     let all : view robots s.address h (length h.deltas) ≡ view robots s.address h shown.reached = subst (AreNext robots s.address h (view robots s.address h shown.reached)) end.0 last in
     turned_to robots h r is shown.left n shown.reached m s t es es' here next shown.shown (sym all ∙ ap (view robots s.address h) (sym end.1)) (λ w. let e = end.1 in omega (arith, e)))
-  (λ leaves.
+    (λ leaves.
     let same = shown.gone leaves in
     turned_to robots h r is shown.left n shown.reached m s t es es' here next shown.shown (ap (view robots s.address h) (sym same)) (λ w. let k = taken_within h n is shown.shown.shown shown.reached shown.left w shown.shown.taken in omega (arith, k, same)))
 

@@ -5,8 +5,8 @@ ghost use Rattle.delta_history.specs.Points.{acts_of, run_all};
 ghost use Rattle.state_cache.specs.States.{state_behind};
 ghost use Rattle.robot_host.specs.Walks.{IsReached, IsThere};
 
-use doc_items::Memory;
 use delta_history::History;
+use doc_items::Memory;
 use std::alloc::{AllocError, Global};
 use wavelet_op::{AppliedDelta, WaveletFault};
 use wavelet_state::{WaveletState, apply_delta};

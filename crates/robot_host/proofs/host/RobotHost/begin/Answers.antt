@@ -10,5 +10,5 @@ use Rattle.robot_host.proofs.host.RobotHost.begin.Goals as goal
 pub returns-clause-same : goal.returns-clause-same
 returns-clause-same g c =
     same_put c.args.self.now.wavelets c.insert.new.self c.args.name.now None c.new.result (no_some _ (search rules))
-      (λ q. c.in_ok-_none.ensures.updates.0 q ∙ ap (λ z. cond (is_eq (slice_cmp nat_cmp z q)) (Some c.new.result) (progress_in c.args.self.now.wavelets q)) c.in_ok-name.ensures)
-      (λ r. ap (λ z. number_of z r) c.new.ensures.counts) c.new.ensures.edits
+    (λ q. c.in_ok-_none.ensures.updates.0 q ∙ ap (λ z. cond (is_eq (slice_cmp nat_cmp z q)) (Some c.new.result) (progress_in c.args.self.now.wavelets q)) c.in_ok-name.ensures)
+    (λ r. ap (λ z. number_of z r) c.new.ensures.counts) c.new.ensures.edits
