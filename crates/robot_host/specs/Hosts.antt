@@ -38,7 +38,12 @@ abbrev pub edits_in : Option Progress → List RobotEdit
 edits_in p = option_map_or (λ q. q.edits.items) p []
 
 abbrev pub host_by : {V : Type 0} → {T : V → Type 0} → (DynBox V Global T → Option (List Call)) → RobotHost V T → HostOf
-host_by calls host = record { robots = map (robot_by calls) host.seats.items; number = λ name. number_in (progress_in host.wavelets name); edits = λ name. edits_in (progress_in host.wavelets name) }
+host_by calls host = record {
+  robots = map (robot_by calls) host.seats.items;
+  number = λ name. number_in (progress_in host.wavelets
+      name);
+  edits = λ name. edits_in (progress_in host.wavelets name);
+}
 
 abbrev pub kept : HostOf → Key → List RobotEdit
 kept g name = filter (is_of_there g.robots) (g.edits name)
@@ -56,7 +61,8 @@ MayTurn g h = (r : ℕ) (s : RobotOf) → slice_get g.robots r ≡ Some s → s.
 -- the robot r before and after a turn, with the edits that it answered
 pub record HasTurnedAs (g g' : HostOf) (h : HistoryOf) (answered : List RobotEdit) : Type 0 where
   pub length : length g'.robots ≡ length g.robots
-  pub turned : (r : ℕ) (s t : RobotOf) → slice_get g.robots r ≡ Some s → slice_get g'.robots r ≡ Some t → IsTurnOf (addresses g.robots) h r s t (g.number h.name r) (g'.number h.name r) (of_robot r answered)
+  pub turned : (r : ℕ) (s t : RobotOf) → slice_get g.robots r ≡ Some s → slice_get g'.robots r ≡ Some t → IsTurnOf (addresses g.robots)
+      h r s t (g.number h.name r) (g'.number h.name r) (of_robot r answered)
 
 pub record HasTurned (g : HostOf) (h : HistoryOf) (g' : HostOf) (all : List RobotEdit) : Type 0 where
   pub answered : List RobotEdit

@@ -16,7 +16,28 @@
 --     AreThrough h ss ns         each robot that is there went through all deltas
 --     IsShown robots h s n       of the first n deltas the robot was shown exactly its view since it was added, where it tells its calls
 --     AreShown robots h ss ns    so each robot that is there
-use Rattle.std.specs.Prelude.{◌≡◌, ◌≢◌, ◌<◌, ◌≤◌, ℕ, ◌==◌, Bool, true, false, List, [], ◌++◌, length, map, filter, slice_get, slice_set, Some, IfSome, unwrap_or}
+use Rattle.std.specs.Prelude.{
+  ◌≡◌,
+  ◌≢◌,
+  ◌<◌,
+  ◌≤◌,
+  ℕ,
+  ◌==◌,
+  Bool,
+  true,
+  false,
+  List,
+  [],
+  ◌++◌,
+  length,
+  map,
+  filter,
+  slice_get,
+  slice_set,
+  Some,
+  IfSome,
+  unwrap_or,
+}
 use Rattle.std.specs.Option.{option_map_or}
 use Rattle.doc_items.specs.Maps.{Key}
 use Rattle.delta_history.specs.Histories.{HistoryOf}
@@ -44,7 +65,8 @@ pub record IsTurnOf (robots : List Key) (h : HistoryOf) (r : ℕ) (s t : RobotOf
   pub stayed : StayedFrom s.here shown t.here
   pub edits : es ≡ edits_of r s.address shown
 
-pub record IsOneTurn (robots : List Key) (h : HistoryOf) (r : ℕ) (ss ts : List RobotOf) (ns ms : List ℕ) (es es' : List RobotEdit) : Type 0 where
+pub record IsOneTurn (robots : List Key) (h : HistoryOf) (r : ℕ) (ss ts : List RobotOf) (ns ms : List ℕ) (es es' : List RobotEdit) :
+    Type 0 where
   pub before : RobotOf
   pub after : RobotOf
   pub number : ℕ
@@ -63,16 +85,19 @@ of_robot r es = filter (λ e. e.robot == r) es
 
 pub record AreTurns (robots : List Key) (h : HistoryOf) (ss ts : List RobotOf) (ns ms : List ℕ) (es : List RobotEdit) : Type 0 where
   pub length : length ts ≡ length ss
-  pub turned : (r : ℕ) (s t : RobotOf) → slice_get ss r ≡ Some s → slice_get ts r ≡ Some t → IsTurnOf robots h r s t (number_of ns r) (number_of ms r) (of_robot r es)
+  pub turned : (r : ℕ) (s t : RobotOf) → slice_get ss r ≡ Some s → slice_get ts r ≡ Some t → IsTurnOf robots h r s t (number_of ns r)
+      (number_of ms r) (of_robot r es)
 
-pub record AreTurnsBelow (k : ℕ) (robots : List Key) (h : HistoryOf) (ss ts : List RobotOf) (ns ms : List ℕ) (es : List RobotEdit) : Type 0 where
+pub record AreTurnsBelow (k : ℕ) (robots : List Key) (h : HistoryOf) (ss ts : List RobotOf) (ns ms : List ℕ) (es : List RobotEdit) :
+    Type 0 where
   pub turns : AreTurns robots h ss ts ns ms es
   pub others : (r : ℕ) → k ≤ r → slice_get ts r ≡ slice_get ss r
   pub numbers : (r : ℕ) → k ≤ r → slice_get ms r ≡ slice_get ns r
   pub own : (r : ℕ) → k ≤ r → of_robot r es ≡ []
   pub through : (r : ℕ) → r < k → IsThrough h r ts ms
 
-pub record HaveTurnedBelow (k : ℕ) (robots : List Key) (h : HistoryOf) (ss ts : List RobotOf) (ns ms : List ℕ) (es es' : List RobotEdit) : Type 0 where
+pub record HaveTurnedBelow (k : ℕ) (robots : List Key) (h : HistoryOf) (ss ts : List RobotOf) (ns ms : List ℕ) (es es' : List
+    RobotEdit) : Type 0 where
   pub answered : List RobotEdit
   pub below : AreTurnsBelow k robots h ss ts ns ms answered
   pub edits : es' ≡ es ++ answered
@@ -85,7 +110,8 @@ pub record HaveTurned (robots : List Key) (h : HistoryOf) (ss ts : List RobotOf)
 abbrev pub is_of_there : List RobotOf → RobotEdit → Bool
 is_of_there robots e = is_there robots e.robot
 
-pub record HaveAnswered (robots : List Key) (h : HistoryOf) (ss ts : List RobotOf) (ns ms : List ℕ) (es given : List RobotEdit) : Type 0 where
+pub record HaveAnswered (robots : List Key) (h : HistoryOf) (ss ts : List RobotOf) (ns ms : List ℕ) (es given : List RobotEdit) : Type
+    0 where
   pub answered : List RobotEdit
   pub turns : AreTurns robots h ss ts ns ms answered
   pub edits : given ≡ filter (is_of_there ts) (es ++ answered)

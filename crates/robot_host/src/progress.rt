@@ -56,7 +56,9 @@ fn show_robot(
     requires within { number_of progress.old.counts.items robot ≤ length history.now.deltas }
     requires reached { IsReached history.now.deltas walk.old }
     ensures reached { IsReached history.now.deltas walk.new }
-    ensures turn { IsOneTurn (addresses (map (robot_by calls) seats.old)) history.now robot (map (robot_by calls) seats.old) (map (robot_by calls) seats.new) progress.old.counts.items progress.new.counts.items progress.old.edits.items progress.new.edits.items }
+    ensures turn { IsOneTurn (addresses (map (robot_by calls) seats.old)) history.now robot (map (robot_by calls) seats.old) (map
+        (robot_by calls) seats.new) progress.old.counts.items progress.new.counts.items progress.old.edits.items
+        progress.new.edits.items }
     ensures through { OnOk result (IsThrough history.now robot (map (robot_by calls) seats.new) progress.new.counts.items) }
 {
     let from = progress.counts[robot] as usize;
@@ -85,10 +87,13 @@ fn turn_robot(
 ) -> Result<(), Memory>
     requires inside { robot < length seats.old }
     requires counted { robot < length progress.old.counts.items }
-    requires within { is_there (map (robot_by calls) seats.old) robot ≡ true → number_of progress.old.counts.items robot ≤ length history.now.deltas }
+    requires within { is_there (map (robot_by calls) seats.old) robot ≡ true → number_of progress.old.counts.items robot ≤ length
+        history.now.deltas }
     requires reached { IsReached history.now.deltas walk.old }
     ensures reached { IsReached history.now.deltas walk.new }
-    ensures turn { IsOneTurn (addresses (map (robot_by calls) seats.old)) history.now robot (map (robot_by calls) seats.old) (map (robot_by calls) seats.new) progress.old.counts.items progress.new.counts.items progress.old.edits.items progress.new.edits.items }
+    ensures turn { IsOneTurn (addresses (map (robot_by calls) seats.old)) history.now robot (map (robot_by calls) seats.old) (map
+        (robot_by calls) seats.new) progress.old.counts.items progress.new.counts.items progress.old.edits.items
+        progress.new.edits.items }
     ensures through { OnOk result (IsThrough history.now robot (map (robot_by calls) seats.new) progress.new.counts.items) }
 {
     if is_there(seats, robot as u64) {
@@ -105,8 +110,10 @@ fn turn_all(
     history: &History,
 ) -> Result<(), Memory>
     requires counted { length seats.old ≤ length progress.old.counts.items }
-    requires within { (r : ℕ) → is_there (map (robot_by calls) seats.old) r ≡ true → number_of progress.old.counts.items r ≤ length history.now.deltas }
-    ensures turns { HaveTurned (addresses (map (robot_by calls) seats.old)) history.now (map (robot_by calls) seats.old) (map (robot_by calls) seats.new) progress.old.counts.items progress.new.counts.items progress.old.edits.items progress.new.edits.items }
+    requires within { (r : ℕ) → is_there (map (robot_by calls) seats.old) r ≡ true → number_of progress.old.counts.items r ≤ length
+        history.now.deltas }
+    ensures turns { HaveTurned (addresses (map (robot_by calls) seats.old)) history.now (map (robot_by calls) seats.old) (map (robot_by
+        calls) seats.new) progress.old.counts.items progress.new.counts.items progress.old.edits.items progress.new.edits.items }
     ensures through { OnOk result (AreThrough history.now (map (robot_by calls) seats.new) progress.new.counts.items) }
 {
     let mut walk = Walk::new(alloc);
@@ -159,11 +166,16 @@ impl Progress {
         seats: &mut [Seat],
         history: &History,
     ) -> Result<Vec<RobotEdit>, Memory>
-        requires within { (r : ℕ) → is_there (map (robot_by calls) seats.old) r ≡ true → number_of self.old.counts.items r ≤ length history.now.deltas }
-        ensures given { IfOk result (λ given. HaveAnswered (addresses (map (robot_by calls) seats.old)) history.now (map (robot_by calls) seats.old) (map (robot_by calls) seats.new) self.old.counts.items self.new.counts.items self.old.edits.items given.items) }
+        requires within { (r : ℕ) → is_there (map (robot_by calls) seats.old) r ≡ true → number_of self.old.counts.items r ≤ length
+            history.now.deltas }
+        ensures given { IfOk result (λ given. HaveAnswered (addresses (map (robot_by calls) seats.old)) history.now (map (robot_by
+            calls) seats.old) (map (robot_by calls) seats.new) self.old.counts.items self.new.counts.items self.old.edits.items
+            given.items) }
         ensures none_kept { OnOk result (self.new.edits.items ≡ []) }
         ensures through { OnOk result (AreThrough history.now (map (robot_by calls) seats.new) self.new.counts.items) }
-        ensures kept { OnErr result (HaveTurned (addresses (map (robot_by calls) seats.old)) history.now (map (robot_by calls) seats.old) (map (robot_by calls) seats.new) self.old.counts.items self.new.counts.items self.old.edits.items self.new.edits.items) }
+        ensures kept { OnErr result (HaveTurned (addresses (map (robot_by calls) seats.old)) history.now (map (robot_by calls)
+            seats.old) (map (robot_by calls) seats.new) self.old.counts.items self.new.counts.items self.old.edits.items
+            self.new.edits.items) }
     {
         self.count(seats.len())?;
         turn_all(alloc, seats, self, history)?;

@@ -30,6 +30,7 @@ pub trait Robot: Drop {
         delta: &AppliedDelta,
         state: &WaveletState,
     ) -> Result<Reaction, Memory>
-        ensures told { MatchResult result (λ r. calls self.new ≡ with_call (calls self.old) name.now delta.now state.now r) (λ _. calls self.new ≡ calls self.old) }
+        ensures told { MatchResult result (λ r. calls self.new ≡ with_call (calls self.old) name.now delta.now state.now r) (λ _. calls
+            self.new ≡ calls self.old) }
         ensures address { named self.new ≡ named self.old };
 }
