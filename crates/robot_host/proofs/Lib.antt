@@ -1,0 +1,12 @@
+pub mod Participants
+pub mod Prefixes
+pub mod Walking
+pub mod Ends
+pub mod Reacting
+pub mod Shown
+pub mod Turning
+pub mod Table
+pub mod AllTurns
+pub mod Hosting
+pub mod HostTurns
+pub mod HostSteps

@@ -1,0 +1,19 @@
+//! Participants that are programs: each is shown the deltas of others once and in order, and answers with edits.
+#![tactic(auto)]
+
+mod asking;
+mod edit;
+mod host;
+mod places;
+mod presence;
+mod progress;
+mod reaction;
+mod robot;
+mod seat;
+mod showing;
+mod walk;
+
+pub use edit::RobotEdit;
+pub use host::RobotHost;
+pub use reaction::Reaction;
+pub use robot::Robot;

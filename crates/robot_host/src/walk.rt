@@ -1,0 +1,122 @@
+// The states after the first deltas of a history.
+ghost use Rattle.std.specs.Prelude.{◌≡◌, ◌≤◌, ◌<◌, suc, length, Some, IsSome, IfOk, OnOk, OnErr};
+ghost use Rattle.wavelet_op.specs.States.{empty_state, run};
+ghost use Rattle.delta_history.specs.Points.{acts_of, run_all};
+ghost use Rattle.state_cache.specs.States.{state_behind};
+ghost use Rattle.robot_host.specs.Walks.{IsReached, IsThere};
+
+use delta_history::History;
+use doc_items::Memory;
+use std::alloc::{AllocError, Global};
+use wavelet_op::{AppliedDelta, WaveletFault};
+use wavelet_state::{WaveletState, apply_delta};
+
+/// A walk over the deltas of a history: how many it went over, and the state after them.
+pub(crate) struct Walk {
+    pub place: usize,
+    pub state: WaveletState,
+}
+
+impl Drop for Walk {
+    fn drop(self) {
+        let Walk {
+            place: _place,
+            state: _state,
+        } = self;
+    }
+}
+
+// The state is after the delta, which is valid.
+fn lead_on(alloc: Global, state: &mut WaveletState, delta: &AppliedDelta) -> Result<(), Memory>
+    requires { IsSome (run state.old (acts_of delta.now)) }
+    ensures ok { OnOk result (run state.old (acts_of delta.now) ≡ Some state.new) }
+    ensures same { OnErr result (state.new ≡ state.old) }
+{
+    match apply_delta(alloc, state, &delta.ops) {
+        Ok(()) => Ok(()),
+        Err(WaveletFault::Memory) => Err(AllocError),
+        Err(_) => unreachable!(),
+    }
+}
+
+impl Walk {
+    /// At the start.
+    pub fn new(alloc: Global) -> Walk
+        ensures place { result.place ≡ 0 }
+        ensures state { result.state ≡ empty_state }
+    {
+        Walk {
+            place: 0,
+            state: WaveletState::new(alloc),
+        }
+    }
+
+    // One delta on.
+    fn step(&mut self, alloc: Global, deltas: &[AppliedDelta]) -> Result<(), Memory>
+        requires valid { IsSome (run_all empty_state deltas.now) }
+        requires within { self.old.place < length deltas.now }
+        requires reached { IsReached deltas.now self.old }
+        ensures reached { IsReached deltas.now self.new }
+        ensures place { OnOk result (self.new.place ≡ suc self.old.place) }
+    {
+        lead_on(alloc, &mut self.state, &deltas[self.place])?;
+        self.place += 1;
+        Ok(())
+    }
+
+    // On to a place that it isn't past.
+    fn on(&mut self, alloc: Global, deltas: &[AppliedDelta], place: usize) -> Result<(), Memory>
+        requires valid { IsSome (run_all empty_state deltas.now) }
+        requires before { self.old.place ≤ place }
+        requires within { place ≤ length deltas.now }
+        requires reached { IsReached deltas.now self.old }
+        ensures reached { IsReached deltas.now self.new }
+        ensures place { OnOk result (self.new.place ≡ place) }
+    {
+        for _ in self.place..place {
+            self.step(alloc, deltas)?;
+        }
+        Ok(())
+    }
+
+    // To a place, from the start where it is past it.
+    fn go(&mut self, alloc: Global, deltas: &[AppliedDelta], place: usize) -> Result<(), Memory>
+        requires valid { IsSome (run_all empty_state deltas.now) }
+        requires within { place ≤ length deltas.now }
+        requires reached { IsReached deltas.now self.old }
+        ensures reached { IsReached deltas.now self.new }
+        ensures place { OnOk result (self.new.place ≡ place) }
+    {
+        if place < self.place {
+            self.place = 0;
+            self.state = WaveletState::new(alloc);
+        }
+        self.on(alloc, deltas, place)
+    }
+
+    /// To a place of the history, for `state` there. The error is want of memory.
+    pub fn reach(&mut self, alloc: Global, history: &History, place: usize) -> Result<(), Memory>
+        requires within { place ≤ length history.now.deltas }
+        requires reached { IsReached history.now.deltas self.old }
+        ensures reached { IsReached history.now.deltas self.new }
+        ensures there { OnOk result (IsThere history.now.deltas place self.new) }
+    {
+        let deltas = history.deltas();
+        if place == deltas.len() {
+            return Ok(());
+        }
+        self.go(alloc, deltas, place)
+    }
+
+    /// The state after the first `place` deltas of the history; at its head it is the history's own.
+    pub fn state<'a>(&'a self, history: &'a History, place: usize) -> &'a WaveletState
+        requires reached { IsReached history.now.deltas self.now }
+        requires there { IsThere history.now.deltas place self.now }
+        ensures { state_behind history.now.deltas place ≡ Some result.now }
+    {
+        if place == history.deltas().len() {
+            return history.state();
+        }
+        &self.state
+    }
+}
