@@ -1,0 +1,4 @@
+pub mod Stops
+pub mod Sends
+pub mod Takes
+pub mod Asking

@@ -1,0 +1,13 @@
+//! A link with another domain: it dials, says how far the copies reach and which submissions wait, gives the copies what comes, and sends
+//! what is handed in meanwhile.
+#![tactic(auto)]
+
+mod asking;
+mod greeting;
+mod relaying;
+mod sending;
+mod stepped;
+mod stop;
+mod taking;
+
+pub use stepped::Stepped;
