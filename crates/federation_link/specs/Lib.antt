@@ -2,3 +2,4 @@ pub mod Stops
 pub mod Sends
 pub mod Takes
 pub mod Asking
+pub mod Steps

@@ -3,9 +3,11 @@
 #![tactic(auto)]
 
 mod asking;
+mod ear;
 mod greeting;
 mod relaying;
 mod sending;
+mod step;
 mod stepped;
 mod stop;
 mod taking;
