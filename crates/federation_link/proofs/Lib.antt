@@ -1,2 +1,3 @@
 mod Rounds
 mod Unread
+mod Sent

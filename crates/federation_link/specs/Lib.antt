@@ -3,3 +3,4 @@ pub mod Sends
 pub mod Takes
 pub mod Asking
 pub mod Steps
+pub mod Dials

@@ -1,3 +1,6 @@
+ghost use Rattle.std.specs.Prelude.{◌≡◌};
+ghost use Rattle.federation_link.specs.Steps.{is_cut};
+
 /// What there is to hear on a link.
 #[derive(Drop)]
 pub enum Ear {
@@ -7,4 +10,17 @@ pub enum Ear {
     Holding(Vec<u8>),
     /// The link failed or was closed by its peer.
     Cut,
+}
+
+impl Ear {
+    /// Whether the link was cut.
+    pub(crate) fn is_cut(&self) -> bool
+        ensures { result ≡ is_cut self.now }
+    {
+        match self {
+            Ear::Open => false,
+            Ear::Holding(_) => false,
+            Ear::Cut => true,
+        }
+    }
 }

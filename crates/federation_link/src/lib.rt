@@ -5,6 +5,7 @@
 mod asking;
 mod ear;
 mod greeting;
+mod peer_link;
 mod relaying;
 mod sending;
 mod step;
@@ -12,4 +13,5 @@ mod stepped;
 mod stop;
 mod taking;
 
+pub use peer_link::PeerLink;
 pub use stepped::Stepped;
