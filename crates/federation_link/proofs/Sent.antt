@@ -3,11 +3,16 @@
 --     sent_some          after submissions were sent
 --     greeted_sent       after a new link was begun
 --     step_sent          after a step
-use Rattle.std.proofs.Common.{◌≡◌, ◌∙◌, ◌⊎◌, inl, inr, sym, ap, subst, refl, ℕ, Bool, true, false, ◌||◌, if◌then◌else◌, IsTrue, List, [], ◌∷◌, ◌++◌, map, Result, Ok, Err, append_assoc, append-nil}
+--     step_idle          so nothing that was asked for is unsent where a step came to rest
+use Rattle.std.proofs.Common.{◌≡◌, ◌∙◌, ◌⊎◌, inl, inr, sym, ap, subst, refl, ℕ, Bool, true, false, ◌&&◌, ◌||◌, if◌then◌else◌, IsTrue, List, [], ◌∷◌, ◌++◌, map, Result, Ok, Err, append_assoc, append-nil}
+use Rattle.std.specs.Cmp.Lexicographic.{bytes_decides}
 use Rattle.std.specs.List.{All}
+use Rattle.std.proofs.Math.Logic.{∥∥₁_map}
+use Rattle.std.proofs.lemmas.Bool.{false≢true, and_parts, or_cases}
 use Rattle.std.proofs.lemmas.List.Elements.{All-nil, All-cons, All-head, All-tail, All-append, All-weaker}
-use Rattle.doc_items.specs.Maps.{Key}
-use Rattle.wave_base.specs.Versions.{IdOf}
+use Rattle.doc_items.specs.Maps.{Key, same_text}
+use Rattle.wave_base.specs.Versions.{IdOf, same_id}
+use Rattle.wave_base.proofs.Same.{same_id-is}
 use Rattle.wave_outside.specs.declared.link.LinkEvent.{LinkEvent}
 use Rattle.wave_outside.specs.declared.link.LinkEvent.TheVariants.{Received, Idle, Ended}
 use Rattle.message_json.specs.declared.message.Message.{Message}
@@ -16,10 +21,10 @@ use Rattle.session_core.specs.declared.session.Waiting.{Waiting}
 use Rattle.peer_turns.specs.declared.call.TurnCall.{TurnCall}
 use Rattle.peer_turns.specs.declared.fault.TurnFault.{TurnFault}
 use Rattle.peer_turns.specs.declared.item.Relay.{Relay}
-use Rattle.federation_link.specs.Asking.{HasSentSome, HasGreeted}
-use Rattle.federation_link.specs.Sends.{noted, relay, have, sent_as, fresh, WasSent}
+use Rattle.federation_link.specs.Asking.{is_any, HasSentSome, HasGreeted}
+use Rattle.federation_link.specs.Sends.{noted, has, relay, have, sent_as, fresh, WasSent}
 use Rattle.federation_link.specs.Takes.{Heard, same_as, without, settled_by, settled, heard}
-use Rattle.federation_link.specs.Steps.{IsCome, HasSentOn, IsStep}
+use Rattle.federation_link.specs.Steps.{IsCome, HasSentOn, IsStep, IsIdle}
 use Rattle.federation_link.specs.declared.ear.Ear.{Ear}
 use Rattle.federation_link.specs.declared.ear.Ear.TheVariants.{Open, Holding, Cut}
 use Rattle.federation_link.specs.declared.stepped.Stepped.{Stepped}
@@ -121,3 +126,60 @@ module _ (tells told : Bool) (domain : Key) where
       ended (inr end) = λ t. subst (λ z. All (WasSent fs) z) (sym end.1) (grown tells es fs (Ended ∷ []) ws end.0 all t)
   step_sent es fs i j ws vs cs ds l0 l1 f0 f1 c (Err e) (inl s) all = λ t. subst (λ z. All (WasSent fs) z) (sym s.same) (come_sent i s.bytes es fs ws s.came all t)
   step_sent es fs i j ws vs cs ds l0 l1 f0 f1 c (Err e) (inr s) all = on_sent es fs ws vs s.sent all
+
+-- ---- each submission that was asked for was sent
+
+module _ (P : Waiting → Type 0) where
+  all_left : (xs ys : List Waiting) → All P (xs ++ ys) → All P xs
+  all_left [] ys all = All-nil P
+  all_left (x ∷ xs) ys all = All-cons P x xs (All-head P x (xs ++ ys) all) (all_left xs ys (All-tail P x (xs ++ ys) all))
+
+  all_right : (xs ys : List Waiting) → All P (xs ++ ys) → All P ys
+  all_right [] ys all = all
+  all_right (x ∷ xs) ys all = all_right xs ys (All-tail P x (xs ++ ys) all)
+
+  one_held : (w : Waiting) (r : Relay) → (same_text w.name r.name && same_id w.id r.submission.id) ≡ true → P w → P (noted r)
+  one_held w r is p =
+      let parts = and_parts (same_text w.name r.name) (same_id w.id r.submission.id) is in
+      let name = (bytes_decides w.name r.name).0 parts.0 in
+      let id = same_id-is w.id r.submission.id parts.1 in
+      subst P (λ i. record { name = name i; id = id i }) p
+
+  held : (ws : List Waiting) (r : Relay) → has ws r ≡ true → All P ws → P (noted r)
+  held [] r is all = absurd (false≢true is)
+  held (w ∷ ws) r is all = elim (or_cases (same_text w.name r.name && same_id w.id r.submission.id) (has ws r) is) [
+    | inl here ↦ one_held w r here (All-head P w ws all)
+    | inr there ↦ held ws r there (All-tail P w ws all)
+  ]
+
+  next_sent : (ws : List Waiting) (r : Relay) (rs : List Relay) (b : Bool) → has ws r ≡ b
+      → (All P (ws ++ map noted (fresh ws rs)) → All P (map noted rs))
+      → (All P ((ws ++ noted r ∷ []) ++ map noted (fresh (ws ++ noted r ∷ []) rs)) → All P (map noted rs))
+      → All P (ws ++ map noted (if b then fresh ws rs else r ∷ fresh (ws ++ noted r ∷ []) rs)) → All P (noted r ∷ map noted rs)
+  next_sent ws r rs true is same more all = All-cons P (noted r) (map noted rs) (held ws r is (all_left ws (map noted (fresh ws rs)) all)) (same all)
+  next_sent ws r rs false is same more all = All-cons P (noted r) (map noted rs)
+      (All-head P (noted r) (map noted (fresh (ws ++ noted r ∷ []) rs)) (all_right ws (noted r ∷ map noted (fresh (ws ++ noted r ∷ []) rs)) all))
+      (more (subst (All P) (sym (append_assoc ws (noted r ∷ []) (map noted (fresh (ws ++ noted r ∷ []) rs)))) all))
+
+  asked_sent : (ws : List Waiting) (rs : List Relay) → All P (ws ++ map noted (fresh ws rs)) → All P (map noted rs)
+  asked_sent ws [] all = All-nil P
+  asked_sent ws (r ∷ rs) all = next_sent ws r rs (has ws r) refl (asked_sent ws rs) (asked_sent (ws ++ noted r ∷ []) rs) all
+
+none_fresh : (rs : List Relay) → false ≡ is_any rs → rs ≡ []
+none_fresh [] e = refl
+none_fresh (r ∷ rs) e = absurd (false≢true e)
+
+module _ (tells told : Bool) (domain : Key) where
+  pub step_idle : (es fs : List LinkEvent) (i j : Ear) (ws vs : List Waiting) (cs ds : List TurnCall) (l0 l1 f0 f1 : ℕ) (c : Bool) (r : Result Stepped TurnFault)
+      → IsStep tells told domain es fs i j ws vs cs ds l0 l1 f0 f1 c r → ∥ AllSent tells es ws ∥₁ → IsIdle tells told domain es fs cs ds l0 l1 r
+  step_idle es fs i j ws vs cs ds l0 l1 f0 f1 c (Ok came_to.Dialled) s all = tt
+  step_idle es fs i j ws vs cs ds l0 l1 f0 f1 c (Ok came_to.Worked) s all = tt
+  step_idle es fs i j ws vs cs ds l0 l1 f0 f1 c (Ok came_to.Idle) s all = record {
+    relays = s.asked.relays;
+    calls = s.asked.calls;
+    sent = ∥∥₁_map all (λ was. λ t. asked_sent (WasSent fs) ws s.asked.relays (subst (All (WasSent fs)) s.asked.sent.noted_is (sent_some tells ws vs (es ++ Idle ∷ []) fs (fresh ws s.asked.relays) s.asked.sent (idle_sent tells told domain es ws was) t)));
+    looked = s.looked;
+    last = λ t. s.asked.sent.events t ∙ ap (λ z. (es ++ Idle ∷ []) ++ map relay z) (none_fresh (fresh ws s.asked.relays) s.asked.any_is) ∙ append-nil (es ++ Idle ∷ []);
+  }
+  step_idle es fs i j ws vs cs ds l0 l1 f0 f1 c (Ok came_to.Cut) s all = tt
+  step_idle es fs i j ws vs cs ds l0 l1 f0 f1 c (Err e) s all = tt

@@ -9,7 +9,9 @@
 --     HasPaused ..         there was no memory or no turn to send what waits, or to look
 --     IsSending ..         what waits was sent, whole or in part, by what it came to
 --     IsStep ..            one step, by what it came to
-use Rattle.std.specs.Prelude.{◌≡◌, ◌⊎◌, ℕ, Bool, true, false, IsTrue, List, [], ◌∷◌, ◌++◌, Result, Ok, Err}
+--     IsAtRest, IsIdle     nothing came, and each submission that was asked for had been sent on this link
+use Rattle.std.specs.Prelude.{◌≡◌, ◌⊎◌, ⊤, ℕ, Bool, true, false, IsTrue, List, [], ◌∷◌, ◌++◌, map, Result, Ok, Err}
+use Rattle.std.specs.List.{All}
 use Rattle.doc_items.specs.Maps.{Key}
 use Rattle.wave_outside.specs.Counts.{Rose}
 use Rattle.wave_outside.specs.declared.link.LinkEvent.{LinkEvent}
@@ -20,6 +22,7 @@ use Rattle.peer_turns.specs.declared.call.TurnCall.{TurnCall}
 use Rattle.peer_turns.specs.declared.fault.TurnFault.{TurnFault}
 use Rattle.peer_turns.specs.declared.item.Relay.{Relay}
 use Rattle.federation_link.specs.Asking.{HasSentSome, HasAskedFresh}
+use Rattle.federation_link.specs.Sends.{relay_calls, noted, WasSent}
 use Rattle.federation_link.specs.Takes.{heard, Gives, Keeps, HasGiven, settled}
 use Rattle.federation_link.specs.declared.ear.Ear.{Ear}
 use Rattle.federation_link.specs.declared.ear.Ear.TheVariants.{Open, Holding, Cut}
@@ -99,3 +102,21 @@ module _ (tells told : Bool) (domain : Key) where
   IsStep es fs i j ws vs cs ds l0 l1 f0 f1 c (Ok came_to.Idle) = HasSent false es fs i j ws vs cs ds l0 l1
   IsStep es fs i j ws vs cs ds l0 l1 f0 f1 c (Ok came_to.Cut) = HasEnded es fs i j ws vs cs ds f0 f1 c
   IsStep es fs i j ws vs cs ds l0 l1 f0 f1 c (Err e) = HasKept e es fs i j ws vs cs ds ⊎ HasPaused es fs i j ws vs cs ds
+
+  -- each of these submissions was sent
+  abbrev pub WereSent : List LinkEvent → List Relay → Type 0
+  WereSent es rs = ∥ (IsTrue tells → All (WasSent es) (map noted rs)) ∥₁
+
+  pub record IsAtRest (es fs : List LinkEvent) (cs ds : List TurnCall) (looks0 looks1 : ℕ) : Type 0 where
+    pub relays : List Relay
+    pub calls : IsTrue told → ds ≡ cs ++ relay_calls domain 0 relays
+    pub sent : WereSent fs relays
+    pub looked : Rose looks0 looks1
+    pub last : IsTrue tells → fs ≡ es ++ Idle ∷ []
+
+  abbrev pub IsIdle : List LinkEvent → List LinkEvent → List TurnCall → List TurnCall → (looks0 looks1 : ℕ) → Result Stepped TurnFault → Type 0
+  IsIdle es fs cs ds l0 l1 (Ok came_to.Dialled) = ⊤
+  IsIdle es fs cs ds l0 l1 (Ok came_to.Worked) = ⊤
+  IsIdle es fs cs ds l0 l1 (Ok came_to.Idle) = IsAtRest es fs cs ds l0 l1
+  IsIdle es fs cs ds l0 l1 (Ok came_to.Cut) = ⊤
+  IsIdle es fs cs ds l0 l1 (Err e) = ⊤

@@ -7,7 +7,7 @@ ghost use Rattle.wave_outside.specs.Links.{IsUnused};
 ghost use Rattle.peer_turns.specs.Calls.{refused, refusals, gifts};
 ghost use Rattle.federation_link.specs.Dials.{events_in, count_in, list_in, line_after, AreSent, IsGone, IsUnlinked, HasBegun, HasDialled, IsBack, WasAsked};
 ghost use Rattle.federation_link.specs.Sends.{WasSent};
-ghost use Rattle.federation_link.specs.Steps.{is_cut, IsStep};
+ghost use Rattle.federation_link.specs.Steps.{is_cut, IsStep, IsIdle};
 
 use crate::ear::Ear;
 use crate::greeting::greet;
@@ -97,6 +97,7 @@ impl<L: Link> PeerLink<L> {
     ) -> Result<Stepped, TurnFault>
         requires open { is_cut self.old.ear ≡ false }
         ensures gone { IsGone self.old.link self.new.link (λ l m. (L.faults l ≤ L.faults m) × IsStep L.tells T.tells self.old.domain (L.events l) (L.events m) self.old.ear self.new.ear self.old.unanswered self.new.unanswered (T.calls turns.old) (T.calls turns.new) (L.looks l) (L.looks m) (L.faults l) (L.faults m) (L.closed m) result) }
+        ensures idle { IsGone self.old.link self.new.link (λ l m. IsIdle L.tells T.tells self.old.domain (L.events l) (L.events m) (T.calls turns.old) (T.calls turns.new) (L.looks l) (L.looks m) result) }
         ensures spent { IsTrue T.tells → refusals (T.calls turns.new) ≡ refusals (T.calls turns.old) ++ refused result }
         ensures names { (self.new.domain ≡ self.old.domain) × (self.new.own ≡ self.old.own) × (self.new.address ≡ self.old.address) }
     {
@@ -247,6 +248,7 @@ impl<L: Link> PeerLink<L> {
         ensures asked { is_cut self.old.ear ≡ true → IsTrue N.tells → WasAsked result (encode_utf8_all self.old.address) (N.asked net.old) (N.asked net.new) }
         ensures ungiven { is_cut self.old.ear ≡ true → IsTrue T.tells → gifts (T.calls turns.new) ≡ gifts (T.calls turns.old) }
         ensures gone { is_cut self.old.ear ≡ false → IsGone self.old.link self.new.link (λ l m. (L.faults l ≤ L.faults m) × IsStep L.tells T.tells self.old.domain (L.events l) (L.events m) self.old.ear self.new.ear self.old.unanswered self.new.unanswered (T.calls turns.old) (T.calls turns.new) (L.looks l) (L.looks m) (L.faults l) (L.faults m) (L.closed m) result) }
+        ensures idle { is_cut self.old.ear ≡ false → IsGone self.old.link self.new.link (λ l m. IsIdle L.tells T.tells self.old.domain (L.events l) (L.events m) (T.calls turns.old) (T.calls turns.new) (L.looks l) (L.looks m) result) }
         ensures apart { is_cut self.old.ear ≡ false → net.new ≡ net.old }
         ensures out { N.out net.new + count_in self.old.link ≡ N.out net.old + count_in self.new.link }
         ensures same { (N.door net.new ≡ N.door net.old) × (N.accepted net.new ≡ N.accepted net.old) × (N.looks net.new ≡ N.looks net.old) }
