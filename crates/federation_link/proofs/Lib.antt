@@ -1,3 +1,4 @@
 mod Rounds
 mod Unread
 mod Sent
+mod Growing

@@ -1,4 +1,5 @@
 ghost use Rattle.std.specs.Prelude.{◌≡◌, ◌≤◌, ◌<◌, ◌+◌, ◌++◌, ◌∷◌, ◌||◌, [], true, false, Some, None, is_some, option_copied, IsTrue, IsSome, IfOk, IfErr, MatchResult};
+ghost use mathlib.Core.List.{IsPrefix};
 ghost use Rattle.std.specs.Coded.{Coded-set, coded_bool};
 ghost use Rattle.std.specs.List.{All};
 ghost use Rattle.std.proofs.Math.Logic.{∥∥₁_prop};
@@ -96,7 +97,8 @@ impl<L: Link> PeerLink<L> {
         turns: &mut T,
     ) -> Result<Stepped, TurnFault>
         requires open { is_cut self.old.ear ≡ false }
-        ensures gone { IsGone self.old.link self.new.link (λ l m. (L.faults l ≤ L.faults m) × IsStep L.tells T.tells self.old.domain (L.events l) (L.events m) self.old.ear self.new.ear self.old.unanswered self.new.unanswered (T.calls turns.old) (T.calls turns.new) (L.looks l) (L.looks m) (L.faults l) (L.faults m) (L.closed m) result) }
+        ensures gone { IsGone self.old.link self.new.link (λ l m. IsStep L.tells T.tells self.old.domain (L.events l) (L.events m) self.old.ear self.new.ear self.old.unanswered self.new.unanswered (T.calls turns.old) (T.calls turns.new) (L.looks l) (L.looks m) (L.faults l) (L.faults m) (L.closed m) result) }
+        ensures later { IsGone self.old.link self.new.link (λ l m. (L.faults l ≤ L.faults m) × (IsTrue L.tells → IsPrefix (L.events l) (L.events m))) }
         ensures idle { IsGone self.old.link self.new.link (λ l m. IsIdle L.tells T.tells self.old.domain (L.events l) (L.events m) (T.calls turns.old) (T.calls turns.new) (L.looks l) (L.looks m) result) }
         ensures spent { IsTrue T.tells → refusals (T.calls turns.new) ≡ refusals (T.calls turns.old) ++ refused result }
         ensures names { (self.new.domain ≡ self.old.domain) × (self.new.own ≡ self.old.own) × (self.new.address ≡ self.old.address) }
@@ -247,7 +249,8 @@ impl<L: Link> PeerLink<L> {
         ensures back { is_cut self.old.ear ≡ true → IsBack result self.old.link (N.back net.old) (N.back net.new) }
         ensures asked { is_cut self.old.ear ≡ true → IsTrue N.tells → WasAsked result (encode_utf8_all self.old.address) (N.asked net.old) (N.asked net.new) }
         ensures ungiven { is_cut self.old.ear ≡ true → IsTrue T.tells → gifts (T.calls turns.new) ≡ gifts (T.calls turns.old) }
-        ensures gone { is_cut self.old.ear ≡ false → IsGone self.old.link self.new.link (λ l m. (L.faults l ≤ L.faults m) × IsStep L.tells T.tells self.old.domain (L.events l) (L.events m) self.old.ear self.new.ear self.old.unanswered self.new.unanswered (T.calls turns.old) (T.calls turns.new) (L.looks l) (L.looks m) (L.faults l) (L.faults m) (L.closed m) result) }
+        ensures gone { is_cut self.old.ear ≡ false → IsGone self.old.link self.new.link (λ l m. IsStep L.tells T.tells self.old.domain (L.events l) (L.events m) self.old.ear self.new.ear self.old.unanswered self.new.unanswered (T.calls turns.old) (T.calls turns.new) (L.looks l) (L.looks m) (L.faults l) (L.faults m) (L.closed m) result) }
+        ensures later { is_cut self.old.ear ≡ false → IsGone self.old.link self.new.link (λ l m. (L.faults l ≤ L.faults m) × (IsTrue L.tells → IsPrefix (L.events l) (L.events m))) }
         ensures idle { is_cut self.old.ear ≡ false → IsGone self.old.link self.new.link (λ l m. IsIdle L.tells T.tells self.old.domain (L.events l) (L.events m) (T.calls turns.old) (T.calls turns.new) (L.looks l) (L.looks m) result) }
         ensures apart { is_cut self.old.ear ≡ false → net.new ≡ net.old }
         ensures out { N.out net.new + count_in self.old.link ≡ N.out net.old + count_in self.new.link }

@@ -1,5 +1,6 @@
 // One step on a link that is open.
 ghost use Rattle.std.specs.Prelude.{◌≡◌, ◌≤◌, ◌++◌, ◌∷◌, [], false, IsTrue, IfOk, IfErr};
+ghost use mathlib.Core.List.{IsPrefix};
 ghost use Rattle.wave_outside.specs.Counts.{Rose};
 ghost use Rattle.wave_outside.specs.declared.link.LinkEvent.TheVariants as event;
 ghost use Rattle.peer_turns.specs.Calls.{refused, refusals};
@@ -105,6 +106,7 @@ fn look<R: Wait, L: Link, T: PeerTurns>(
 }
 
 /// One step on a link that is open: the message that is to be taken is taken, else the link is looked at.
+#[tactic(auto, using(crate::proofs::Growing::step_grows))]
 pub(crate) fn step<R: Wait, L: Link, T: PeerTurns>(
     rt: &R,
     alloc: Global,
@@ -116,6 +118,7 @@ pub(crate) fn step<R: Wait, L: Link, T: PeerTurns>(
 ) -> Result<Stepped, TurnFault>
     requires open { is_cut ear.old ≡ false }
     ensures stepped { IsStep L.tells T.tells domain.now (L.events link.old) (L.events link.new) ear.old ear.new unanswered.old unanswered.new (T.calls turns.old) (T.calls turns.new) (L.looks link.old) (L.looks link.new) (L.faults link.old) (L.faults link.new) (L.closed link.new) result }
+    ensures grows { IsTrue L.tells → IsPrefix (L.events link.old) (L.events link.new) }
     ensures spent { IsTrue T.tells → refusals (T.calls turns.new) ≡ refusals (T.calls turns.old) ++ refused result }
     ensures later { L.faults link.old ≤ L.faults link.new }
 {
