@@ -66,8 +66,8 @@ pub sent_some : (tells : Bool) (ws vs : List Waiting) (es fs : List LinkEvent) (
 sent_some tells ws vs es fs rs h all = λ t.
     subst (λ z. All (WasSent fs) z) (sym h.noted_is)
     (All-append (WasSent fs) ws (map noted rs)
-        (grown tells es fs (map relay rs) ws h.events all t)
-        (subst (λ z. All (WasSent z) (map noted rs)) (sym (h.events t)) (sents es rs)))
+    (grown tells es fs (map relay rs) ws h.events all t)
+    (subst (λ z. All (WasSent z) (map noted rs)) (sym (h.events t)) (sents es rs)))
 
 -- ---- a new link
 
@@ -76,8 +76,8 @@ pub greeted_sent : (tells told : Bool) (domain own : Key) (vs : List Waiting) (e
 greeted_sent tells told domain own vs es fs cs ds h = λ t.
     subst (λ z. All (WasSent fs) z) (sym h.noted_is)
     (subst (λ z. All (WasSent z) (map noted h.relays))
-        (append_assoc es (sent_as (message.Peer own) ∷ map have h.copies) (map relay h.relays) ∙ sym (h.sent t))
-        (sents (es ++ sent_as (message.Peer own) ∷ map have h.copies) h.relays))
+    (append_assoc es (sent_as (message.Peer own) ∷ map have h.copies) (map relay h.relays) ∙ sym (h.sent t))
+    (sents (es ++ sent_as (message.Peer own) ∷ map have h.copies) h.relays))
 
 -- ---- a message
 
