@@ -1,6 +1,6 @@
 -- A message that wasn't read for want of memory asks for no call yet.
 --     unread       whatever it is
-use Rattle.std.proofs.Common.{◌≡◌, refl, [], Ok, Err}
+use Rattle.std.proofs.Common.{refl, [], Ok, Err}
 use Rattle.message_json.specs.declared.message.Message.{Message}
 use Rattle.message_json.specs.declared.message.Message.TheVariants as message
 use Rattle.peer_turns.specs.declared.fault.TurnFault.TheVariants.{Memory}

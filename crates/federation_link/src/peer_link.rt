@@ -1,12 +1,11 @@
-ghost use Rattle.std.specs.Prelude.{◌≡◌, ◌≤◌, ◌<◌, ◌+◌, ◌++◌, ◌∷◌, ◌||◌, [], true, false, Some, None, is_some, option_copied, IsTrue, IsSome, IfOk, IfErr, MatchResult};
+ghost use Rattle.std.specs.Prelude.{◌≡◌, ◌≤◌, ◌<◌, ◌+◌, ◌++◌, ◌||◌, true, false, Some, None, is_some, option_copied, IsTrue, IsSome};
 ghost use mathlib.Core.List.{IsPrefix};
 ghost use Rattle.std.specs.Coded.{Coded-set, coded_bool};
 ghost use Rattle.std.specs.List.{All};
-ghost use Rattle.std.proofs.Math.Logic.{∥∥₁_prop};
 ghost use Rattle.std.specs.Str.{encode_utf8_all};
 ghost use Rattle.wave_outside.specs.Links.{IsUnused};
 ghost use Rattle.peer_turns.specs.Calls.{refused, refusals, gifts};
-ghost use Rattle.federation_link.specs.Dials.{events_in, count_in, list_in, line_after, AreSent, IsGone, IsUnlinked, HasBegun, HasDialled, IsBack, WasAsked};
+ghost use Rattle.federation_link.specs.Dials.{count_in, list_in, line_after, AreSent, IsGone, IsUnlinked, HasBegun, HasDialled, IsBack, WasAsked};
 ghost use Rattle.federation_link.specs.Sends.{WasSent};
 ghost use Rattle.federation_link.specs.Steps.{is_cut, IsStep, IsIdle};
 

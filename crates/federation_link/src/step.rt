@@ -1,8 +1,6 @@
 // One step on a link that is open.
-ghost use Rattle.std.specs.Prelude.{◌≡◌, ◌≤◌, ◌++◌, ◌∷◌, [], false, IsTrue, IfOk, IfErr};
+ghost use Rattle.std.specs.Prelude.{◌≡◌, ◌≤◌, ◌++◌, false, IsTrue, IfOk, IfErr};
 ghost use mathlib.Core.List.{IsPrefix};
-ghost use Rattle.wave_outside.specs.Counts.{Rose};
-ghost use Rattle.wave_outside.specs.declared.link.LinkEvent.TheVariants as event;
 ghost use Rattle.peer_turns.specs.Calls.{refused, refusals};
 ghost use Rattle.federation_link.specs.Steps.{is_cut, IsHolding, IsStep, IsSending};
 ghost use Rattle.federation_link.specs.Takes.{HasGiven, Gives, Keeps, heard, settled};

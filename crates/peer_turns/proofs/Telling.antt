@@ -1,6 +1,6 @@
 -- What one call adds to the turns that were refused and to the calls that gave a copy something.
 --     refused_more, gifts_same      for calls of any kind
-use Rattle.std.proofs.Common.{◌≡◌, ◌∙◌, ap, refl, List, [], ◌∷◌, ◌++◌, Result, Ok, Err, append-nil}
+use Rattle.std.proofs.Common.{◌≡◌, ◌∙◌, ap, refl, List, [], ◌++◌, Result, Ok, Err, append-nil}
 use Rattle.std.proofs.lemmas.List.Concat.{flat_map-append}
 use Rattle.turn_lock.specs.declared.cell.Spent.{Spent}
 use Rattle.peer_turns.specs.Calls.{told, refused, refusals, gifts, call_refused, call_gift, answer_refused}

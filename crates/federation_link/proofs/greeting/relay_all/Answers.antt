@@ -1,4 +1,4 @@
-use Rattle.std.proofs.Common.{refl, subst, ◌∙◌, ◌+◌, arith, append-nil}
+use Rattle.std.proofs.Common.{refl, subst, ◌∙◌, arith, append-nil}
 use Rattle.federation_link.specs.Asking.{HasRelayedNext}
 use Rattle.federation_link.proofs.Rounds.{relaying_begin, relaying_next, relaying_over}
 use Rattle.federation_link.proofs.greeting.relay_all.Goals as goal

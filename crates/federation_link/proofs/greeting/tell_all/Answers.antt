@@ -1,4 +1,4 @@
-use Rattle.std.proofs.Common.{refl, subst, ◌∙◌, ◌+◌, arith, append-nil}
+use Rattle.std.proofs.Common.{refl, subst, ◌∙◌, arith, append-nil}
 use Rattle.federation_link.specs.Asking.{HasToldNext}
 use Rattle.federation_link.proofs.Rounds.{telling_begin, telling_next, telling_over}
 use Rattle.federation_link.proofs.greeting.tell_all.Goals as goal

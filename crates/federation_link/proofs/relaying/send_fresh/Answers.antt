@@ -1,4 +1,4 @@
-use Rattle.std.proofs.Common.{refl, subst, ◌∙◌, ◌+◌, arith, append-nil}
+use Rattle.std.proofs.Common.{refl, subst, ◌∙◌, arith, append-nil}
 use Rattle.federation_link.specs.Asking.{IsNext}
 use Rattle.federation_link.proofs.Rounds.{round_begin, round_next, round_over}
 use Rattle.federation_link.proofs.relaying.send_fresh.Goals as goal
