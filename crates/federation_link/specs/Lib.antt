@@ -4,3 +4,4 @@ pub mod Takes
 pub mod Asking
 pub mod Steps
 pub mod Dials
+pub mod Called

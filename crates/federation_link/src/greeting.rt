@@ -2,7 +2,7 @@
 ghost use Rattle.std.specs.Prelude.{◌≡◌, ◌≤◌, ◌++◌, [], IsTrue, IfOk, IfErr, OnOk};
 ghost use Rattle.wave_outside.specs.Counts.{Rose};
 ghost use Rattle.peer_turns.specs.Calls.{refusals, gifts};
-ghost use Rattle.federation_link.specs.Asking.{HasToldNext, HasRelayedNext, HasSentHaves, HasAskedAll, HasTold, HasGreeted};
+ghost use Rattle.federation_link.specs.Called.{TellsNext, TellsAll, RelaysNext, RelaysAll, Tells, Greets};
 ghost use Rattle.federation_link.specs.Stops.{stop_refused};
 
 use crate::asking::{ask_copy, ask_relay};
@@ -25,7 +25,7 @@ fn tell_next<R: Wait, L: Link, T: PeerTurns>(
     link: &mut L,
     turns: &mut T,
 ) -> Result<bool, Stop>
-    ensures next { IfOk result (HasToldNext L.tells T.tells domain.now place (L.events link.old) (L.events link.new) (T.calls turns.old) (T.calls turns.new)) }
+    ensures next { IfOk result (TellsNext L.Link T.PeerTurns domain.now place link.old link.new turns.old turns.new) }
     ensures spent { IsTrue T.tells → refusals (T.calls turns.new) ≡ refusals (T.calls turns.old) ++ stop_refused result }
     ensures gifts { IsTrue T.tells → gifts (T.calls turns.new) ≡ gifts (T.calls turns.old) }
     ensures failed { IfErr result (λ e. e ≡ Stop.Link → Rose (L.faults link.old) (L.faults link.new)) }
@@ -50,7 +50,7 @@ fn tell_all<R: Wait, L: Link, T: PeerTurns>(
     link: &mut L,
     turns: &mut T,
 ) -> Result<(), Stop>
-    ensures told { OnOk result (HasSentHaves L.tells T.tells domain.now (L.events link.old) (L.events link.new) (T.calls turns.old) (T.calls turns.new)) }
+    ensures told { OnOk result (TellsAll L.Link T.PeerTurns domain.now link.old link.new turns.old turns.new) }
     ensures spent { IsTrue T.tells → refusals (T.calls turns.new) ≡ refusals (T.calls turns.old) ++ stop_refused result }
     ensures gifts { IsTrue T.tells → gifts (T.calls turns.new) ≡ gifts (T.calls turns.old) }
     ensures failed { IfErr result (λ e. e ≡ Stop.Link → Rose (L.faults link.old) (L.faults link.new)) }
@@ -77,7 +77,7 @@ fn relay_next<R: Wait, L: Link, T: PeerTurns>(
     unanswered: &mut Waitings,
     turns: &mut T,
 ) -> Result<bool, Stop>
-    ensures next { IfOk result (HasRelayedNext L.tells T.tells domain.now place unanswered.old unanswered.new (L.events link.old) (L.events link.new) (T.calls turns.old) (T.calls turns.new)) }
+    ensures next { IfOk result (RelaysNext L.Link T.PeerTurns domain.now place unanswered.old unanswered.new link.old link.new turns.old turns.new) }
     ensures spent { IsTrue T.tells → refusals (T.calls turns.new) ≡ refusals (T.calls turns.old) ++ stop_refused result }
     ensures gifts { IsTrue T.tells → gifts (T.calls turns.new) ≡ gifts (T.calls turns.old) }
     ensures failed { IfErr result (λ e. e ≡ Stop.Link → Rose (L.faults link.old) (L.faults link.new)) }
@@ -103,7 +103,7 @@ fn relay_all<R: Wait, L: Link, T: PeerTurns>(
     unanswered: &mut Waitings,
     turns: &mut T,
 ) -> Result<(), Stop>
-    ensures asked { OnOk result (HasAskedAll L.tells T.tells domain.now unanswered.old unanswered.new (L.events link.old) (L.events link.new) (T.calls turns.old) (T.calls turns.new)) }
+    ensures asked { OnOk result (RelaysAll L.Link T.PeerTurns domain.now unanswered.old unanswered.new link.old link.new turns.old turns.new) }
     ensures spent { IsTrue T.tells → refusals (T.calls turns.new) ≡ refusals (T.calls turns.old) ++ stop_refused result }
     ensures gifts { IsTrue T.tells → gifts (T.calls turns.new) ≡ gifts (T.calls turns.old) }
     ensures failed { IfErr result (λ e. e ≡ Stop.Link → Rose (L.faults link.old) (L.faults link.new)) }
@@ -130,7 +130,7 @@ fn tell_and_relay<R: Wait, L: Link, T: PeerTurns>(
     turns: &mut T,
 ) -> Result<(), Stop>
     requires none { unanswered.old ≡ [] }
-    ensures told { OnOk result (HasTold L.tells T.tells domain.now unanswered.new (L.events link.old) (L.events link.new) (T.calls turns.old) (T.calls turns.new)) }
+    ensures told { OnOk result (Tells L.Link T.PeerTurns domain.now unanswered.new link.old link.new turns.old turns.new) }
     ensures spent { IsTrue T.tells → refusals (T.calls turns.new) ≡ refusals (T.calls turns.old) ++ stop_refused result }
     ensures gifts { IsTrue T.tells → gifts (T.calls turns.new) ≡ gifts (T.calls turns.old) }
     ensures failed { IfErr result (λ e. e ≡ Stop.Link → Rose (L.faults link.old) (L.faults link.new)) }
@@ -155,7 +155,7 @@ pub(crate) fn greet<R: Wait, L: Link, T: PeerTurns>(
     turns: &mut T,
 ) -> Result<(), Stop>
     requires none { unanswered.old ≡ [] }
-    ensures greeted { OnOk result (HasGreeted L.tells T.tells domain.now own.now unanswered.new (L.events link.old) (L.events link.new) (T.calls turns.old) (T.calls turns.new)) }
+    ensures greeted { OnOk result (Greets L.Link T.PeerTurns domain.now own.now unanswered.new link.old link.new turns.old turns.new) }
     ensures spent { IsTrue T.tells → refusals (T.calls turns.new) ≡ refusals (T.calls turns.old) ++ stop_refused result }
     ensures gifts { IsTrue T.tells → gifts (T.calls turns.new) ≡ gifts (T.calls turns.old) }
     ensures failed { IfErr result (λ e. e ≡ Stop.Link → Rose (L.faults link.old) (L.faults link.new)) }

@@ -5,9 +5,10 @@ ghost use Rattle.std.specs.List.{All};
 ghost use Rattle.std.specs.Str.{encode_utf8_all};
 ghost use Rattle.wave_outside.specs.Links.{IsUnused};
 ghost use Rattle.peer_turns.specs.Calls.{refused, refusals, gifts};
-ghost use Rattle.federation_link.specs.Dials.{count_in, list_in, line_after, AreSent, IsGone, IsUnlinked, HasBegun, HasDialled, IsBack, WasAsked};
+ghost use Rattle.federation_link.specs.Called.{Begins, Dials, GoesOn, Rests};
+ghost use Rattle.federation_link.specs.Dials.{count_in, list_in, line_after, AreSent, IsGone, IsUnlinked, IsBack, WasAsked};
 ghost use Rattle.federation_link.specs.Sends.{WasSent};
-ghost use Rattle.federation_link.specs.Steps.{is_cut, IsStep, IsIdle};
+ghost use Rattle.federation_link.specs.Steps.{is_cut};
 
 use crate::ear::Ear;
 use crate::greeting::greet;
@@ -96,9 +97,9 @@ impl<L: Link> PeerLink<L> {
         turns: &mut T,
     ) -> Result<Stepped, TurnFault>
         requires open { is_cut self.old.ear ≡ false }
-        ensures gone { IsGone self.old.link self.new.link (λ l m. IsStep L.tells T.tells self.old.domain (L.events l) (L.events m) self.old.ear self.new.ear self.old.unanswered self.new.unanswered (T.calls turns.old) (T.calls turns.new) (L.looks l) (L.looks m) (L.faults l) (L.faults m) (L.closed m) result) }
+        ensures gone { GoesOn L.Link T.PeerTurns self.old.domain self.old.link self.new.link self.old.ear self.new.ear self.old.unanswered self.new.unanswered turns.old turns.new result }
         ensures later { IsGone self.old.link self.new.link (λ l m. (L.faults l ≤ L.faults m) × (IsTrue L.tells → IsPrefix (L.events l) (L.events m))) }
-        ensures idle { IsGone self.old.link self.new.link (λ l m. IsIdle L.tells T.tells self.old.domain (L.events l) (L.events m) (T.calls turns.old) (T.calls turns.new) (L.looks l) (L.looks m) result) }
+        ensures idle { Rests L.Link T.PeerTurns self.old.domain self.old.link self.new.link turns.old turns.new result }
         ensures spent { IsTrue T.tells → refusals (T.calls turns.new) ≡ refusals (T.calls turns.old) ++ refused result }
         ensures names { (self.new.domain ≡ self.old.domain) × (self.new.own ≡ self.old.own) × (self.new.address ≡ self.old.address) }
     {
@@ -149,7 +150,7 @@ impl<L: Link> PeerLink<L> {
         requires unused { IsUnused (L.faults link) (L.events link) (L.closed link) }
         requires unlinked { IsUnlinked self.old.link self.old.ear }
         requires out { 0 < N.out net.old }
-        ensures begun { HasBegun L.tells T.tells L.events L.faults self.old.domain self.old.own self.new.link self.new.ear self.new.unanswered (T.calls turns.old) (T.calls turns.new) result }
+        ensures begun { Begins L.Link T.PeerTurns self.old.domain self.old.own self.new.link self.new.ear self.new.unanswered turns.old turns.new result }
         ensures back { IsBack result None (N.back net.old) (N.back net.new) }
         ensures out { N.out net.new + 1 ≡ N.out net.old + count_in self.new.link }
         ensures asked { IsTrue N.tells → N.asked net.new ≡ N.asked net.old }
@@ -214,7 +215,7 @@ impl<L: Link> PeerLink<L> {
         turns: &mut T,
     ) -> Result<Stepped, TurnFault>
         requires out { IsSome self.old.link → 0 < N.out net.old }
-        ensures dialled { HasDialled L.tells T.tells L.events L.faults self.old.domain self.old.own self.new.link self.new.ear self.new.unanswered (T.calls turns.old) (T.calls turns.new) (line_after L.faults self.old.link (N.line net.old)) (N.line net.new) result }
+        ensures dialled { Dials L.Link T.PeerTurns self.old.domain self.old.own self.old.link self.new.link self.new.ear self.new.unanswered turns.old turns.new (N.line net.old) (N.line net.new) result }
         ensures back { IsBack result self.old.link (N.back net.old) (N.back net.new) }
         ensures out { N.out net.new + count_in self.old.link ≡ N.out net.old + count_in self.new.link }
         ensures asked { IsTrue N.tells → WasAsked result (encode_utf8_all self.old.address) (N.asked net.old) (N.asked net.new) }
@@ -244,13 +245,17 @@ impl<L: Link> PeerLink<L> {
         turns: &mut T,
     ) -> Result<Stepped, TurnFault>
         requires out { IsSome self.old.link → 0 < N.out net.old }
-        ensures dialled { is_cut self.old.ear ≡ true → HasDialled L.tells T.tells L.events L.faults self.old.domain self.old.own self.new.link self.new.ear self.new.unanswered (T.calls turns.old) (T.calls turns.new) (line_after L.faults self.old.link (N.line net.old)) (N.line net.new) result }
+        ensures dialled { is_cut self.old.ear ≡ true
+            → Dials L.Link T.PeerTurns self.old.domain self.old.own self.old.link self.new.link self.new.ear self.new.unanswered turns.old turns.new (N.line net.old) (N.line net.new) result }
         ensures back { is_cut self.old.ear ≡ true → IsBack result self.old.link (N.back net.old) (N.back net.new) }
-        ensures asked { is_cut self.old.ear ≡ true → IsTrue N.tells → WasAsked result (encode_utf8_all self.old.address) (N.asked net.old) (N.asked net.new) }
+        ensures asked { is_cut self.old.ear ≡ true
+            → IsTrue N.tells → WasAsked result (encode_utf8_all self.old.address) (N.asked net.old) (N.asked net.new) }
         ensures ungiven { is_cut self.old.ear ≡ true → IsTrue T.tells → gifts (T.calls turns.new) ≡ gifts (T.calls turns.old) }
-        ensures gone { is_cut self.old.ear ≡ false → IsGone self.old.link self.new.link (λ l m. IsStep L.tells T.tells self.old.domain (L.events l) (L.events m) self.old.ear self.new.ear self.old.unanswered self.new.unanswered (T.calls turns.old) (T.calls turns.new) (L.looks l) (L.looks m) (L.faults l) (L.faults m) (L.closed m) result) }
-        ensures later { is_cut self.old.ear ≡ false → IsGone self.old.link self.new.link (λ l m. (L.faults l ≤ L.faults m) × (IsTrue L.tells → IsPrefix (L.events l) (L.events m))) }
-        ensures idle { is_cut self.old.ear ≡ false → IsGone self.old.link self.new.link (λ l m. IsIdle L.tells T.tells self.old.domain (L.events l) (L.events m) (T.calls turns.old) (T.calls turns.new) (L.looks l) (L.looks m) result) }
+        ensures gone { is_cut self.old.ear ≡ false
+            → GoesOn L.Link T.PeerTurns self.old.domain self.old.link self.new.link self.old.ear self.new.ear self.old.unanswered self.new.unanswered turns.old turns.new result }
+        ensures later { is_cut self.old.ear ≡ false
+            → IsGone self.old.link self.new.link (λ l m. (L.faults l ≤ L.faults m) × (IsTrue L.tells → IsPrefix (L.events l) (L.events m))) }
+        ensures idle { is_cut self.old.ear ≡ false → Rests L.Link T.PeerTurns self.old.domain self.old.link self.new.link turns.old turns.new result }
         ensures apart { is_cut self.old.ear ≡ false → net.new ≡ net.old }
         ensures out { N.out net.new + count_in self.old.link ≡ N.out net.old + count_in self.new.link }
         ensures same { (N.door net.new ≡ N.door net.old) × (N.accepted net.new ≡ N.accepted net.old) × (N.looks net.new ≡ N.looks net.old) }

@@ -4,7 +4,8 @@ ghost use Rattle.wave_outside.specs.Counts.{Rose};
 ghost use Rattle.peer_turns.specs.Calls.{refusals, gifts};
 ghost use Rattle.peer_turns.specs.declared.item.Relay.{Relay};
 ghost use Rattle.peer_turns.specs.declared.fault.TurnFault.TheVariants.{Memory};
-ghost use Rattle.federation_link.specs.Asking.{IsNext, HasAskedFresh, HasSentSome};
+ghost use Rattle.federation_link.specs.Asking.{HasSentSome};
+ghost use Rattle.federation_link.specs.Called.{SendsNext, SendsFresh};
 ghost use Rattle.federation_link.specs.Sends.{noted, has, relay};
 ghost use Rattle.federation_link.specs.Stops.{IsLinkStop, stop_refused};
 
@@ -88,7 +89,7 @@ fn send_next<R: Wait, L: Link, T: PeerTurns>(
     unanswered: &mut Waitings,
     turns: &mut T,
 ) -> Result<Option<bool>, Stop>
-    ensures next { IfOk result (IsNext L.tells T.tells domain.now place unanswered.old unanswered.new (L.events link.old) (L.events link.new) (T.calls turns.old) (T.calls turns.new)) }
+    ensures next { IfOk result (SendsNext L.Link T.PeerTurns domain.now place unanswered.old unanswered.new link.old link.new turns.old turns.new) }
     ensures unsent { OnErr result (HasSentSome L.tells unanswered.old unanswered.new (L.events link.old) (L.events link.new) []) }
     ensures spent { IsTrue T.tells → refusals (T.calls turns.new) ≡ refusals (T.calls turns.old) ++ stop_refused result }
     ensures gifts { IsTrue T.tells → gifts (T.calls turns.new) ≡ gifts (T.calls turns.old) }
@@ -120,7 +121,7 @@ pub(crate) fn send_fresh<R: Wait, L: Link, T: PeerTurns>(
     unanswered: &mut Waitings,
     turns: &mut T,
 ) -> Result<bool, Stop>
-    ensures asked { IfOk result (HasAskedFresh L.tells T.tells domain.now unanswered.old unanswered.new (L.events link.old) (L.events link.new) (T.calls turns.old) (T.calls turns.new)) }
+    ensures asked { IfOk result (SendsFresh L.Link T.PeerTurns domain.now unanswered.old unanswered.new link.old link.new turns.old turns.new) }
     ensures sent { OnErr result ((rs : List Relay) × HasSentSome L.tells unanswered.old unanswered.new (L.events link.old) (L.events link.new) rs) }
     ensures spent { IsTrue T.tells → refusals (T.calls turns.new) ≡ refusals (T.calls turns.old) ++ stop_refused result }
     ensures gifts { IsTrue T.tells → gifts (T.calls turns.new) ≡ gifts (T.calls turns.old) }

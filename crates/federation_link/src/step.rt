@@ -2,7 +2,8 @@
 ghost use Rattle.std.specs.Prelude.{◌≡◌, ◌≤◌, ◌++◌, false, IsTrue, IfOk, IfErr};
 ghost use mathlib.Core.List.{IsPrefix};
 ghost use Rattle.peer_turns.specs.Calls.{refused, refusals};
-ghost use Rattle.federation_link.specs.Steps.{is_cut, IsHolding, IsStep, IsSending};
+ghost use Rattle.federation_link.specs.Called.{Sends, StepsOn};
+ghost use Rattle.federation_link.specs.Steps.{is_cut, IsHolding};
 ghost use Rattle.federation_link.specs.Takes.{HasGiven, Gives, Keeps, heard, settled};
 
 use crate::ear::Ear;
@@ -57,7 +58,7 @@ fn relay<R: Wait, L: Link, T: PeerTurns>(
     turns: &mut T,
 ) -> Result<Stepped, TurnFault>
     requires open { ear.old ≡ Ear.Open }
-    ensures sent { IsSending L.tells T.tells domain.now (L.events link.old) (L.events link.new) ear.new unanswered.old unanswered.new (T.calls turns.old) (T.calls turns.new) (L.faults link.old) (L.faults link.new) result }
+    ensures sent { Sends L.Link T.PeerTurns domain.now link.old link.new ear.new unanswered.old unanswered.new turns.old turns.new result }
     ensures spent { IsTrue T.tells → refusals (T.calls turns.new) ≡ refusals (T.calls turns.old) ++ refused result }
     ensures later { L.faults link.old ≤ L.faults link.new }
     ensures same { (L.closed link.new ≡ L.closed link.old) × (L.looks link.new ≡ L.looks link.old) }
@@ -84,7 +85,7 @@ fn look<R: Wait, L: Link, T: PeerTurns>(
     turns: &mut T,
 ) -> Result<Stepped, TurnFault>
     requires open { ear.old ≡ Ear.Open }
-    ensures stepped { IsStep L.tells T.tells domain.now (L.events link.old) (L.events link.new) ear.old ear.new unanswered.old unanswered.new (T.calls turns.old) (T.calls turns.new) (L.looks link.old) (L.looks link.new) (L.faults link.old) (L.faults link.new) (L.closed link.new) result }
+    ensures stepped { StepsOn L.Link T.PeerTurns domain.now link.old link.new ear.old ear.new unanswered.old unanswered.new turns.old turns.new result }
     ensures spent { IsTrue T.tells → refusals (T.calls turns.new) ≡ refusals (T.calls turns.old) ++ refused result }
     ensures later { L.faults link.old ≤ L.faults link.new }
 {
@@ -115,7 +116,7 @@ pub(crate) fn step<R: Wait, L: Link, T: PeerTurns>(
     turns: &mut T,
 ) -> Result<Stepped, TurnFault>
     requires open { is_cut ear.old ≡ false }
-    ensures stepped { IsStep L.tells T.tells domain.now (L.events link.old) (L.events link.new) ear.old ear.new unanswered.old unanswered.new (T.calls turns.old) (T.calls turns.new) (L.looks link.old) (L.looks link.new) (L.faults link.old) (L.faults link.new) (L.closed link.new) result }
+    ensures stepped { StepsOn L.Link T.PeerTurns domain.now link.old link.new ear.old ear.new unanswered.old unanswered.new turns.old turns.new result }
     ensures grows { IsTrue L.tells → IsPrefix (L.events link.old) (L.events link.new) }
     ensures spent { IsTrue T.tells → refusals (T.calls turns.new) ≡ refusals (T.calls turns.old) ++ refused result }
     ensures later { L.faults link.old ≤ L.faults link.new }
