@@ -1,0 +1,4 @@
+mod Rounds
+mod Unread
+mod Sent
+mod Growing
