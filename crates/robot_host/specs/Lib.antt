@@ -8,3 +8,4 @@ pub mod Reactions
 pub mod Showing
 pub mod Turns
 pub mod Hosts
+pub mod Laws
