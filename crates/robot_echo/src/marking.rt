@@ -71,7 +71,11 @@ fn marked(alloc: Global, items: &Rope, own: &DocumentName) -> Result<Reaction, M
 }
 
 /// The edit that puts the mark at the end of the document; nothing where it has no room.
-pub(crate) fn mark(alloc: Global, state: &WaveletState, own: &DocumentName) -> Result<Reaction, Memory>
+pub(crate) fn mark(
+    alloc: Global,
+    state: &WaveletState,
+    own: &DocumentName,
+) -> Result<Reaction, Memory>
     requires { own.now ≡ echo_name }
     ensures { IfOk result (IsMarked (document_of state.now echo_name)) }
 {

@@ -9,3 +9,4 @@ pub mod Showing
 pub mod Turns
 pub mod Hosts
 pub mod Laws
+pub mod Tables
