@@ -5,22 +5,22 @@
 --     there_before           who is there was there before
 --     turned_all             the edits that are given or kept
 --     may_again              the conditions of the next turn
-use Rattle.std.proofs.Common.{◌≡◌, ℕ, zero, suc, ◌<◌, ◌≤◌, arith, Bool, true, false, cond, List, [], ◌∷◌, ◌++◌, length, map, slice_get, Option, Some, None, IfSome, Result, Ok, Err, OnErr, refl, sym, ap, subst, ◌∙◌, append_assoc, append-nil, true≢false}
+use Rattle.std.proofs.Common.{◌≡◌, ℕ, zero, suc, arith, Bool, true, false, cond, List, [], ◌∷◌, ◌++◌, length, map, slice_get, Option, Some, None, IfSome, Result, Ok, Err, OnErr, refl, sym, ap, subst, ◌∙◌, append_assoc, append-nil, true≢false}
 use Rattle.std.specs.List.{filter}
-use Rattle.std.specs.Option.{option_map, option_map_or}
+use Rattle.std.specs.Option.{option_map_or}
 use Rattle.std.proofs.lemmas.List.{map-append, length-map}
 use Rattle.std.proofs.lemmas.List.Elements.{filter-append}
-use Rattle.std.proofs.lemmas.Option.{slice_get_within, slice_get-map}
+use Rattle.std.proofs.lemmas.Option.{slice_get_within}
 use Rattle.doc_items.specs.Maps.{Key, same_text}
 use Rattle.doc_op.proofs.Applying.{no_value, same_Some}
 use Rattle.wavelet_op.proofs.Maps.{same_text_itself}
 use Rattle.delta_history.specs.Histories.{HistoryOf}
 use Rattle.robot_host.specs.declared.edit.RobotEdit.{RobotEdit}
-use Rattle.robot_host.specs.Calls.{Call, Given, given_in}
+use Rattle.robot_host.specs.Calls.{Call, given_in}
 use Rattle.robot_host.specs.Hosts.{HostOf, kept, MayTurn, HasTurnedAs, HasTurned}
 use Rattle.robot_host.specs.Reactions.{Answered, call_of, with_calls}
 use Rattle.robot_host.specs.Robots.{RobotOf, addresses}
-use Rattle.robot_host.specs.Turns.{is_there, is_of_there, number_of, of_robot, StayedFrom, IsTurnOf, AreTurns, HaveTurned, WasShown, IsShown}
+use Rattle.robot_host.specs.Turns.{is_there, is_of_there, number_of, of_robot, StayedFrom, IsTurnOf, AreTurns, HaveTurned, WasShown}
 use Rattle.robot_host.specs.Views.{Seen, view, given_by}
 use Rattle.robot_host.proofs.Hosting.{kept_still}
 use Rattle.robot_host.proofs.Table.{there_at}

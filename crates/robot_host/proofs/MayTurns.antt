@@ -2,7 +2,7 @@
 --     new_may_turn           by a host whose robots were shown nothing
 --     longer_may_turn        over a longer history
 --     others_may_turn        over another wavelet's history
-use Rattle.std.proofs.Common.{◌≡◌, ◌≢◌, ℕ, ◌+◌, ◌≤◌, arith, Bool, true, false, cond, List, [], ◌∷◌, ◌++◌, length, map, take, slice_get, Option, Some, None, IfSome, refl, sym, ap, subst, ◌∙◌, append_assoc, append-nil, true≢false}
+use Rattle.std.proofs.Common.{◌≡◌, ◌≢◌, ℕ, ◌+◌, ◌≤◌, arith, Bool, true, false, cond, List, [], ◌∷◌, ◌++◌, length, map, take, Option, Some, None, IfSome, refl, sym, ap, subst, ◌∙◌, append_assoc, append-nil}
 use Rattle.std.specs.List.{filter}
 use Rattle.std.proofs.lemmas.List.{length-append, take-append-le}
 use Rattle.doc_items.specs.Maps.{Key, same_text}
@@ -10,10 +10,8 @@ use Rattle.wavelet_op.specs.Deltas.{DeltaOf}
 use Rattle.wavelet_op.proofs.Maps.{same_text_is}
 use Rattle.delta_history.specs.Histories.{HistoryOf}
 use Rattle.delta_history.specs.Points.{start}
-use Rattle.robot_host.specs.declared.edit.RobotEdit.{RobotEdit}
 use Rattle.robot_host.specs.Calls.{Call, given_in}
-use Rattle.robot_host.specs.Hosts.{HostOf, IsNew, MayTurn, HasTurned, AreOthersKept}
-use Rattle.robot_host.specs.Laws.{AreFresh, NewMayTurn, LongerMayTurn, OthersMayTurn}
+use Rattle.robot_host.specs.Laws.{NewMayTurn, LongerMayTurn, OthersMayTurn}
 use Rattle.robot_host.specs.Reactions.{Answered, call_of, with_calls}
 use Rattle.robot_host.specs.Robots.{RobotOf, addresses}
 use Rattle.robot_host.specs.Turns.{WasShown, IsShown}

@@ -17,7 +17,9 @@ abbrev pub NewMayTurn : Type 0
 NewMayTurn = (g : HostOf) (h : HistoryOf) → IsNew g → AreFresh g → MayTurn g h
 
 abbrev pub LongerMayTurn : Type 0
-LongerMayTurn = (g : HostOf) (h k : HistoryOf) (more : List DeltaOf) → k.name ≡ h.name → k.deltas ≡ h.deltas ++ more → MayTurn g h → MayTurn g k
+LongerMayTurn = (g : HostOf) (h k : HistoryOf) (more : List DeltaOf) → k.name ≡ h.name → k.deltas ≡ h.deltas ++ more
+    → MayTurn g h → MayTurn g k
 
 abbrev pub OthersMayTurn : Type 0
-OthersMayTurn = (g g' : HostOf) (h k : HistoryOf) (all : List RobotEdit) → HasTurned g h g' all → AreOthersKept g g' h.name → k.name ≢ h.name → MayTurn g k → MayTurn g' k
+OthersMayTurn = (g g' : HostOf) (h k : HistoryOf) (all : List RobotEdit) → HasTurned g h g' all → AreOthersKept g g' h.name
+    → k.name ≢ h.name → MayTurn g k → MayTurn g' k

@@ -17,7 +17,8 @@ use Rattle.robot_host.specs.Turns.{IsOneTurn, HaveTurned, HaveAnswered}
 abbrev pub robots_by : {V : Type 0} → {T : V → Type 0} → (DynBox V Global T → Option (List Call)) → List (Seat V T) → List RobotOf
 robots_by calls seats = map (robot_by calls) seats
 
-abbrev pub TurnsOne : {V : Type 0} → {T : V → Type 0} → (DynBox V Global T → Option (List Call)) → HistoryOf → ℕ → List (Seat V T) → Progress
+abbrev pub TurnsOne : {V : Type 0} → {T : V → Type 0} → (DynBox V Global T → Option (List Call)) → HistoryOf → ℕ
+    → List (Seat V T) → Progress
     → List (Seat V T) → Progress → Type 0
 TurnsOne calls h r ss p ss' p' =
     IsOneTurn (addresses (robots_by calls ss)) h r (robots_by calls ss) (robots_by calls ss') p.counts.items p'.counts.items p.edits.items
