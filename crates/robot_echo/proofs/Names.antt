@@ -1,9 +1,9 @@
 -- The names that `echo` has.
 --     echo_is_id, echo_is_user     its document's name, and the user of its address
 --     no_name, no_address          neither is refused
-use Rattle.std.proofs.Common.{◌≡◌, true, false, true≢false, List, ◌∷◌, ◌++◌, ℕ, Bool, refl, sym, ap, subst, ◌∙◌}
+use Rattle.std.proofs.Common.{◌≡◌, true, true≢false, Bool, refl, sym, subst, ◌∙◌}
 use Rattle.wave_base.specs.Faults.{IsNameFault, IsAddressFault}
-use Rattle.wave_base.specs.Grammar.{is_word, is_id, is_user, is_address}
+use Rattle.wave_base.specs.Grammar.{is_word, is_id, is_user}
 use Rattle.wave_base.specs.declared.fault.BaseFault.{BaseFault}
 use Rattle.wave_base.specs.declared.fault.BaseFault.TheVariants.{BadName, BadAddress}
 use Rattle.robot_echo.specs.Echoes.{echo_name, echo_user}

@@ -41,7 +41,8 @@ are_elsewhere (o ∷ os) = is_elsewhere o || are_elsewhere os
 
 abbrev pub IsMarked : List Item → Reaction → Type 0
 IsMarked items Quiet = max_count < length items + 1
-IsMarked items (Edit ops) = (op : List Component) × (ops ≡ Mutate echo_name op ∷ []) × IsEdit op (typing items (length items) mark) items (typed items (length items) mark)
+IsMarked items (Edit ops) = (op : List Component) × (ops ≡ Mutate echo_name op ∷ []) × IsEdit op (typing items (length items) mark)
+    items (typed items (length items) mark)
 IsMarked items Leave = ⊥
 
 abbrev pub IsEchoIf : Bool → State → Reaction → Type 0

@@ -4,14 +4,14 @@
 --     turned_below           so everybody's part is known
 --     all_through            those that are there went through all deltas
 --     same_addresses         addresses stay
-use Rattle.std.proofs.Common.{◌≡◌, ◌≢◌, ℕ, zero, suc, ◌+◌, ◌<◌, ◌≤◌, ◌==◌, ◌⊎◌, Bool, true, false, cond, List, [], ◌∷◌, ◌++◌, length, map, filter, get_or, slice_get, slice_set, Option, Some, None, unwrap_or, refl, sym, ap, subst, ◌∙◌, arith, append_assoc, append-nil}
+use Rattle.std.proofs.Common.{◌≡◌, ◌≢◌, ℕ, zero, suc, ◌+◌, ◌<◌, ◌≤◌, ◌==◌, true, false, cond, List, [], ◌∷◌, ◌++◌, length, map, slice_get, slice_set, Some, unwrap_or, refl, sym, ap, subst, ◌∙◌, arith, append_assoc, append-nil}
 use Rattle.std.proofs.lemmas.Bool.Decides.{nat_tests}
 use Rattle.std.proofs.lemmas.List.{length-set}
 use Rattle.std.proofs.lemmas.List.Elements.{filter-append}
 use Rattle.std.proofs.lemmas.Option.{slice_get_within, get_or_from_slice_get}
 use Rattle.std.proofs.Math.Seq.{map-set_same}
 use Rattle.doc_items.specs.Maps.{Key}
-use Rattle.doc_op.proofs.Applying.{no_value, same_Some}
+use Rattle.doc_op.proofs.Applying.{same_Some}
 use Rattle.wavelet_op.specs.declared.op.WaveletOp.{WaveletOp}
 use Rattle.delta_history.specs.Histories.{HistoryOf}
 use Rattle.robot_host.specs.declared.edit.RobotEdit.{RobotEdit}
@@ -19,7 +19,7 @@ use Rattle.robot_host.specs.declared.reaction.Reaction.{Reaction}
 use Rattle.robot_host.specs.declared.reaction.Reaction.TheVariants.{Quiet, Edit, Leave}
 use Rattle.robot_host.specs.Reactions.{Answered, id_at, edit_of, edits_of}
 use Rattle.robot_host.specs.Robots.{RobotOf}
-use Rattle.robot_host.specs.Turns.{number_of, of_robot, IsTurnOf, IsOneTurn, IsThrough, AreTurns, AreTurnsBelow, HaveTurnedBelow, HaveTurned, AreThrough}
+use Rattle.robot_host.specs.Turns.{number_of, of_robot, IsTurnOf, IsOneTurn, IsThrough, AreTurnsBelow, HaveTurnedBelow, HaveTurned, AreThrough}
 use Rattle.robot_host.specs.Views.{Seen}
 use Rattle.robot_host.proofs.Turning.{none_turned}
 

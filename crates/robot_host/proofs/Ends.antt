@@ -2,7 +2,7 @@
 --     end_next, end_last     at the start of the next one, or at the head
 --     seen_there             each delta is seen at its place
 --     state_seen             the state after it
-use Rattle.std.proofs.Common.{◌≡◌, ℕ, suc, ◌<◌, ◌≤◌, List, [], ◌∷◌, ◌++◌, length, take, drop, get_or, slice_get, Option, Some, refl, sym, ap, subst, ◌∙◌}
+use Rattle.std.proofs.Common.{◌≡◌, ℕ, suc, ◌≤◌, List, [], ◌∷◌, ◌++◌, length, take, drop, slice_get, Some, sym, ap, subst, ◌∙◌}
 use Rattle.std.proofs.lemmas.List.{take-append-drop, take_all}
 use Rattle.std.proofs.lemmas.Option.{slice_get_within, get_or_from_slice_get}
 use Rattle.std.proofs.Math.Seq.{drop-cons}
@@ -10,7 +10,7 @@ use Rattle.doc_op.proofs.Applying.{same_Some}
 use Rattle.wavelet_op.specs.Deltas.{DeltaOf}
 use Rattle.wavelet_op.specs.States.{State}
 use Rattle.delta_history.specs.Histories.{HistoryOf, head_of}
-use Rattle.delta_history.specs.Legal.{IsNext, IsLegalFrom, IsLegal}
+use Rattle.delta_history.specs.Legal.{IsLegalFrom, IsLegal}
 use Rattle.delta_history.specs.Points.{Point, start, replay}
 use Rattle.delta_history.proofs.Chains.{legal_behind, starts_at}
 use Rattle.delta_history.proofs.Finding.{legal_end}

@@ -3,7 +3,7 @@
 --     IsHostStep, host_step      the host before and after, where one wavelet's progress and the robots change
 --     step_given, step_kept, step_through, step_may, step_others      the clauses
 --     idle_turn, idle_may, idle_others     where nothing changes
-use Rattle.std.proofs.Common.{◌≡◌, ◌≢◌, ◌≤◌, ℕ, true≢false, Bool, true, false, cond, List, [], ◌∷◌, ◌++◌, length, map, take, drop, slice_get, Option, Some, None, IfOk, OnErr, Result, Ok, Err, Vec, refl, sym, ap, subst, ◌∙◌, append-nil, le_refl, arith, is_eq}
+use Rattle.std.proofs.Common.{◌≡◌, ◌≢◌, ◌≤◌, ℕ, true≢false, true, false, cond, List, [], ◌++◌, length, map, take, drop, slice_get, Option, Some, None, IfOk, OnErr, Result, Ok, Err, refl, sym, ap, subst, ◌∙◌, append-nil, arith, is_eq}
 use Rattle.std.specs.List.{filter}
 use Rattle.std.specs.Option.{option_map_or}
 use Rattle.std.specs.Ordering.{nat_cmp}
@@ -19,7 +19,7 @@ use Rattle.robot_host.specs.Robots.{RobotOf, addresses}
 use Rattle.robot_host.specs.Turns.{is_there, is_of_there, number_of, IsTurnOf, AreTurns, HaveTurned, HaveAnswered, AreThrough}
 use Rattle.doc_op.proofs.Applying.{same_Some}
 use Rattle.robot_host.proofs.Turning.{none_turned}
-use Rattle.robot_host.proofs.Hosting.{at_key, apart_key, kept_still}
+use Rattle.robot_host.proofs.Hosting.{apart_key, kept_still}
 use Rattle.robot_host.proofs.HostTurns.{turned_as, there_before, turned_all, may_again}
 
 abbrev pub host_of : List RobotOf → tree.BTreeMap Key Progress → HostOf

@@ -5,22 +5,22 @@
 --     there_before           who is there was there before
 --     turned_all             the edits that are given or kept
 --     may_again              the conditions of the next turn
-use Rattle.std.proofs.Common.{◌≡◌, ℕ, zero, suc, ◌<◌, ◌≤◌, arith, Bool, true, false, cond, List, [], ◌∷◌, ◌++◌, length, map, slice_get, Option, Some, None, IfSome, Result, Ok, Err, OnErr, refl, sym, ap, subst, ◌∙◌, append_assoc, append-nil, true≢false}
+use Rattle.std.proofs.Common.{◌≡◌, ℕ, zero, suc, arith, Bool, true, false, cond, List, [], ◌∷◌, ◌++◌, length, map, slice_get, Option, Some, None, IfSome, Result, Ok, Err, OnErr, refl, sym, ap, subst, ◌∙◌, append_assoc, append-nil, true≢false}
 use Rattle.std.specs.List.{filter}
-use Rattle.std.specs.Option.{option_map, option_map_or}
+use Rattle.std.specs.Option.{option_map_or}
 use Rattle.std.proofs.lemmas.List.{map-append, length-map}
 use Rattle.std.proofs.lemmas.List.Elements.{filter-append}
-use Rattle.std.proofs.lemmas.Option.{slice_get_within, slice_get-map}
+use Rattle.std.proofs.lemmas.Option.{slice_get_within}
 use Rattle.doc_items.specs.Maps.{Key, same_text}
 use Rattle.doc_op.proofs.Applying.{no_value, same_Some}
 use Rattle.wavelet_op.proofs.Maps.{same_text_itself}
 use Rattle.delta_history.specs.Histories.{HistoryOf}
 use Rattle.robot_host.specs.declared.edit.RobotEdit.{RobotEdit}
-use Rattle.robot_host.specs.Calls.{Call, Given, given_in}
+use Rattle.robot_host.specs.Calls.{Call, given_in}
 use Rattle.robot_host.specs.Hosts.{HostOf, kept, MayTurn, HasTurnedAs, HasTurned}
 use Rattle.robot_host.specs.Reactions.{Answered, call_of, with_calls}
 use Rattle.robot_host.specs.Robots.{RobotOf, addresses}
-use Rattle.robot_host.specs.Turns.{is_there, is_of_there, number_of, of_robot, StayedFrom, IsTurnOf, AreTurns, HaveTurned, WasShown, IsShown}
+use Rattle.robot_host.specs.Turns.{is_there, is_of_there, number_of, of_robot, StayedFrom, IsTurnOf, AreTurns, HaveTurned, WasShown}
 use Rattle.robot_host.specs.Views.{Seen, view, given_by}
 use Rattle.robot_host.proofs.Hosting.{kept_still}
 use Rattle.robot_host.proofs.Table.{there_at}
@@ -44,15 +44,15 @@ turned_as g g' h ss ts ns ms es before after from to turns = record {
   turned = λ r s t e f. subst (λ robots. IsTurnOf (addresses robots) h r s t (g.number h.name r) (g'.number h.name r) (of_robot r es)) before (turn_moved (turns.turned r s t (ap (λ z. slice_get z r) before ∙ e) (ap (λ z. slice_get z r) after ∙ f)) refl refl (from r) (to r) refl);
 }
 
-stays_there : (b : Bool) (shown : List Answered) (here : Bool) → StayedFrom b shown here → here ≡ true → b ≡ true
+pub stays_there : (b : Bool) (shown : List Answered) (here : Bool) → StayedFrom b shown here → here ≡ true → b ≡ true
 stays_there true shown here s e = refl
 stays_there false shown here s e = absurd (true≢false (sym e ∙ s.1))
 
-record IsBoth (g : HostOf) (r : ℕ) : Type 0 where
+pub record IsBoth (g : HostOf) (r : ℕ) : Type 0 where
   pub robot : RobotOf
   pub at : slice_get g.robots r ≡ Some robot
 
-was_there : (g g' : HostOf) (h : HistoryOf) (es : List RobotEdit) → HasTurnedAs g g' h es → (r : ℕ) (t : RobotOf) → slice_get g'.robots r ≡ Some t → IsBoth g r
+pub was_there : (g g' : HostOf) (h : HistoryOf) (es : List RobotEdit) → HasTurnedAs g g' h es → (r : ℕ) (t : RobotOf) → slice_get g'.robots r ≡ Some t → IsBoth g r
 was_there g g' h es turns r t f =
     let w = slice_get_within g'.robots r t f in
     let e = turns.length in
@@ -90,7 +90,7 @@ mapped_at f [] r y e = no_value e
 mapped_at f (x ∷ xs) zero y e = (x, refl, same_Some e)
 mapped_at f (x ∷ xs) (suc r) y e = mapped_at f xs r y e
 
-addresses_stay : (g g' : HostOf) (h : HistoryOf) (es : List RobotEdit) → HasTurnedAs g g' h es → addresses g'.robots ≡ addresses g.robots
+pub addresses_stay : (g g' : HostOf) (h : HistoryOf) (es : List RobotEdit) → HasTurnedAs g g' h es → addresses g'.robots ≡ addresses g.robots
 addresses_stay g g' h es turns = same_list (addresses g.robots) (addresses g'.robots) (length-map g'.robots (λ (s : RobotOf). s.address) ∙ turns.length ∙ sym (length-map g.robots (λ (s : RobotOf). s.address)))
     (λ r x y e f.
     let s = mapped_at (λ (z : RobotOf). z.address) g.robots r x e in
@@ -101,7 +101,7 @@ given_calls : (name : Key) (xs : List Answered) → given_in name (map (call_of 
 given_calls name [] = refl
 given_calls name (x ∷ xs) = ap (λ b. map (λ (c : Call). (c.delta, c.state)) (cond b (call_of name x ∷ filter (λ (c : Call). same_text c.name name) (map (call_of name) xs)) (filter (λ (c : Call). same_text c.name name) (map (call_of name) xs)))) (same_text_itself name) ∙ ap (λ z. (x.seen.delta, x.seen.after.state) ∷ z) (given_calls name xs)
 
-given_more : (name : Key) (xs ys : List Call) → given_in name (xs ++ ys) ≡ given_in name xs ++ given_in name ys
+pub given_more : (name : Key) (xs ys : List Call) → given_in name (xs ++ ys) ≡ given_in name xs ++ given_in name ys
 given_more name xs ys = ap (map (λ (c : Call). (c.delta, c.state))) (filter-append (λ (c : Call). same_text c.name name) xs ys) ∙ map-append (λ (c : Call). (c.delta, c.state)) (filter (λ (c : Call). same_text c.name name) xs) (filter (λ (c : Call). same_text c.name name) ys)
 
 shown_more : (name : Key) (before now : List Call) (v w : List Seen) (xs : List Answered) → v ++ map (λ x. x.seen) xs ≡ w → WasShown before now name v → WasShown before (now ++ map (call_of name) xs) name w

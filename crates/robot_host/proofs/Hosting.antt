@@ -2,7 +2,7 @@
 --     nobody_there           no robot has the number
 --     without_robot, without_none      a robot is dropped, and none is
 --     gone_kept              what is kept without it
-use Rattle.std.proofs.Common.{◌≡◌, ◌≢◌, ℕ, zero, suc, ◌<◌, ◌≤◌, arith, Bool, true, false, cond, ◌&&◌, List, [], ◌∷◌, ◌++◌, length, map, get_or, slice_get, slice_set, Option, Some, None, unwrap_or, Result, Ok, Err, OnOk, OnErr, IfOk, refl, sym, ap, subst, ◌∙◌, append-nil, true≢false, is_eq}
+use Rattle.std.proofs.Common.{◌≡◌, ℕ, zero, suc, ◌<◌, arith, Bool, true, false, cond, List, [], ◌∷◌, length, map, slice_get, slice_set, Option, Some, None, refl, sym, ap, subst, ◌∙◌, true≢false, is_eq}
 use Rattle.std.specs.List.{filter}
 use Rattle.std.specs.Option.{option_map, option_map_or}
 use Rattle.std.specs.declared.alloc.Global.{Global}
@@ -10,16 +10,15 @@ use Rattle.std.specs.declared.dyn_box.DynBox.{DynBox}
 use Rattle.std.specs.Ordering.{nat_cmp}
 use Rattle.std.specs.Cmp.Lexicographic.{slice_cmp, texts_ties, bytes_decides}
 use Rattle.std.specs.BTreeMap as tree
-use Rattle.std.proofs.lemmas.List.{map-append, map-set, set-get_or}
+use Rattle.std.proofs.lemmas.List.{map-set, set-get_or}
 use Rattle.std.proofs.lemmas.Option.{slice_get-map, slice_get_within, get_or_from_slice_get}
 use Rattle.doc_items.specs.Maps.{Key}
-use Rattle.doc_op.proofs.Applying.{no_value, same_Some}
 use Rattle.robot_host.specs.declared.edit.RobotEdit.{RobotEdit}
 use Rattle.robot_host.specs.declared.progress.Progress.{Progress}
 use Rattle.robot_host.specs.declared.seat.Seat.{Seat}
 use Rattle.robot_host.specs.Calls.{Call}
-use Rattle.robot_host.specs.Hosts.{HostOf, kept, without, IsWithout, progress_in, number_in, edits_in, AreSameWavelets}
-use Rattle.robot_host.specs.Robots.{RobotOf, robot_by, addresses}
+use Rattle.robot_host.specs.Hosts.{IsWithout, progress_in, number_in, edits_in, AreSameWavelets}
+use Rattle.robot_host.specs.Robots.{RobotOf, robot_by}
 use Rattle.robot_host.specs.Showing.{dropped}
 use Rattle.robot_host.specs.Turns.{is_there, is_of_there, number_of}
 use Rattle.robot_host.proofs.AllTurns.{set_here, set_apart, by_number}

@@ -10,3 +10,4 @@ pub mod AllTurns
 pub mod Hosting
 pub mod HostTurns
 pub mod HostSteps
+pub mod MayTurns

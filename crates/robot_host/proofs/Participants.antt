@@ -1,10 +1,9 @@
 -- Who was a participant before acts.
 --     act_before, acts_before     the tests of `Presence` are right of acts that apply
 --     step_before     one act nearer the first of a list
-use Rattle.std.proofs.Common.{◌≡◌, ℕ, ◌+◌, ◌-◌, ◌<◌, ◌≤◌, Bool, true, false, cond, not, ◌&&◌, ◌||◌, List, [], ◌∷◌, Option, Some, None, is_some, length, drop, get_or, arith, refl, sym, ap, ◌∙◌, option_and_then}
+use Rattle.std.proofs.Common.{◌≡◌, ℕ, ◌+◌, ◌-◌, ◌<◌, ◌≤◌, Bool, true, false, cond, not, ◌&&◌, ◌||◌, List, [], ◌∷◌, Option, Some, None, is_some, length, drop, get_or, arith, refl, sym, ap, ◌∙◌}
 use Rattle.std.proofs.lemmas.List.{drop_more}
 use Rattle.doc_items.specs.Maps.{Key, same_text}
-use Rattle.doc_items.specs.declared.item.Item.{Item}
 use Rattle.doc_op.proofs.Applying.{no_value, same_Some}
 use Rattle.wavelet_op.specs.Acts.{Act, Idle, Adds, Removes, Sets, Mutates, same_role, meaning, meanings}
 use Rattle.wavelet_op.specs.States.{State, role_of, added, removed, role_set, on_role, with_role, with_document, document_of, mutate, apply_act, run}

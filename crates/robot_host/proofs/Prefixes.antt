@@ -6,7 +6,7 @@
 --     next_shown, next_hidden     of the places that are next
 --     step_back              so at a delta before them, with whether the address was a participant before it
 --     whole_taken            the point at the head
-use Rattle.std.proofs.Common.{◌≡◌, ℕ, zero, suc, ◌<◌, ◌≤◌, Bool, true, false, not, ◌&&◌, cond, is_some, le_refl, List, [], ◌∷◌, ◌++◌, length, take, drop, get_or, slice_get, Option, Some, None, refl, sym, ap, subst, ◌∙◌, option_and_then, append-nil}
+use Rattle.std.proofs.Common.{◌≡◌, ℕ, suc, Bool, true, false, not, ◌&&◌, cond, is_some, le_refl, List, [], ◌∷◌, ◌++◌, length, take, drop, slice_get, Some, sym, ap, subst, ◌∙◌, option_and_then, append-nil}
 use Rattle.std.specs.List.{filter}
 use Rattle.std.specs.Option.{option_map_or}
 use Rattle.std.proofs.lemmas.List.{take-append-drop, take_all}
@@ -14,7 +14,7 @@ use Rattle.std.proofs.lemmas.List.Elements.{filter-append}
 use Rattle.std.proofs.lemmas.Option.{slice_get_within, get_or_from_slice_get}
 use Rattle.std.proofs.Math.Seq.{take-suc}
 use Rattle.doc_items.specs.Maps.{Key}
-use Rattle.doc_op.proofs.Applying.{no_value, same_Some}
+use Rattle.doc_op.proofs.Applying.{same_Some}
 use Rattle.wavelet_op.specs.Deltas.{DeltaOf}
 use Rattle.wavelet_op.specs.States.{role_of}
 use Rattle.wavelet_op.proofs.Partial.{and_then_some}
@@ -24,7 +24,7 @@ use Rattle.delta_history.specs.Points.{Point, start, acts_of, next_point, replay
 use Rattle.delta_history.proofs.Chains.{legal_front}
 use Rattle.delta_history.proofs.Finding.{legal_end}
 use Rattle.delta_history.proofs.Points.{behind_point, replay_append}
-use Rattle.robot_host.specs.Places.{IsSeenAt, IsNextAt, AreNext}
+use Rattle.robot_host.specs.Places.{AreNext}
 use Rattle.robot_host.specs.Views.{Seen, seen_from, is_among, is_shown, view}
 use Rattle.robot_host.specs.Presence.{were_before}
 use Rattle.robot_host.proofs.Participants.{acts_before}

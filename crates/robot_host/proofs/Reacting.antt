@@ -2,13 +2,12 @@
 --     asked_is           what is known of its seat
 --     ended              where the delta ends
 --     reacted            it was shown the delta, and its edit stands behind the others
-use Rattle.std.proofs.Common.{◌≡◌, ℕ, zero, suc, ◌+◌, ◌<◌, ◌≤◌, List, [], ◌∷◌, ◌++◌, length, slice_get, Option, Some, None, Result, Ok, Err, refl, sym, ap, ◌∙◌, arith, MatchResult}
+use Rattle.std.proofs.Common.{◌≡◌, ℕ, zero, suc, ◌+◌, ◌≤◌, List, [], ◌∷◌, ◌++◌, length, slice_get, Option, Some, None, Result, Ok, Err, refl, sym, ap, ◌∙◌, arith, MatchResult}
 use Rattle.std.specs.declared.alloc.Global.{Global}
 use Rattle.std.specs.declared.dyn_box.DynBox.{DynBox}
-use Rattle.std.proofs.lemmas.Option.{slice_get_within}
 use Rattle.doc_items.specs.Maps.{Key}
 use Rattle.doc_op.proofs.Applying.{no_value}
-use Rattle.wave_base.specs.Versions.{VersionAt, IdOf}
+use Rattle.wave_base.specs.Versions.{VersionAt}
 use Rattle.wavelet_op.specs.Deltas.{DeltaOf}
 use Rattle.wavelet_op.specs.States.{State}
 use Rattle.delta_history.specs.Histories.{HistoryOf, head_of}

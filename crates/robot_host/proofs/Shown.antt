@@ -4,13 +4,11 @@
 --     stayed_more            so far it stayed
 --     popped                 the place that is taken next
 use Rattle.std.proofs.Common.{◌≡◌, ℕ, suc, ◌+◌, arith, Bool, true, false, cond, List, [], ◌∷◌, ◌++◌, map, reverse, option_to_list, Option, Some, None, refl, sym, ap, subst, ◌∙◌, append_assoc, append-nil, true≢false}
-use Rattle.std.specs.Option.{option_map}
 use Rattle.std.proofs.lemmas.List.{map-append, reverse-append}
 use Rattle.doc_items.specs.Maps.{Key}
 use Rattle.delta_history.specs.Histories.{HistoryOf}
 use Rattle.robot_host.specs.declared.edit.RobotEdit.{RobotEdit}
-use Rattle.robot_host.specs.declared.reaction.Reaction.{Reaction}
-use Rattle.robot_host.specs.Calls.{Call, with_call}
+use Rattle.robot_host.specs.Calls.{Call}
 use Rattle.robot_host.specs.Places.{IsSeenAt}
 use Rattle.robot_host.specs.Reactions.{Answered, stays, HasStayed, AfterAnswer, edit_of, edits_of, call_of, with_calls}
 use Rattle.robot_host.specs.Robots.{RobotOf}

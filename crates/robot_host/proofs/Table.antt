@@ -5,7 +5,7 @@
 --     not_turned             where it was shown nothing
 --     kept_of                what a filter keeps
 --     robots_more            one robot more
-use Rattle.std.proofs.Common.{◌≡◌, ℕ, zero, suc, ◌<◌, arith, Bool, true, false, List, [], ◌∷◌, ◌++◌, length, map, get_or, slice_get, slice_set, Option, Some, None, unwrap_or, Result, Ok, Err, OnOk, OnErr, refl, sym, ap, subst, ◌∙◌, append-nil}
+use Rattle.std.proofs.Common.{◌≡◌, ℕ, zero, suc, ◌<◌, arith, Bool, true, false, List, [], ◌∷◌, ◌++◌, length, map, get_or, slice_get, slice_set, Option, Some, unwrap_or, Result, Ok, Err, OnOk, OnErr, refl, sym, ap, subst, ◌∙◌, append-nil}
 use Rattle.std.specs.Option.{option_map, option_map_or}
 use Rattle.std.specs.declared.alloc.Global.{Global}
 use Rattle.std.specs.declared.dyn_box.DynBox.{DynBox}
@@ -24,7 +24,7 @@ use Rattle.robot_host.specs.Hosts.{added}
 use Rattle.robot_host.specs.Places.{AreNext}
 use Rattle.robot_host.specs.Robots.{RobotOf, robot_by, is_here, last_of, addresses}
 use Rattle.robot_host.specs.Showing.{HasShownSome, HasShownAll}
-use Rattle.robot_host.specs.Turns.{is_there, number_of, IsTurnOf, IsOneTurn, IsThrough}
+use Rattle.robot_host.specs.Turns.{is_there, number_of, IsOneTurn, IsThrough}
 use Rattle.robot_host.specs.Views.{view}
 use Rattle.robot_host.proofs.Turning.{IsTurned, turn_some, turn_all, none_turned}
 

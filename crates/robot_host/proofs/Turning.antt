@@ -2,16 +2,14 @@
 --     turn_some, turn_all       it was shown what of its view comes after the deltas that it went through
 --     none_turned               where it was shown nothing
 --     next_within               the places that are next
-use Rattle.std.proofs.Common.{◌≡◌, ℕ, suc, ◌<◌, ◌≤◌, Bool, true, false, List, [], ◌∷◌, ◌++◌, length, map, slice_get, slice_set, Some, refl, sym, ap, subst, ◌∙◌, arith, append_assoc, append-nil, true≢false}
+use Rattle.std.proofs.Common.{◌≡◌, ℕ, suc, ◌≤◌, Bool, true, false, List, [], ◌∷◌, ◌++◌, length, map, refl, sym, ap, subst, ◌∙◌, arith, append_assoc, append-nil, true≢false}
 use Rattle.std.proofs.lemmas.Option.{slice_get_within}
 use Rattle.doc_items.specs.Maps.{Key}
 use Rattle.doc_op.proofs.Applying.{same_Some}
-use Rattle.wavelet_op.specs.Deltas.{DeltaOf}
 use Rattle.delta_history.specs.Histories.{HistoryOf}
-use Rattle.delta_history.specs.Points.{Point}
 use Rattle.robot_host.specs.declared.edit.RobotEdit.{RobotEdit}
-use Rattle.robot_host.specs.Places.{IsSeenAt, IsNextAt, AreNext, AreWithin}
-use Rattle.robot_host.specs.Reactions.{Answered, HasStayed, edits_of, call_of, with_calls}
+use Rattle.robot_host.specs.Places.{IsSeenAt, AreNext, AreWithin}
+use Rattle.robot_host.specs.Reactions.{Answered, HasStayed, edits_of}
 use Rattle.robot_host.specs.Robots.{RobotOf}
 use Rattle.robot_host.specs.Showing.{AreTaken, HasShown, HasShownSome, HasShownAll}
 use Rattle.robot_host.specs.Turns.{StayedFrom, IsTurnOf}

@@ -1,7 +1,7 @@
 -- One delta on.
 --     IsGone, gone      of valid deltas the next one applies to the state after the first ones, and leads to the one after it
 --     at_head           the state after all
-use Rattle.std.proofs.Common.{◌≡◌, ℕ, suc, List, [], ◌∷◌, ◌++◌, length, take, drop, slice_get, Option, Some, IsSome, is_some, refl, sym, ap, subst, ◌∙◌, le_refl, option_and_then}
+use Rattle.std.proofs.Common.{◌≡◌, ℕ, suc, List, [], ◌∷◌, length, take, drop, slice_get, Some, IsSome, is_some, sym, ap, subst, ◌∙◌, le_refl, option_and_then}
 use Rattle.std.proofs.lemmas.List.{take-append-drop, take_all}
 use Rattle.wavelet_op.specs.Deltas.{DeltaOf}
 use Rattle.wavelet_op.specs.States.{State, empty_state, run}

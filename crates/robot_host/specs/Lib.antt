@@ -8,3 +8,5 @@ pub mod Reactions
 pub mod Showing
 pub mod Turns
 pub mod Hosts
+pub mod Laws
+pub mod Tables

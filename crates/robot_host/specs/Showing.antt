@@ -18,7 +18,6 @@ use Rattle.robot_host.specs.Calls.{with_call}
 use Rattle.robot_host.specs.Places.{IsSeenAt}
 use Rattle.robot_host.specs.Reactions.{Answered, stays, HasStayed, edit_of, edits_of, call_of, with_calls}
 use Rattle.robot_host.specs.Robots.{RobotOf}
-use Rattle.robot_host.specs.Views.{Seen}
 
 abbrev pub asked : Key → RobotOf → DeltaOf → State → Reaction → RobotOf
 asked name s d t r = record { address = s.address; here = s.here; before = s.before; calls = with_call s.calls name d t r }

@@ -16,28 +16,7 @@
 --     AreThrough h ss ns         each robot that is there went through all deltas
 --     IsShown robots h s n       of the first n deltas the robot was shown exactly its view since it was added, where it tells its calls
 --     AreShown robots h ss ns    so each robot that is there
-use Rattle.std.specs.Prelude.{
-  ◌≡◌,
-  ◌≢◌,
-  ◌<◌,
-  ◌≤◌,
-  ℕ,
-  ◌==◌,
-  Bool,
-  true,
-  false,
-  List,
-  [],
-  ◌++◌,
-  length,
-  map,
-  filter,
-  slice_get,
-  slice_set,
-  Some,
-  IfSome,
-  unwrap_or,
-}
+use Rattle.std.specs.Prelude.{◌≡◌, ◌<◌, ◌≤◌, ℕ, ◌==◌, Bool, true, false, List, [], ◌++◌, length, map, filter, slice_get, slice_set, Some, IfSome, unwrap_or}
 use Rattle.std.specs.Option.{option_map_or}
 use Rattle.doc_items.specs.Maps.{Key}
 use Rattle.delta_history.specs.Histories.{HistoryOf}

@@ -5,7 +5,7 @@
 --     is_shown robots a x        the delta's author is none of the robots, and after it the address is a participant
 --     view robots a h n          what the robot of an address is shown of the first n deltas of a history
 --     given_by view              what `react` is given of it
-use Rattle.std.specs.Prelude.{ℕ, Bool, true, false, not, ◌&&◌, ◌||◌, List, [], ◌∷◌, map, filter, take, is_some}
+use Rattle.std.specs.Prelude.{ℕ, Bool, false, not, ◌&&◌, ◌||◌, List, [], ◌∷◌, map, filter, take, is_some}
 use Rattle.std.specs.Option.{option_map_or}
 use Rattle.doc_items.specs.Maps.{Key, same_text}
 use Rattle.wavelet_op.specs.Deltas.{DeltaOf}

@@ -50,8 +50,8 @@ fn ask_robot(
     delta: &AppliedDelta,
     state: &WaveletState,
 ) -> Result<Reaction, Memory>
-    ensures { MatchResult result (λ r. calls robot.new ≡ with_call (calls robot.old) name.now delta.now state.now r) (λ _. calls
-        robot.new ≡ calls robot.old) }
+    ensures { MatchResult result (λ r. calls robot.new ≡ with_call (calls robot.old) name.now delta.now state.now r)
+        (λ _. calls robot.new ≡ calls robot.old) }
 {
     robot.react(alloc, name, delta, state)
 }
@@ -65,8 +65,8 @@ fn ask(
     state: &WaveletState,
 ) -> Result<Reaction, Memory>
     requires { is_here seat.old.robot ≡ true }
-    ensures { MatchResult result (λ r. robot_by calls seat.new ≡ asked name.now (robot_by calls seat.old) delta.now state.now r) (λ _.
-        robot_by calls seat.new ≡ robot_by calls seat.old) }
+    ensures { MatchResult result (λ r. robot_by calls seat.new ≡ asked name.now (robot_by calls seat.old) delta.now state.now r)
+        (λ _. robot_by calls seat.new ≡ robot_by calls seat.old) }
 {
     match &mut seat.robot {
         Seated::Here(robot) => ask_robot(alloc, robot, name, delta, state),
@@ -117,8 +117,8 @@ pub(crate) fn show_at(
     requires within { place < length history.now.deltas }
     requires reached { IsReached history.now.deltas walk.old }
     ensures reached { IsReached history.now.deltas walk.new }
-    ensures shown { OnOk result (HasReacted history.now robot place (robot_by calls seat.old) (robot_by calls seat.new) edits.old.items
-        edits.new.items) }
+    ensures shown { OnOk result (HasReacted history.now robot place (robot_by calls seat.old)
+        (robot_by calls seat.new) edits.old.items edits.new.items) }
     ensures stays { IfOk result (λ stays. is_here seat.new.robot ≡ stays) }
     ensures same { OnErr result (robot_by calls seat.new ≡ robot_by calls seat.old) }
     ensures none { OnErr result (edits.new.items ≡ edits.old.items) }

@@ -52,8 +52,8 @@ impl RobotHost {
     pub fn add(&mut self, alloc: Global, robot: Box<dyn Robot>) -> Result<(), Memory>
         requires new { IsNew (host_by calls self.old) }
         ensures new { IsNew (host_by calls self.new) }
-        ensures robots { OnOk result ((host_by calls self.new).robots ≡ (host_by calls self.old).robots ++ added (named robot) (calls
-            robot) ∷ []) }
+        ensures robots { OnOk result ((host_by calls self.new).robots ≡
+            (host_by calls self.old).robots ++ added (named robot) (calls robot) ∷ []) }
         ensures same { OnErr result ((host_by calls self.new).robots ≡ (host_by calls self.old).robots) }
     {
         let address = address_of(alloc, &robot)?;
@@ -88,8 +88,8 @@ impl RobotHost {
         ensures given { IfOk result (λ given. HasTurned (host_by calls self.old) history.now (host_by calls self.new) given.items) }
         ensures none_kept { OnOk result (kept (host_by calls self.new) history.now.name ≡ []) }
         ensures through { OnOk result (AreThroughAll (host_by calls self.new) history.now) }
-        ensures kept { OnErr result (HasTurned (host_by calls self.old) history.now (host_by calls self.new) (kept (host_by calls
-            self.new) history.now.name)) }
+        ensures kept { OnErr result (HasTurned (host_by calls self.old) history.now (host_by calls self.new) (kept
+            (host_by calls self.new) history.now.name)) }
         ensures shown { MayTurn (host_by calls self.new) history.now }
         ensures others { AreOthersKept (host_by calls self.old) (host_by calls self.new) history.now.name }
     {

@@ -4,6 +4,7 @@
 mod asking;
 mod edit;
 mod host;
+mod laws;
 mod places;
 mod presence;
 mod progress;
@@ -15,5 +16,6 @@ mod walk;
 
 pub use edit::RobotEdit;
 pub use host::RobotHost;
+pub use laws::{longer_histories_may_follow, new_hosts_may_turn, turns_leave_other_wavelets};
 pub use reaction::Reaction;
 pub use robot::Robot;

@@ -53,8 +53,8 @@ pub(crate) fn places_from(
     from: usize,
 ) -> Result<Vec<usize>, Memory>
     requires { from ≤ length history.now.deltas }
-    ensures { IfOk result (λ list. AreNext (map (λ s. s.address) seats.now) address.now history.now (view (map (λ s. s.address)
-        seats.now) address.now history.now from) (reverse list.items)) }
+    ensures { IfOk result (λ list. AreNext (map (λ s. s.address) seats.now) address.now history.now
+        (view (map (λ s. s.address) seats.now) address.now history.now from) (reverse list.items)) }
 {
     let deltas = history.deltas();
     let mut here = history.state().has(address);

@@ -1,7 +1,7 @@
 // How far the robots are with one wavelet.
 ghost use Rattle.std.specs.Prelude.{◌≡◌, ◌<◌, ◌≤◌, ℕ, [], true, length, map, filter, IfOk, OnOk, OnErr};
-ghost use Rattle.robot_host.specs.Robots.{robot_by, addresses};
-ghost use Rattle.robot_host.specs.Turns.{is_there, number_of, IsOneTurn, IsThrough, HaveTurned, HaveAnswered, AreThrough, is_of_there};
+ghost use Rattle.robot_host.specs.Tables.{robots_by, TurnsOne, TurnsAll, AnswersAll};
+ghost use Rattle.robot_host.specs.Turns.{is_there, number_of, IsThrough, AreThrough, is_of_there};
 ghost use Rattle.robot_host.specs.Walks.{IsReached};
 
 use crate::RobotEdit;
@@ -33,7 +33,7 @@ impl Drop for Progress {
 
 /// Whether the robot of a number is there.
 pub(crate) fn is_there(seats: &[Seat], robot: u64) -> bool
-    ensures { result ≡ is_there (map (robot_by calls) seats.now) robot }
+    ensures { result ≡ is_there (robots_by calls seats.now) robot }
 {
     match seats.get(robot as usize) {
         Some(seat) => seat.is_here(),
@@ -52,14 +52,12 @@ fn show_robot(
 ) -> Result<(), Memory>
     requires inside { robot < length seats.old }
     requires counted { robot < length progress.old.counts.items }
-    requires here { is_there (map (robot_by calls) seats.old) robot ≡ true }
+    requires here { is_there (robots_by calls seats.old) robot ≡ true }
     requires within { number_of progress.old.counts.items robot ≤ length history.now.deltas }
     requires reached { IsReached history.now.deltas walk.old }
     ensures reached { IsReached history.now.deltas walk.new }
-    ensures turn { IsOneTurn (addresses (map (robot_by calls) seats.old)) history.now robot (map (robot_by calls) seats.old) (map
-        (robot_by calls) seats.new) progress.old.counts.items progress.new.counts.items progress.old.edits.items
-        progress.new.edits.items }
-    ensures through { OnOk result (IsThrough history.now robot (map (robot_by calls) seats.new) progress.new.counts.items) }
+    ensures turn { TurnsOne calls history.now robot seats.old progress.old seats.new progress.new }
+    ensures through { OnOk result (IsThrough history.now robot (robots_by calls seats.new) progress.new.counts.items) }
 {
     let from = progress.counts[robot] as usize;
     let all: &[Seat] = seats;
@@ -87,14 +85,12 @@ fn turn_robot(
 ) -> Result<(), Memory>
     requires inside { robot < length seats.old }
     requires counted { robot < length progress.old.counts.items }
-    requires within { is_there (map (robot_by calls) seats.old) robot ≡ true → number_of progress.old.counts.items robot ≤ length
-        history.now.deltas }
+    requires within { is_there (robots_by calls seats.old) robot ≡ true →
+        number_of progress.old.counts.items robot ≤ length history.now.deltas }
     requires reached { IsReached history.now.deltas walk.old }
     ensures reached { IsReached history.now.deltas walk.new }
-    ensures turn { IsOneTurn (addresses (map (robot_by calls) seats.old)) history.now robot (map (robot_by calls) seats.old) (map
-        (robot_by calls) seats.new) progress.old.counts.items progress.new.counts.items progress.old.edits.items
-        progress.new.edits.items }
-    ensures through { OnOk result (IsThrough history.now robot (map (robot_by calls) seats.new) progress.new.counts.items) }
+    ensures turn { TurnsOne calls history.now robot seats.old progress.old seats.new progress.new }
+    ensures through { OnOk result (IsThrough history.now robot (robots_by calls seats.new) progress.new.counts.items) }
 {
     if is_there(seats, robot as u64) {
         return show_robot(alloc, seats, progress, robot, history, walk);
@@ -110,11 +106,10 @@ fn turn_all(
     history: &History,
 ) -> Result<(), Memory>
     requires counted { length seats.old ≤ length progress.old.counts.items }
-    requires within { (r : ℕ) → is_there (map (robot_by calls) seats.old) r ≡ true → number_of progress.old.counts.items r ≤ length
-        history.now.deltas }
-    ensures turns { HaveTurned (addresses (map (robot_by calls) seats.old)) history.now (map (robot_by calls) seats.old) (map (robot_by
-        calls) seats.new) progress.old.counts.items progress.new.counts.items progress.old.edits.items progress.new.edits.items }
-    ensures through { OnOk result (AreThrough history.now (map (robot_by calls) seats.new) progress.new.counts.items) }
+    requires within { (r : ℕ) → is_there (robots_by calls seats.old) r ≡ true →
+        number_of progress.old.counts.items r ≤ length history.now.deltas }
+    ensures turns { TurnsAll calls history.now seats.old progress.old seats.new progress.new }
+    ensures through { OnOk result (AreThrough history.now (robots_by calls seats.new) progress.new.counts.items) }
 {
     let mut walk = Walk::new(alloc);
     for robot in 0..seats.len() {
@@ -125,11 +120,11 @@ fn turn_all(
 
 // Drops the edits of robots that aren't there.
 fn drop_gone(seats: &[Seat], edits: &mut Vec<RobotEdit>)
-    ensures { edits.new.items ≡ filter (is_of_there (map (robot_by calls) seats.now)) edits.old.items }
+    ensures { edits.new.items ≡ filter (is_of_there (robots_by calls seats.now)) edits.old.items }
 {
     edits.retain(
         |edit: &RobotEdit| -> bool
-            ensures { result ≡ is_of_there (map (robot_by calls) seats.entry.now) edit.now }
+            ensures { result ≡ is_of_there (robots_by calls seats.entry.now) edit.now }
         { is_there(seats, edit.robot) },
     );
 }
@@ -166,16 +161,12 @@ impl Progress {
         seats: &mut [Seat],
         history: &History,
     ) -> Result<Vec<RobotEdit>, Memory>
-        requires within { (r : ℕ) → is_there (map (robot_by calls) seats.old) r ≡ true → number_of self.old.counts.items r ≤ length
-            history.now.deltas }
-        ensures given { IfOk result (λ given. HaveAnswered (addresses (map (robot_by calls) seats.old)) history.now (map (robot_by
-            calls) seats.old) (map (robot_by calls) seats.new) self.old.counts.items self.new.counts.items self.old.edits.items
-            given.items) }
+        requires within { (r : ℕ) → is_there (robots_by calls seats.old) r ≡ true →
+            number_of self.old.counts.items r ≤ length history.now.deltas }
+        ensures given { IfOk result (λ given. AnswersAll calls history.now seats.old self.old seats.new self.new given.items) }
         ensures none_kept { OnOk result (self.new.edits.items ≡ []) }
-        ensures through { OnOk result (AreThrough history.now (map (robot_by calls) seats.new) self.new.counts.items) }
-        ensures kept { OnErr result (HaveTurned (addresses (map (robot_by calls) seats.old)) history.now (map (robot_by calls)
-            seats.old) (map (robot_by calls) seats.new) self.old.counts.items self.new.counts.items self.old.edits.items
-            self.new.edits.items) }
+        ensures through { OnOk result (AreThrough history.now (robots_by calls seats.new) self.new.counts.items) }
+        ensures kept { OnErr result (TurnsAll calls history.now seats.old self.old seats.new self.new) }
     {
         self.count(seats.len())?;
         turn_all(alloc, seats, self, history)?;

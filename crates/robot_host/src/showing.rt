@@ -29,10 +29,10 @@ pub(crate) fn show_places(
     requires within { AreWithin (length history.now.deltas) (reverse places.items) }
     requires reached { IsReached history.now.deltas walk.old }
     ensures reached { IsReached history.now.deltas walk.new }
-    ensures all { OnOk result (HasShownAll history.now robot (reverse places.items) count.old (robot_by calls seat.old) (robot_by calls
-        seat.new) count.new edits.old.items edits.new.items) }
-    ensures some { OnErr result (HasShownSome history.now robot (reverse places.items) count.old (robot_by calls seat.old) (robot_by
-        calls seat.new) count.new edits.old.items edits.new.items) }
+    ensures all { OnOk result (HasShownAll history.now robot (reverse places.items) count.old (robot_by calls seat.old)
+        (robot_by calls seat.new) count.new edits.old.items edits.new.items) }
+    ensures some { OnErr result (HasShownSome history.now robot (reverse places.items) count.old (robot_by calls seat.old)
+        (robot_by calls seat.new) count.new edits.old.items edits.new.items) }
 {
     let most = history.deltas().len() as u64;
     let mut left = places;

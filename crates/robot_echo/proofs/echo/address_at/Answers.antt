@@ -1,4 +1,4 @@
-use Rattle.std.proofs.Common.{rules, ◌≡◌, ◌∙◌, ◌++◌, ◌∷◌, codes, ap, refl}
+use Rattle.std.proofs.Common.{rules, ◌≡◌, ◌++◌, ◌∷◌}
 use Rattle.wave_base.specs.Grammar.{at_sign}
 use Rattle.robot_echo.specs.Echoes.{echo_user}
 use Rattle.robot_echo.proofs.Names.{no_address, echo_is_user}

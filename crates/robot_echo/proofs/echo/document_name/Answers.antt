@@ -1,4 +1,3 @@
-use Rattle.std.proofs.Common.{rules}
 use Rattle.robot_echo.proofs.Names.{no_name}
 use Rattle.robot_echo.proofs.echo.document_name.Goals as goal
 

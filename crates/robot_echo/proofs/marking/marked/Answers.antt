@@ -1,4 +1,3 @@
-use Rattle.std.proofs.Common.{rules}
 use Rattle.robot_echo.proofs.Marks.{no_count, no_room, marked_is}
 use Rattle.robot_echo.proofs.marking.marked.Goals as goal
 

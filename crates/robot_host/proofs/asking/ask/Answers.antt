@@ -1,4 +1,3 @@
-use Rattle.std.proofs.Common.{rules}
 use Rattle.robot_host.proofs.Reacting.{asked_is}
 use Rattle.robot_host.proofs.asking.ask.Goals as goal
 

@@ -1,4 +1,4 @@
-use Rattle.std.proofs.Common.{rules, ◌≡◌, ◌∙◌, ◌++◌, ap, sym, slice_get, Some, length, refl}
+use Rattle.std.proofs.Common.{rules, ◌≡◌, ◌∙◌, ◌++◌, ap, sym, slice_get, Some, length}
 use Rattle.std.proofs.lemmas.Option.{slice_get_read}
 use Rattle.robot_host.specs.Reactions.{edit_by}
 use Rattle.robot_host.specs.Showing.{after_answer}

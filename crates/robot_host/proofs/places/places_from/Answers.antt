@@ -1,10 +1,9 @@
-use Rattle.std.proofs.Common.{rules, cond, not, ◌&&◌, ◌∷◌, map, sym, ap, subst, ◌≡◌, ◌≤◌, ◌∙◌, ◌-◌, suc, arith, reverse, length, take, is_some, slice_get, Some}
+use Rattle.std.proofs.Common.{rules, cond, not, ◌&&◌, ◌∷◌, map, sym, ap, subst, ◌≡◌, ◌∙◌, ◌-◌, suc, arith, reverse, length, take, is_some, slice_get, Some}
 use Rattle.std.proofs.lemmas.Option.{slice_get_read}
 use Rattle.wavelet_op.specs.States.{role_of}
-use Rattle.delta_history.specs.Points.{start, acts_of, replay}
+use Rattle.delta_history.specs.Points.{start, replay}
 use Rattle.robot_host.specs.Places.{AreNext}
 use Rattle.robot_host.specs.Views.{is_among, view}
-use Rattle.robot_host.specs.Presence.{were_before}
 use Rattle.robot_host.proofs.Prefixes.{step_back, whole_taken}
 use Rattle.robot_host.proofs.places.places_from.Goals as goal
 

@@ -1,4 +1,4 @@
-use Rattle.std.proofs.Common.{rules, ◌≡◌, ◌-◌, ◌≤◌, ◌∙◌, sym, ap, length, drop, get_or, le_refl, arith, subst, zero}
+use Rattle.std.proofs.Common.{◌≡◌, ◌-◌, ◌∙◌, sym, ap, length, drop, get_or, le_refl, arith}
 use Rattle.std.proofs.lemmas.List.{drop_all}
 use Rattle.wavelet_op.specs.Acts.{meanings}
 use Rattle.robot_host.specs.Presence.{were_before}

@@ -1,6 +1,5 @@
-use Rattle.std.proofs.Common.{rules, ap, get_or, slice_get, Some, ◌≡◌}
 use Rattle.std.proofs.lemmas.Option.{slice_get-get_or}
-use Rattle.robot_host.proofs.Table.{seat_here, turned_robot, through_robot, not_turned, number_read}
+use Rattle.robot_host.proofs.Table.{seat_here, turned_robot, through_robot, not_turned}
 use Rattle.robot_host.proofs.Turning.{next_within}
 use Rattle.robot_host.proofs.progress.show_robot.Goals as goal
 

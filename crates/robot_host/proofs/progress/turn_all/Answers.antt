@@ -1,4 +1,4 @@
-use Rattle.std.proofs.Common.{rules, ◌≡◌, ◌<◌, ◌≤◌, ◌∙◌, refl, sym, ap, arith, length, map, Some}
+use Rattle.std.proofs.Common.{◌∙◌, refl, sym, ap, arith, Some}
 use Rattle.std.proofs.lemmas.List.{length-map}
 use Rattle.state_cache.specs.States.{state_behind}
 use Rattle.robot_host.specs.Robots.{robot_by}

@@ -1,6 +1,4 @@
-use Rattle.std.proofs.Common.{rules}
 use Rattle.robot_host.proofs.Table.{not_turned, there_at}
-use Rattle.robot_host.proofs.AllTurns.{none_below}
 use Rattle.robot_host.proofs.progress.turn_robot.Goals as goal
 
 pub returns-clause-turn : goal.returns-clause-turn

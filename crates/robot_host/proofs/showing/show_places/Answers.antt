@@ -1,4 +1,4 @@
-use Rattle.std.proofs.Common.{rules, ap, ◌+◌, refl, [], ◌≡◌, ◌∙◌, ◌∷◌, true, false, sym, subst, length, reverse, true≢false}
+use Rattle.std.proofs.Common.{rules, ap, ◌+◌, refl, [], ◌≡◌, ◌∙◌, sym, subst, length, reverse, true≢false}
 use Rattle.robot_host.specs.Places.{AreWithin}
 use Rattle.robot_host.proofs.Shown.{one_on, popped}
 use Rattle.robot_host.proofs.showing.show_places.Goals as goal

@@ -1,4 +1,4 @@
-use Rattle.std.proofs.Common.{rules, ◌∙◌, refl}
+use Rattle.std.proofs.Common.{refl}
 use Rattle.robot_host.specs.declared.seat.Seated.TheVariants.{Here}
 use Rattle.robot_host.proofs.Table.{robots_more}
 use Rattle.robot_host.proofs.host.RobotHost.add.Goals as goal

@@ -1,4 +1,4 @@
-use Rattle.std.proofs.Common.{rules, ◌≡◌, sym, ap, ◌∙◌, is_eq, cond, Some, None}
+use Rattle.std.proofs.Common.{rules, ap, ◌∙◌, is_eq, cond, Some, None}
 use Rattle.std.specs.Ordering.{nat_cmp}
 use Rattle.std.specs.Cmp.Lexicographic.{slice_cmp}
 use Rattle.robot_host.specs.Hosts.{progress_in}

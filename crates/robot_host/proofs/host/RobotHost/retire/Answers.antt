@@ -1,4 +1,4 @@
-use Rattle.std.proofs.Common.{rules, get_or, ◌≡◌, ◌<◌, sym, ap, subst, ◌∙◌, map, true, false, length}
+use Rattle.std.proofs.Common.{rules, get_or, ◌≡◌, ◌<◌, ap, ◌∙◌, map, true, false, length}
 use Rattle.std.proofs.lemmas.Option.{slice_get-get_or}
 use Rattle.robot_host.specs.Robots.{robot_by}
 use Rattle.robot_host.specs.Showing.{dropped}

@@ -1,4 +1,4 @@
-use Rattle.std.proofs.Common.{rules, ◌≡◌, ◌∙◌, sym, ap, map, is_some, Some}
+use Rattle.std.proofs.Common.{◌≡◌, ◌∙◌, sym, ap, map, is_some, Some}
 use Rattle.std.specs.Option.{option_copied_mut}
 use Rattle.robot_host.specs.Hosts.{progress_in}
 use Rattle.robot_host.specs.Robots.{robot_by}

@@ -1,4 +1,4 @@
-use Rattle.std.proofs.Common.{rules, ap}
+use Rattle.std.proofs.Common.{ap}
 use Rattle.robot_host.proofs.HostTurns.{always_err, none_turned_yet}
 use Rattle.robot_host.proofs.progress.Progress.turn.Goals as goal
 

@@ -1,4 +1,4 @@
-use Rattle.std.proofs.Common.{rules, ap, subst, sym, is_some, IsSome}
+use Rattle.std.proofs.Common.{ap, subst, sym, is_some, IsSome}
 use Rattle.wavelet_op.specs.States.{empty_state}
 use Rattle.delta_history.specs.Points.{run_all}
 use Rattle.robot_host.proofs.Walking.{runs_to}

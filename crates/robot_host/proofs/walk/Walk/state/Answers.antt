@@ -1,4 +1,4 @@
-use Rattle.std.proofs.Common.{rules, ◌≡◌, ap, sym, ◌∙◌, Some, length}
+use Rattle.std.proofs.Common.{ap, sym, ◌∙◌, Some, length}
 use Rattle.state_cache.specs.States.{state_behind}
 use Rattle.robot_host.proofs.Walking.{at_head}
 use Rattle.robot_host.proofs.walk.Walk.state.Goals as goal

@@ -1,0 +1,16 @@
+ghost use Rattle.robot_host.specs.Laws.{NewMayTurn, LongerMayTurn, OthersMayTurn};
+
+/// The law of a new host: where the robots were shown nothing since they were added, a turn may be taken over any history.
+pub fn new_hosts_may_turn()
+    ensures { NewMayTurn }
+{}
+
+/// The law of longer histories: a host that may take a turn over a history may take one over each history that begins with it.
+pub fn longer_histories_may_follow()
+    ensures { LongerMayTurn }
+{}
+
+/// The law of other wavelets: after a turn over one wavelet's history, a host may take a turn over another wavelet's as it might before.
+pub fn turns_leave_other_wavelets()
+    ensures { OthersMayTurn }
+{}
