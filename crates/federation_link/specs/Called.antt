@@ -3,7 +3,7 @@
 --     SendsNext, SendsFresh, Sends                                  what is sent after nothing came
 --     StepsOn, GoesOn, Rests                                        one step on an open link
 --     Begins, Dials                                                 a new link
-use Rattle.std.specs.Prelude.{ℕ, List, [], Bool, Option, Result}
+use Rattle.std.specs.Prelude.{ℕ, List, Bool, Option, Result}
 use Rattle.doc_items.specs.Maps.{Key}
 use Rattle.wave_outside.specs.declared.link.Link as link_of
 use Rattle.session_core.specs.declared.session.Waiting.{Waiting}
