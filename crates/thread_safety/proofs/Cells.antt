@@ -5,7 +5,7 @@ use denote.Param.Send.{IsSend, IsSync, sendable}
 use denote.Param.SendFields.{declared_send, declared_sync, variants_send, as_row_send, as_row_sync}
 use denote.Builtin.{u64}
 use Rattle.std.proofs.Crossing.{crosses, frees, send, sync}
-use Rattle.core.specs.contracts.option.Option as option
+use Rattle.std.specs.contracts.option.Option as option
 use Rattle.turn_lock.specs.contracts.view.View as view
 use Rattle.std.specs.contracts.alloc.Global as Heap
 use Rattle.std.specs.contracts.impls.GlobalAllocator.TheImpl.{ghosts}

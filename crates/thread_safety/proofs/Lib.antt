@@ -7,4 +7,3 @@ pub mod Tables
 pub mod Shelves
 pub mod Cells
 pub mod Jobs
-pub mod Links

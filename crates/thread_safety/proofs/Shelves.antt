@@ -3,8 +3,8 @@
 use denote.RattleType.{RattleType}
 use denote.Param.Send.{IsSend, IsSync, sendable}
 use denote.Param.SendFields.{declared_send, declared_sync, as_row_send, as_row_sync}
-use Rattle.core.specs.contracts.hash.build.BuildHasherDefault as builder
-use Rattle.core.specs.contracts.hash.fold.FoldHasher as fold
+use Rattle.std.specs.contracts.hash.BuildHasherDefault as builder
+use Rattle.std.specs.contracts.hash.FoldHasher as fold
 use Rattle.std.proofs.Crossing.{crosses}
 use Rattle.std.proofs.MapsCrossing as maps
 use Rattle.disk_model.specs.declared.disk.Disk as disk

@@ -4,10 +4,10 @@ use denote.RattleType.{RattleType}
 use denote.Hole.{as_row}
 use denote.Param.Send.{IsSend, IsSync, sendable}
 use denote.Param.SendFields.{declared_send, declared_sync, as_row_send, as_row_sync}
-use Rattle.core.specs.declared.cmp.PartialEq as eq
-use Rattle.core.specs.declared.hash.Hash as hash
-use Rattle.core.specs.declared.hash.Hasher as hasher
-use Rattle.core.specs.declared.hash.build.BuildHasher as builder
+use Rattle.std.specs.declared.cmp.PartialEq as eq
+use Rattle.std.specs.declared.hash.Hash as hash
+use Rattle.std.specs.declared.hash.Hasher as hasher
+use Rattle.std.specs.declared.hash.BuildHasher as builder
 use Rattle.std.proofs.Crossing.{crosses}
 use Rattle.std.specs.contracts.alloc.Global as Heap
 use Rattle.std.specs.contracts.impls.GlobalAllocator.TheImpl.{ghosts}

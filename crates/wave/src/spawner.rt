@@ -1,6 +1,10 @@
 //! The sessions' threads.
 ghost use Rattle.std.specs.Prelude.{◌≡◌, true};
 ghost use Rattle.std.specs.Arc.{arc_value};
+ghost use denote.Param.Send.{IsSend};
+ghost use Rattle.std.specs.contracts.rt.LibcRuntime as runtime;
+ghost use Rattle.ws_link.specs.contracts.link.SocketLink as socket;
+ghost use Rattle.wave_threads.specs.contracts.gate.RingingGate as gate;
 ghost use Rattle.wave_outside.specs.Counts.{Rose};
 ghost use Rattle.turn_cells.specs.Cells.{Begins};
 ghost use Rattle.session_hub.specs.Hubs.{AreOfHub};
@@ -55,6 +59,20 @@ impl<R: Wait + Drop> Work for SessionThread<R> {
     }
 }
 
+// A value of this type may go to another thread.
+fn sent<T: Send>()
+    ensures { IsSend T.row }
+{}
+
+// Sockets and gates may go to another thread. It does nothing.
+fn links_are_sent()
+    ensures link { IsSend (socket.the_row runtime.the_row) }
+    ensures gate { IsSend gate.the_row }
+{
+    sent::<SocketLink<HostRuntime>>();
+    sent::<RingingGate>();
+}
+
 /// What starts a thread for each session.
 pub struct SessionSpawner {
     pub starter: ThreadStarter,
@@ -80,6 +98,8 @@ impl<R: Threads + Wait + Copy + Send + Sync + Drop + 'static> Spawner<RealJob, R
         alloc: Global,
         job: RealJob,
     ) -> Result<Child<SessionThread<R>>, Refused> {
+        // For the proof.
+        links_are_sent();
         let work = SessionThread {
             rt: *rt,
             alloc,
