@@ -89,6 +89,30 @@ fn sink(alloc: Global, faults: &str) -> Result<MemorySink, Fault> {
     Ok(MemorySink::new(alloc, failing))
 }
 
+// A run without a net, with these words, over these objects: its status.
+fn obeyed(
+    alloc: Global,
+    words: &[String],
+    source: &mut MemorySource,
+    sink: &mut MemorySink,
+    folder: &mut MemoryFolder,
+    clock: &mut TickClock,
+) -> Result<u8, Fault> {
+    match read_words(alloc, words) {
+        Ok(command) => {
+            if command.needs_net() {
+                return Err(Fault::BadRow);
+            }
+            Ok(obey(alloc, command, source, sink, folder, clock))
+        }
+        Err(WordsFault::Usage) => {
+            write_usage(sink);
+            Ok(2)
+        }
+        Err(WordsFault::Memory) => Ok(8),
+    }
+}
+
 /// A run without a net, with these words, over these lines and this folder: its status, and what it writes into the sink.
 fn run_into(
     alloc: Global,
@@ -100,19 +124,14 @@ fn run_into(
 ) -> Result<u8, Fault> {
     let mut clock = clock(faults)?;
     let mut source = source(alloc, input, faults)?;
-    match read_words(alloc, words.as_slice()) {
-        Ok(command) => {
-            if command.needs_net() {
-                return Err(Fault::BadRow);
-            }
-            Ok(obey(alloc, command, &mut source, sink, folder, &mut clock))
-        }
-        Err(WordsFault::Usage) => {
-            write_usage(sink);
-            Ok(2)
-        }
-        Err(WordsFault::Memory) => Ok(8),
-    }
+    obeyed(
+        alloc,
+        words.as_slice(),
+        &mut source,
+        sink,
+        folder,
+        &mut clock,
+    )
 }
 
 /// A run whose words and faults a row tells: its status, and what it wrote.
