@@ -9,6 +9,7 @@ use mio::net::{TcpListener, TcpStream};
 use std::alloc::{AllocError, Global};
 use std::io;
 use std::io::ErrorKind;
+use std::mem::replace;
 use std::net::{Net as Sockets, SocketAddr};
 use std::sync::Arc;
 use std::time::{Clock, Instant};
@@ -40,6 +41,8 @@ pub(crate) struct Door {
     awake: bool,
     // Whether there was no room for one.
     crowded: bool,
+    // Whether a connection was asked for since the last rest.
+    asked: bool,
     waiting: Waiting,
 }
 
@@ -51,6 +54,7 @@ impl Drop for Door {
             next: _next,
             awake: _awake,
             crowded: _crowded,
+            asked: _asked,
             waiting: _waiting,
         } = self;
     }
@@ -81,6 +85,7 @@ impl Door {
             next: FIRST,
             awake: true,
             crowded: false,
+            asked: false,
             waiting,
         })
     }
@@ -102,6 +107,7 @@ impl Door {
         alloc: Global,
         config: WebSocketConfig,
     ) -> Knock {
+        self.asked = true;
         if self.awake && self.take_in(clock, alloc, config).is_err() {
             return Knock::Failed;
         }
@@ -231,12 +237,13 @@ impl Door {
         None
     }
 
-    /// Sleeps until something may have come.
+    /// Sleeps until something may have come. Where no connection was asked for since the last rest, those that wait don't end it.
     pub(crate) fn rest(&mut self) {
+        let asked = replace(&mut self.asked, false);
         if self.crowded {
             self.crowded = false;
             self.waiting.wait(SHORT);
-        } else if !self.awake && !self.is_greeting() {
+        } else if !asked || (!self.awake && !self.is_greeting()) {
             self.waiting.wait(LONG);
         } else {
             return;
