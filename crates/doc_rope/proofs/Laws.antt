@@ -33,22 +33,22 @@ add_last_more xs p (y ∷ ys) q h = add_last_append xs p (y ∷ ys) q
 
 pub total_add_last : {T : Type 0} (ps : List (List T)) (q : List T) → total (add_last ps q) ≡ total ps + length q
 total_add_last [] q = omega arith
-total_add_last (p ∷ []) q = elim (nat_le (length p + length q) 512) as (λ b. total (cond b ((p ++ q) ∷ []) (p ∷ q ∷ [])) ≡ total (p ∷ []) + length q) [ true ↦ grind (arith, length-append) | false ↦ omega arith ]
+total_add_last (p ∷ []) q = elim (nat_le (length p + length q) 128) as (λ b. total (cond b ((p ++ q) ∷ []) (p ∷ q ∷ [])) ≡ total (p ∷ []) + length q) [ true ↦ grind (arith, length-append) | false ↦ omega arith ]
 total_add_last (p ∷ r ∷ ps) q = let e = total_add_last (r ∷ ps) q in omega (arith, e)
 
 pub joined_add_last : {T : Type 0} (ps : List (List T)) (q : List T) → joined (add_last ps q) ≡ joined ps ++ q
 joined_add_last [] q = append-nil q
-joined_add_last (p ∷ []) q = elim (nat_le (length p + length q) 512) as (λ b. joined (cond b ((p ++ q) ∷ []) (p ∷ q ∷ [])) ≡ joined (p ∷ []) ++ q) [ true ↦ simp append-nil refl | false ↦ simp append-nil refl ]
+joined_add_last (p ∷ []) q = elim (nat_le (length p + length q) 128) as (λ b. joined (cond b ((p ++ q) ∷ []) (p ∷ q ∷ [])) ≡ joined (p ∷ []) ++ q) [ true ↦ simp append-nil refl | false ↦ simp append-nil refl ]
 joined_add_last (p ∷ r ∷ ps) q = ap (λ n. p ++ n) (joined_add_last (r ∷ ps) q) ∙ sym (append_assoc p (joined (r ∷ ps)) q)
 
 pub length_both : {A : Type 0} (xs ys : List A) → length (xs ++ ys) ≡ length xs + length ys
 length_both xs ys = length-append xs ys
 
-pub add_last_fits : {T : Type 0} (p q : List T) → length p + length q ≤ 512 → add_last (p ∷ []) q ≡ (p ++ q) ∷ []
-add_last_fits p q h = ap (λ b. cond b ((p ++ q) ∷ []) (p ∷ q ∷ [])) (le-leb (length p + length q) 512 h)
+pub add_last_fits : {T : Type 0} (p q : List T) → length p + length q ≤ 128 → add_last (p ∷ []) q ≡ (p ++ q) ∷ []
+add_last_fits p q h = ap (λ b. cond b ((p ++ q) ∷ []) (p ∷ q ∷ [])) (le-leb (length p + length q) 128 h)
 
-pub add_last_apart : {T : Type 0} (p q : List T) → 512 < length p + length q → add_last (p ∷ []) q ≡ p ∷ q ∷ []
-add_last_apart p q h = ap (λ b. cond b ((p ++ q) ∷ []) (p ∷ q ∷ [])) (lt-leb (length p + length q) 512 h)
+pub add_last_apart : {T : Type 0} (p q : List T) → 128 < length p + length q → add_last (p ∷ []) q ≡ p ∷ q ∷ []
+add_last_apart p q h = ap (λ b. cond b ((p ++ q) ∷ []) (p ∷ q ∷ [])) (lt-leb (length p + length q) 128 h)
 
 pub append_nothing : {A : Type 0} (xs : List A) → xs ++ [] ≡ xs
 append_nothing xs = append-nil xs

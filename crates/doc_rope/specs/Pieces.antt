@@ -4,13 +4,15 @@
 --     joined       the items of some pieces, in order
 --     IsSound      each count is right, and each shape
 --     add_last     one more piece at the end, put into the last one where both fit into one
---     sized        a piece has 1 to 512 items
+--     sized        a piece has 1 to 128 items
 --     apart        a piece and the next one wouldn't fit into one
 --     IsPacked     each piece is sized and apart from the next
+--     Becomes      a piece has other items now, and no fewer than before
+--     AllBecome    so does each of some pieces
 --     glued        two packed lists of pieces as one
 --     IsSpare      a node without items
 --     InPieces     what holds of each rope: a sound tree of packed pieces with at most max_count items
-use Rattle.std.specs.Prelude.{◌≡◌, ℕ, ◌+◌, ◌≤◌, Bool, true, cond, ◌&&◌, List, [], ◌∷◌, ◌++◌, length, ◌==◌, nat_le, nat_lt}
+use Rattle.std.specs.Prelude.{◌≡◌, ℕ, ◌+◌, ◌<◌, ◌≤◌, Bool, true, cond, ◌&&◌, List, [], ◌∷◌, ◌++◌, length, ◌==◌, nat_le, nat_lt}
 use Rattle.doc_items.specs.Limits.{max_count}
 use Rattle.doc_items.specs.declared.item.Item.{Item}
 use Rattle.doc_rope.specs.Shapes.{shape_of, same_shape}
@@ -39,15 +41,15 @@ IsSound t = is_sound t ≡ true
 
 abbrev pub add_last : {T : Type 0} → List (List T) → List T → List (List T)
 add_last [] q = q ∷ []
-add_last (p ∷ []) q = cond (nat_le (length p + length q) 512) ((p ++ q) ∷ []) (p ∷ q ∷ [])
+add_last (p ∷ []) q = cond (nat_le (length p + length q) 128) ((p ++ q) ∷ []) (p ∷ q ∷ [])
 add_last (p ∷ r ∷ ps) q = p ∷ add_last (r ∷ ps) q
 
 abbrev pub sized : {T : Type 0} → List T → Bool
-sized p = nat_lt 0 (length p) && nat_le (length p) 512
+sized p = nat_lt 0 (length p) && nat_le (length p) 128
 
 abbrev pub apart : {T : Type 0} → List T → List (List T) → Bool
 apart p [] = true
-apart p (q ∷ qs) = nat_lt 512 (length p + length q)
+apart p (q ∷ qs) = nat_lt 128 (length p + length q)
 
 abbrev pub packed : {T : Type 0} → List (List T) → Bool
 packed [] = true
@@ -55,6 +57,15 @@ packed (p ∷ ps) = sized p && apart p ps && packed ps
 
 abbrev pub IsPacked : {T : Type 0} → List (List T) → Type 0
 IsPacked ps = packed ps ≡ true
+
+abbrev pub Becomes : {T : Type 0} → List T → List T → Type 0
+Becomes p q = (0 < length q) × (length q ≤ 128) × (length p ≤ length q)
+
+abbrev pub AllBecome : {T : Type 0} → List (List T) → List (List T) → Type 0
+AllBecome [] [] = Unit {0}
+AllBecome [] (q ∷ qs) = length q < 0
+AllBecome (p ∷ ps) [] = length p < 0
+AllBecome (p ∷ ps) (q ∷ qs) = Becomes p q × AllBecome ps qs
 
 -- the first piece of the second list may go into the last of the first
 abbrev pub glued : {T : Type 0} → List (List T) → List (List T) → List (List T)

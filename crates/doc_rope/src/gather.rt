@@ -67,7 +67,7 @@ pub fn put_first(node: Box<Node>, tree: Tree) -> Tree
     concat(piece, tree)
 }
 
-// The tree of these items, in pieces of 512 behind a first one of at most 512.
+// The tree of these items, in pieces of 128 behind a first one of at most 128.
 pub fn gather(alloc: Global, mut items: Vec<Item>) -> Result<Tree, Memory>
     requires fits { length items.items < 2 ^ 64 }
     ensures joined { IfOk result (λ t. joined (pieces t) ≡ items.items) }

@@ -2,10 +2,9 @@
 ghost use Rattle.std.specs.Prelude.{◌≡◌, ℕ, ◌+◌, ◌^◌, ◌<◌, ◌≤◌, ◌++◌, List, length, take, drop, IfOk};
 ghost use Rattle.doc_rope.specs.Pieces.{pieces, joined, total, IsSound, IsPacked};
 
-use crate::ends::concat;
 use crate::gather::{gather, spare};
-use crate::halves::cut;
 use crate::tree::{Node, Tree};
+use crate::within::put_items;
 use doc_items::{Item, Memory};
 use std::alloc::Global;
 use std::marker::Model;
@@ -53,7 +52,7 @@ impl Insertion {
     }
 
     /// The tree with these items in place of the `count` items from place `from` on.
-    #[tactic(auto, using(crate::proofs::Laws::length_joined, crate::proofs::Seams::total_glued, crate::proofs::Seams::packed_glued, crate::proofs::Seams::joined_glued, crate::proofs::Laws::spliced))]
+    #[tactic(auto, using(crate::proofs::Laws::length_joined, crate::proofs::Changed::put_count))]
     pub(crate) fn put_into(self, tree: Tree, from: usize, count: usize) -> Tree
         requires sound { IsSound tree }
         requires packed { IsPacked (pieces tree) }
@@ -64,9 +63,6 @@ impl Insertion {
         ensures sound { IsSound result }
         ensures packed { IsPacked (pieces result) }
     {
-        let outer = cut(tree, from, self.first);
-        let inner = cut(outer.after, count, self.second);
-        let start = concat(outer.before, self.tree);
-        concat(start, inner.after)
+        put_items(tree, from, count, self.tree, self.first, self.second)
     }
 }

@@ -13,6 +13,7 @@ mod rope;
 mod shape;
 mod tree;
 mod turns;
+mod within;
 
 pub use insertion::Insertion;
 pub use reader::Reader;

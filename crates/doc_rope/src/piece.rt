@@ -1,5 +1,5 @@
 // Items in a row, with their shape.
-ghost use Rattle.std.specs.Prelude.{◌≡◌, ◌+◌, ◌≤◌, ◌++◌, [], length, vec_capacity, IfOk, OnOk};
+ghost use Rattle.std.specs.Prelude.{◌≡◌, ◌+◌, ◌<◌, ◌≤◌, ◌++◌, [], true, false, length, take, drop, vec_capacity, IfOk, OnOk};
 ghost use Rattle.doc_rope.specs.Shapes.{shape_of};
 
 use crate::shape::Shape;
@@ -7,9 +7,12 @@ use doc_items::{Item, Memory};
 use std::alloc::Global;
 use std::marker::Model;
 
-pub const PIECE: usize = 512;
+pub const PIECE: usize = 128;
 
-// Seen as its items. It has room for 512 from its making, and keeps their shape.
+// More items than these aren't moved one by one.
+const FEW: usize = 16;
+
+// Seen as its items. It has room for 128 from its making, and keeps their shape.
 #[derive(Drop)]
 pub struct Piece {
     items: Vec<Item>,
@@ -29,7 +32,7 @@ impl Model for Piece {
 
     ghost view = { λ p. p.items.items };
 
-    ghost invariant = { λ p. (512 ≤ vec_capacity p.items) × (p.shape ≡ shape_of p.items.items) };
+    ghost invariant = { λ p. (128 ≤ vec_capacity p.items) × (p.shape ≡ shape_of p.items.items) };
 }
 
 impl Piece {
@@ -96,6 +99,35 @@ impl Piece {
         self.shape = Shape::of(self.items.as_slice());
     }
 
+    // Moves the other's items in place of the `count` items from `at` on, where both are few and a piece of at least so many items
+    // results. Otherwise all stays as it was.
+    #[tactic(auto, using(crate::proofs::Changed::put_length))]
+    pub fn put(&mut self, at: usize, count: usize, other: &mut Piece, least: usize) -> bool
+        requires { at + count ≤ length self.old }
+        ensures value { result ≡ true → self.new ≡ take at self.old ++ other.old ++ drop (at + count) self.old }
+        ensures count { result ≡ true → length self.new + count ≡ length self.old + length other.old }
+        ensures some { result ≡ true → 0 < length self.new }
+        ensures short { result ≡ true → length self.new ≤ PIECE }
+        ensures long { result ≡ true → least ≤ length self.new }
+        ensures used { result ≡ true → other.new ≡ [] }
+        ensures kept { result ≡ false → self.new ≡ self.old }
+        ensures kept_other { result ≡ false → other.new ≡ other.old }
+    {
+        let more = other.items.len();
+        let rest = self.items.len() - count;
+        if count > FEW || more > FEW || rest > PIECE - more {
+            return false;
+        }
+        if rest + more == 0 || rest + more < least {
+            return false;
+        }
+        take_away(&mut self.items, at, count);
+        move_into(&mut other.items, &mut self.items, at);
+        self.shape = Shape::of(self.items.as_slice());
+        other.shape = Shape::none();
+        true
+    }
+
     // An equal piece.
     pub fn copy(&self, alloc: Global) -> Result<Piece, Memory>
         ensures { IfOk result (λ p. p ≡ self.now) }
@@ -124,6 +156,36 @@ fn move_tail(from: &mut Vec<Item>, at: usize, to: &mut Vec<Item>)
         }
     }
     to.reverse();
+}
+
+// Takes the `count` items from `at` on out.
+#[tactic(auto, using(crate::proofs::Changed::taken_one))]
+fn take_away(items: &mut Vec<Item>, at: usize, count: usize)
+    requires { at + count ≤ length items.old.items }
+    ensures items { items.new.items ≡ take at items.old.items ++ drop (at + count) items.old.items }
+    ensures room { vec_capacity items.old ≤ vec_capacity items.new }
+{
+    for _ in 0..count {
+        let _gone = items.remove(at);
+    }
+}
+
+// Moves all items of `from` in front of the item at `at`.
+#[tactic(auto, using(crate::proofs::Changed::insert_front, crate::proofs::Changed::insert_rest))]
+fn move_into(from: &mut Vec<Item>, to: &mut Vec<Item>, at: usize)
+    requires at { at ≤ length to.old.items }
+    requires room { length to.old.items + length from.old.items ≤ vec_capacity to.old }
+    ensures items { to.new.items ≡ take at to.old.items ++ from.old.items ++ drop at to.old.items }
+    ensures from { from.new.items ≡ [] }
+    ensures room { vec_capacity to.old ≤ vec_capacity to.new }
+    ensures from_room { vec_capacity from.old ≤ vec_capacity from.new }
+{
+    while let Some(item) = from.pop() {
+        match to.insert(at, item) {
+            Ok(()) => {}
+            Err(_) => unreachable!(),
+        }
+    }
 }
 
 // Puts copies of the items behind those of `to`.

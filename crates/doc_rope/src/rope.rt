@@ -14,7 +14,7 @@ use std::alloc::Global;
 use std::marker::Model;
 use std::mem;
 
-/// A document, seen as its list of items, of which there are at most `MAX_COUNT`. It is kept in pieces of 1 to 512 items,
+/// A document, seen as its list of items, of which there are at most `MAX_COUNT`. It is kept in pieces of 1 to 128 items,
 /// of which no two neighbours would fit into one, under a tree that counts them.
 #[derive(Drop)]
 pub struct Rope {

@@ -135,4 +135,15 @@ impl Tree {
             Tree::Fork(_) => false,
         }
     }
+
+    // Whether there is one piece.
+    #[tactic(auto, using(crate::proofs::Laws::length_cut))]
+    pub fn is_one(&self) -> bool
+        ensures { result ≡ true → length (pieces self.now) ≡ 1 }
+    {
+        match self {
+            Tree::Empty => false,
+            Tree::Fork(node) => node.left.is_empty() && node.right.is_empty(),
+        }
+    }
 }

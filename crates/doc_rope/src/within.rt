@@ -1,0 +1,254 @@
+// Items put in place of others inside one piece, so that no other piece changes.
+ghost use Rattle.std.specs.Prelude.{◌≡◌, ℕ, ◌+◌, ◌^◌, ◌<◌, ◌≤◌, ◌∷◌, ◌++◌, [], List, length, take, drop, IfOk, IfErr, OnOk, OnErr};
+ghost use Rattle.doc_rope.specs.Pieces.{pieces, IsSound, total, IsPacked, joined, AllBecome};
+
+use crate::ends::concat;
+use crate::halves::cut;
+use crate::piece::Piece;
+use crate::tree::{Node, Tree};
+use crate::turns::{fork, open};
+
+// Puts the items in place of the `count` items from place `from` on, where these lie in one piece which has room for them and then
+// has no fewer items than before. Otherwise all stays as it was.
+#[tactic(auto, using(crate::proofs::Laws::total_append, crate::proofs::Changed::joined_left, crate::proofs::Changed::joined_right, crate::proofs::Changed::joined_here, crate::proofs::Laws::length_cut, crate::proofs::Seams::packed_left, crate::proofs::Seams::packed_tail, crate::proofs::Changed::become_left, crate::proofs::Changed::become_right, crate::proofs::Changed::become_here))]
+pub fn put_within(tree: Tree, from: usize, count: usize, items: &mut Piece) -> Result<Tree, Tree>
+    requires sound { IsSound tree }
+    requires packed { IsPacked (pieces tree) }
+    requires inside { from + count ≤ total (pieces tree) }
+    requires fits { total (pieces tree) + length items.old < 2 ^ 64 }
+    ensures joined { IfOk result (λ t. joined (pieces t) ≡ take from (joined (pieces tree)) ++ items.old ++ drop (from + count) (joined (pieces tree))) }
+    ensures pieces { IfOk result (λ t. AllBecome (pieces tree) (pieces t)) }
+    ensures count { IfOk result (λ t. total (pieces t) + count ≡ total (pieces tree) + length items.old) }
+    ensures sound { IfOk result (λ t. IsSound t) }
+    ensures used { OnOk result (items.new ≡ []) }
+    ensures kept { IfErr result (λ t. pieces t ≡ pieces tree) }
+    ensures kept_sound { IfErr result (λ t. IsSound t) }
+    ensures kept_items { OnErr result (items.new ≡ items.old) }
+{
+    // A count is a `usize`, so what is taken apart fits too.
+    let _whole = tree.count();
+    match tree {
+        Tree::Empty => Err(Tree::Empty),
+        Tree::Fork(mut node) => {
+            let (left, right) = open(&mut node);
+            let before = left.count();
+            let behind = before + node.piece.len();
+            let end = from + count;
+            if end < before {
+                match put_within(left, from, count, items) {
+                    Ok(left) => Ok(fork(left, node, right)),
+                    Err(left) => Err(fork(left, node, right)),
+                }
+            } else if behind < from {
+                match put_within(right, from - behind, count, items) {
+                    Ok(right) => Ok(fork(left, node, right)),
+                    Err(right) => Err(fork(left, node, right)),
+                }
+            } else {
+                put_here(left, node, right, from, count, items)
+            }
+        }
+    }
+}
+
+// Puts the items in the middle piece of a tree, where they replace what lies in it alone.
+#[tactic(auto, using(crate::proofs::Laws::total_append, crate::proofs::Changed::joined_here, crate::proofs::Changed::become_here))]
+fn put_here(
+    left: Tree,
+    mut node: Box<Node>,
+    right: Tree,
+    from: usize,
+    count: usize,
+    items: &mut Piece,
+) -> Result<Tree, Tree>
+    requires left { IsSound left }
+    requires right { IsSound right }
+    requires packed { IsPacked (pieces left ++ node.value.piece ∷ pieces right) }
+    requires whole { total (pieces left) + (length node.value.piece + total (pieces right)) < 2 ^ 64 }
+    requires inside { from + count < 2 ^ 64 }
+    requires fits { total (pieces left) + (length node.value.piece + total (pieces right)) + length items.old < 2 ^ 64 }
+    ensures joined { IfOk result (λ t. joined (pieces t) ≡ take from (joined (pieces left ++ node.value.piece ∷ pieces right)) ++ items.old ++ drop (from + count) (joined (pieces left ++ node.value.piece ∷ pieces right))) }
+    ensures pieces { IfOk result (λ t. AllBecome (pieces left ++ node.value.piece ∷ pieces right) (pieces t)) }
+    ensures count { IfOk result (λ t. total (pieces t) + count ≡ total (pieces left) + (length node.value.piece + total (pieces right)) + length items.old) }
+    ensures sound { IfOk result (λ t. IsSound t) }
+    ensures used { OnOk result (items.new ≡ []) }
+    ensures kept { IfErr result (λ t. pieces t ≡ pieces left ++ node.value.piece ∷ pieces right) }
+    ensures kept_sound { IfErr result (λ t. IsSound t) }
+    ensures kept_items { OnErr result (items.new ≡ items.old) }
+{
+    let before = left.count();
+    let len = node.piece.len();
+    if from < before {
+        return Err(fork(left, node, right));
+    }
+    let at = from - before;
+    if at + count > len {
+        return Err(fork(left, node, right));
+    }
+    if node.piece.put(at, count, items, len) {
+        Ok(fork(left, node, right))
+    } else {
+        Err(fork(left, node, right))
+    }
+}
+
+// Puts the items in one piece. One that stands alone may then also have fewer items than before.
+#[tactic(auto, using(crate::proofs::Changed::packed_become))]
+fn put_near(tree: Tree, from: usize, count: usize, items: &mut Piece) -> Result<Tree, Tree>
+    requires sound { IsSound tree }
+    requires packed { IsPacked (pieces tree) }
+    requires inside { from + count ≤ total (pieces tree) }
+    requires fits { total (pieces tree) + length items.old < 2 ^ 64 }
+    ensures joined { IfOk result (λ t. joined (pieces t) ≡ take from (joined (pieces tree)) ++ items.old ++ drop (from + count) (joined (pieces tree))) }
+    ensures packed { IfOk result (λ t. IsPacked (pieces t)) }
+    ensures sound { IfOk result (λ t. IsSound t) }
+    ensures used { OnOk result (items.new ≡ []) }
+    ensures kept { IfErr result (λ t. pieces t ≡ pieces tree) }
+    ensures kept_sound { IfErr result (λ t. IsSound t) }
+    ensures kept_items { OnErr result (items.new ≡ items.old) }
+{
+    if tree.is_one() {
+        put_alone(tree, from, count, items)
+    } else {
+        put_within(tree, from, count, items)
+    }
+}
+
+// Puts the items in the piece of a tree that has one.
+fn put_alone(tree: Tree, from: usize, count: usize, items: &mut Piece) -> Result<Tree, Tree>
+    requires sound { IsSound tree }
+    requires inside { from + count ≤ total (pieces tree) }
+    requires fits { total (pieces tree) + length items.old < 2 ^ 64 }
+    requires one { length (pieces tree) ≡ 1 }
+    ensures joined { IfOk result (λ t. joined (pieces t) ≡ take from (joined (pieces tree)) ++ items.old ++ drop (from + count) (joined (pieces tree))) }
+    ensures packed { IfOk result (λ t. IsPacked (pieces t)) }
+    ensures sound { IfOk result (λ t. IsSound t) }
+    ensures used { OnOk result (items.new ≡ []) }
+    ensures kept { IfErr result (λ t. pieces t ≡ pieces tree) }
+    ensures kept_sound { IfErr result (λ t. IsSound t) }
+    ensures kept_items { OnErr result (items.new ≡ items.old) }
+{
+    let _whole = tree.count();
+    match tree {
+        Tree::Empty => Err(Tree::Empty),
+        Tree::Fork(mut node) => {
+            if node.piece.put(from, count, items, 1) {
+                Ok(fork(Tree::Empty, node, Tree::Empty))
+            } else {
+                Err(fork(Tree::Empty, node, Tree::Empty))
+            }
+        }
+    }
+}
+
+// The tree with the items in place of the `count` items from place `from` on, with spare pieces for those that are cut at both
+// ends of what is replaced.
+pub fn put_items(
+    tree: Tree,
+    from: usize,
+    count: usize,
+    items: Tree,
+    first: Box<Node>,
+    second: Box<Node>,
+) -> Tree
+    requires sound { IsSound tree }
+    requires packed { IsPacked (pieces tree) }
+    requires inside { from + count ≤ total (pieces tree) }
+    requires fits { total (pieces tree) + total (pieces items) < 2 ^ 64 }
+    requires items { IsSound items }
+    requires items_packed { IsPacked (pieces items) }
+    requires first { first.value.piece ≡ [] }
+    requires second { second.value.piece ≡ [] }
+    ensures joined { joined (pieces result) ≡ take from (joined (pieces tree)) ++ joined (pieces items) ++ drop (from + count) (joined (pieces tree)) }
+    ensures sound { IsSound result }
+    ensures packed { IsPacked (pieces result) }
+{
+    if items.is_one() {
+        put_one(tree, from, count, items, first, second)
+    } else if items.is_empty() {
+        put_none(tree, from, count, first, second)
+    } else {
+        put_between(tree, from, count, items, first, second)
+    }
+}
+
+// No items in place of those.
+#[tactic(auto, using(crate::proofs::Seams::packed_none))]
+fn put_none(tree: Tree, from: usize, count: usize, mut first: Box<Node>, second: Box<Node>) -> Tree
+    requires sound { IsSound tree }
+    requires packed { IsPacked (pieces tree) }
+    requires inside { from + count ≤ total (pieces tree) }
+    requires fits { total (pieces tree) < 2 ^ 64 }
+    requires first { first.value.piece ≡ [] }
+    requires second { second.value.piece ≡ [] }
+    ensures joined { joined (pieces result) ≡ take from (joined (pieces tree)) ++ [] ++ drop (from + count) (joined (pieces tree)) }
+    ensures sound { IsSound result }
+    ensures packed { IsPacked (pieces result) }
+{
+    match put_near(tree, from, count, &mut first.piece) {
+        Ok(tree) => tree,
+        Err(tree) => put_between(tree, from, count, Tree::Empty, first, second),
+    }
+}
+
+// The items of one piece in place of those.
+fn put_one(
+    tree: Tree,
+    from: usize,
+    count: usize,
+    items: Tree,
+    first: Box<Node>,
+    second: Box<Node>,
+) -> Tree
+    requires sound { IsSound tree }
+    requires packed { IsPacked (pieces tree) }
+    requires inside { from + count ≤ total (pieces tree) }
+    requires fits { total (pieces tree) + total (pieces items) < 2 ^ 64 }
+    requires items { IsSound items }
+    requires items_packed { IsPacked (pieces items) }
+    requires one { length (pieces items) ≡ 1 }
+    requires first { first.value.piece ≡ [] }
+    requires second { second.value.piece ≡ [] }
+    ensures joined { joined (pieces result) ≡ take from (joined (pieces tree)) ++ joined (pieces items) ++ drop (from + count) (joined (pieces tree)) }
+    ensures sound { IsSound result }
+    ensures packed { IsPacked (pieces result) }
+{
+    match items {
+        Tree::Empty => put_none(tree, from, count, first, second),
+        Tree::Fork(mut node) => match put_near(tree, from, count, &mut node.piece) {
+            Ok(tree) => tree,
+            Err(tree) => {
+                let items = fork(Tree::Empty, node, Tree::Empty);
+                put_between(tree, from, count, items, first, second)
+            }
+        },
+    }
+}
+
+// The items between the pieces that lie before and behind those, which are cut where they have to be.
+#[tactic(auto, using(crate::proofs::Laws::length_joined, crate::proofs::Seams::total_glued, crate::proofs::Seams::packed_glued, crate::proofs::Seams::joined_glued, crate::proofs::Laws::spliced))]
+fn put_between(
+    tree: Tree,
+    from: usize,
+    count: usize,
+    items: Tree,
+    first: Box<Node>,
+    second: Box<Node>,
+) -> Tree
+    requires sound { IsSound tree }
+    requires packed { IsPacked (pieces tree) }
+    requires inside { from + count ≤ total (pieces tree) }
+    requires fits { total (pieces tree) + total (pieces items) < 2 ^ 64 }
+    requires items { IsSound items }
+    requires items_packed { IsPacked (pieces items) }
+    requires first { first.value.piece ≡ [] }
+    requires second { second.value.piece ≡ [] }
+    ensures joined { joined (pieces result) ≡ take from (joined (pieces tree)) ++ joined (pieces items) ++ drop (from + count) (joined (pieces tree)) }
+    ensures sound { IsSound result }
+    ensures packed { IsPacked (pieces result) }
+{
+    let outer = cut(tree, from, first);
+    let inner = cut(outer.after, count, second);
+    let start = concat(outer.before, items);
+    concat(start, inner.after)
+}
