@@ -1,5 +1,5 @@
 //! A link over a socket.
-ghost use Rattle.std.specs.Prelude.{◌≡◌, ◌≤◌, [], false};
+ghost use Rattle.std.specs.Prelude.{◌≡◌, ◌≤◌, [], false, IfErr};
 ghost use Rattle.wave_outside.specs.Counts.{Rose, raised};
 ghost use Rattle.wave_outside.specs.declared.link.LinkFault.TheVariants.{Failed};
 ghost use Rattle.wave_outside.specs.declared.link.Polled.TheVariants.{Nothing};
@@ -55,6 +55,16 @@ impl<R: RandomSource + Clock + Copy + Drop> State<R> {
         }
     }
 
+    // Sends what waits, as far as the peer takes it, and reads nothing. A handshake under way goes on at a look alone.
+    fn flush(&mut self) -> Written {
+        match self {
+            State::Asking(_asking) => Written::Waits,
+            State::Served(socket) => socket.send_waiting(),
+            State::Dialled(socket) => socket.send_waiting(),
+            State::Gone => Written::Failed,
+        }
+    }
+
     fn give(&mut self, alloc: Global, bytes: &[u8]) -> Written {
         match self {
             State::Asking(asking) => asking.keep(alloc, bytes),
@@ -81,8 +91,10 @@ pub struct SocketLink<R: RandomSource + Clock + Copy + Drop> {
     // Where it waits; None where its owner waits elsewhere.
     waiting: Option<Waiting>,
     patience: Patience,
-    // Whether a look at the socket may find something, or something is to leave.
+    // Whether a look at the socket may find something.
     awake: bool,
+    // Whether something was sent since the last look or flush.
+    leaving: bool,
     faults: Faults,
     looks: u64,
     closed: bool,
@@ -95,6 +107,7 @@ impl<R: RandomSource + Clock + Copy + Drop> Drop for SocketLink<R> {
             waiting: _waiting,
             patience: _patience,
             awake: _awake,
+            leaving: _leaving,
             faults: _faults,
             looks: _looks,
             closed: _closed,
@@ -116,6 +129,7 @@ impl<R: RandomSource + Clock + Copy + Drop> SocketLink<R> {
             waiting,
             patience,
             awake: true,
+            leaving: false,
             faults: Faults::none(),
             looks: 0,
             closed: false,
@@ -136,6 +150,7 @@ impl<R: RandomSource + Clock + Copy + Drop> SocketLink<R> {
             waiting: _waiting,
             patience: _patience,
             awake: _awake,
+            leaving: _leaving,
             faults: _faults,
             looks: _looks,
             closed: _closed,
@@ -143,10 +158,11 @@ impl<R: RandomSource + Clock + Copy + Drop> SocketLink<R> {
         state.close();
     }
 
-    // Looks at the socket.
+    // Looks at the socket. What was sent leaves before.
     fn look(&mut self, alloc: Global) -> Heard
         ensures { (self.new.faults ≡ self.old.faults) × (self.new.looks ≡ self.old.looks) × (self.new.closed ≡ self.old.closed) }
     {
+        self.leaving = false;
         let state = replace(&mut self.state, State::Gone);
         let (state, heard) = state.looked(alloc);
         self.state = state;
@@ -189,6 +205,23 @@ impl<R: RandomSource + Clock + Copy + Drop> SocketLink<R> {
         Polled::Nothing
     }
 
+    // What was sent leaves, where nothing is there to be read.
+    fn flush(&mut self) -> Result<(), LinkFault>
+        ensures failed { IfErr result (λ e. e ≡ Failed → Rose self.old.faults.count self.new.faults.count) }
+        ensures later { self.old.faults.count ≤ self.new.faults.count }
+        ensures same { (self.new.looks ≡ self.old.looks) × (self.new.closed ≡ self.old.closed) }
+    {
+        if !replace(&mut self.leaving, false) {
+            return Ok(());
+        }
+        match self.state.flush() {
+            Written::Taken => Ok(()),
+            Written::Waits => Ok(()),
+            Written::Memory => Err(LinkFault::Memory),
+            Written::Failed => Err(self.fail()),
+        }
+    }
+
     // Nothing is there to be read.
     fn idle(&mut self) -> Polled
         ensures result { result ≡ Nothing }
@@ -217,6 +250,7 @@ impl<R: RandomSource + Clock + Copy + Drop> Link for SocketLink<R> {
             return Ok(Polled::Closed);
         }
         if !self.awake {
+            self.flush()?;
             return Ok(self.idle());
         }
         match self.look(alloc) {
@@ -241,7 +275,7 @@ impl<R: RandomSource + Clock + Copy + Drop> Link for SocketLink<R> {
     }
 
     fn send(&mut self, alloc: Global, bytes: &[u8]) -> Result<(), LinkFault> {
-        self.awake = true;
+        self.leaving = true;
         self.patience.renew();
         match self.state.give(alloc, bytes) {
             Written::Taken => Ok(()),

@@ -107,8 +107,8 @@ impl<K: MaskKeys + Drop> Socket<K> {
         written
     }
 
-    // Sends the output, and then one waiting message after another, as far as the peer takes them.
-    fn send_waiting(&mut self) -> Written {
+    /// Sends the output, and then one waiting message after another, as far as the peer takes them.
+    pub(crate) fn send_waiting(&mut self) -> Written {
         let flushed = written_of(self.socket.flush());
         let mut written = self.note(flushed);
         if !self.full {
