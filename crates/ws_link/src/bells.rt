@@ -1,9 +1,9 @@
 //! Bells, by which whoever has news wakes those who wait for it.
 //!
 //! A bell is a hint: no clause says that it rings, and whoever it wakes looks again. That nobody is missed rests on the one order of
-//! all atomic operations. Who rings sets the flag `rung` and then wakes the owner, unless the flag was set. The owner looks at
-//! the flag before it waits, clears it when its wait has ended, and looks for news after that. So either it finds the news
-//! there, or the bell was rung after it and ends the next wait.
+//! all atomic operations. Who rings sets the flag `rung`, and then wakes the owner where the flag was clear and the owner lies down.
+//! The owner notes that it lies down and then looks at the flag before it waits; it clears both when its wait has ended, and looks
+//! for news after that. So either it finds the news there, or the bell was rung after it and ends the next wait.
 //!
 //! Nobody who rings waits for anybody: the wakers are only read then. They are written by their owners, when these come and go.
 use mio::Waker;
@@ -25,6 +25,8 @@ struct Bell {
     // A bit for each shard of which its owner wants the news.
     shards: AtomicU64,
     rung: AtomicBool,
+    // Whether its owner waits, or is about to.
+    asleep: AtomicBool,
     waker: RwLock<Option<Waker>>,
 }
 
@@ -35,6 +37,7 @@ impl Drop for Bell {
             session: _session,
             shards: _shards,
             rung: _rung,
+            asleep: _asleep,
             waker: _waker,
         } = self;
     }
@@ -47,6 +50,7 @@ impl Bell {
             session: AtomicU64::new(NO_SESSION),
             shards: AtomicU64::new(0),
             rung: AtomicBool::new(false),
+            asleep: AtomicBool::new(false),
             waker: RwLock::new(None),
         }
     }
@@ -58,7 +62,7 @@ impl Bell {
 
     // Ends the wait that is under way, or else the next.
     fn ring(&self) {
-        if self.rung.swap(true, Ordering::SeqCst) {
+        if self.rung.swap(true, Ordering::SeqCst) || !self.asleep.load(Ordering::SeqCst) {
             return;
         }
         if let Some(guard) = self.waker.try_read() {
@@ -220,17 +224,21 @@ impl Seat {
         Some(Seat { bells, place: DOOR })
     }
 
-    /// Whether the bell was rung since the owner's last wait ended.
-    pub(crate) fn is_rung(&self) -> bool {
+    /// The owner is about to wait. Whether the bell was rung since its last wait ended, so that it need not.
+    pub(crate) fn lie_down(&self) -> bool {
         match self.bells.table.get(self.place) {
-            Some(bell) => bell.rung.load(Ordering::SeqCst),
+            Some(bell) => {
+                bell.asleep.store(true, Ordering::SeqCst);
+                bell.rung.load(Ordering::SeqCst)
+            }
             None => false,
         }
     }
 
     /// The owner's wait has ended, and it is about to look for news.
-    pub(crate) fn heard(&self) {
+    pub(crate) fn get_up(&self) {
         if let Some(bell) = self.bells.table.get(self.place) {
+            bell.asleep.store(false, Ordering::SeqCst);
             bell.rung.store(false, Ordering::SeqCst);
         }
     }

@@ -75,7 +75,7 @@ impl Waiting {
 
     /// Waits until a socket is ready, the bell is rung, or the time is over.
     pub(crate) fn wait(&mut self, milliseconds: u64) {
-        let time = if self.is_rung() { 0 } else { milliseconds };
+        let time = if self.lie_down() { 0 } else { milliseconds };
         if self
             .poll
             .poll(&mut self.events, Some(Duration::from_millis(time)))
@@ -83,19 +83,20 @@ impl Waiting {
         {
             self.events.clear();
         }
-        self.heard();
+        self.get_up();
     }
 
-    fn is_rung(&self) -> bool {
+    // Whether the bell was rung before the wait.
+    fn lie_down(&self) -> bool {
         match &self.seat {
-            Some(seat) => seat.is_rung(),
+            Some(seat) => seat.lie_down(),
             None => false,
         }
     }
 
-    fn heard(&self) {
+    fn get_up(&self) {
         if let Some(seat) = &self.seat {
-            seat.heard();
+            seat.get_up();
         }
     }
 
