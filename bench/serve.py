@@ -4,10 +4,10 @@
     bench/serve.py [PROGRAM] [PART ..]
 
 PROGRAM is crates/wave/out/wave unless it is given (`rt run` in crates/wave builds it), PART one of rates, store, idle, hostile, unread, all of them
-if none is given. An assertion fails where the server does anything else than it should.
+if none is given. An assertion fails where the server does anything else than it should. The clients of rates and store are processes of
+bench/writers.c, which `cc` builds.
 """
-import base64, hashlib, json, os, random, re, resource, select, signal, socket, subprocess, sys, tempfile, time
-from multiprocessing import Pipe, Process
+import base64, hashlib, json, os, random, re, resource, signal, socket, subprocess, sys, tempfile, time
 from pathlib import Path
 from links import Client, processor, resident
 
@@ -142,77 +142,48 @@ def stop(server):
     server.wait()
 
 
-def write_all(writers, each, all_updates):
-    """Each writer has one submission under way, until it has had so many acknowledged and has seen those of all."""
-    poll, by = select.poll(), {w.s.fileno(): w for w in writers}
-    for w in writers:
-        poll.register(w.s, select.POLLIN)
-    left, waiting = {w: each for w in writers}, len(writers)
-    for w in writers:
-        w.type()
-    while waiting:
-        ready = poll.poll(60000)
-        assert ready, ["stuck", [(w.number, w.updates) for w in writers]]
-        for fd, _ in ready:
-            w = by[fd]
-            was = w.updates
-            for message in w.take():
-                if message.startswith(b'{"at"'):
-                    w.base = w.acknowledged(message)
-                    left[w] -= 1
-                    if left[w]:
-                        w.type()
-                else:
-                    assert message.startswith(b'{"author"'), message
-                    w.updates += 1
-            waiting -= was < all_updates <= w.updates
+def built_writers(folder):
+    """The program bench/writers.c, built there."""
+    program = f"{folder}/writers"
+    subprocess.run(["cc", "-O2", "-o", program, Path(__file__).with_name("writers.c")], check=True)
+    return program
 
 
-def group(pipe, port, numbers, wavelets, each, all_updates):
-    """Some of the writers, in a process of their own."""
-    writers = [Writer(port, i, i % wavelets) for i in numbers]
-    pipe.send("here")
-    bases = pipe.recv()
-    for w in writers:
-        w.join(bases[w.name])
-    pipe.send("open")
-    pipe.recv()
-    write_all(writers, each, all_updates)
-    pipe.send("done")
-    pipe.recv()
-    let_go(writers)
+def hand_on(program, writers, each, all_updates):
+    """A process of bench/writers.c that goes on with these sessions, whose links stay ours."""
+    fds = [w.s.fileno() for w in writers]
+    writer = subprocess.Popen([program, str(each), str(all_updates)], stdin=subprocess.PIPE, stdout=subprocess.PIPE, text=True, pass_fds=fds)
+    for w, fd in zip(writers, fds):
+        assert not w.data and not w.messages
+        writer.stdin.write(f"{fd} {w.client} {w.number} {w.first} {w.base[0]} {w.base[1]} {w.name}\n")
+    writer.stdin.flush()
+    return writer
 
 
 def rates(program, sessions, wavelets, each, cores=None, store=False):
     """Each session has its wavelet open and one submission under way. As many processes of clients as there are processors share them."""
-    with tempfile.TemporaryDirectory() as folder:
+    with tempfile.TemporaryDirectory() as folder, tempfile.TemporaryDirectory() as place:
         more = ["--store", folder] if store else []
+        client = built_writers(place)
         server, port = start(program, "--sessions", str(sessions + 1), *more, cores=cores)
-        maker, bases, parts = Writer(port, 10_000, 0), {}, []
-        for k in range(count := min(os.cpu_count(), sessions)):
-            ours, theirs = Pipe()
-            part = Process(target=group, args=(theirs, port, range(k, sessions, count), wavelets, each, each * sessions // wavelets))
-            part.start()
-            parts.append((part, ours))
-        hear = lambda: [pipe.recv() for _, pipe in parts]
-        say = lambda what: [pipe.send(what) for _, pipe in parts]
-        hear()
+        maker, bases = Writer(port, 10_000, 0), {}
+        writers = [Writer(port, i, i % wavelets) for i in range(sessions)]
         for wavelet in range(wavelets):
             maker.name, maker.number = name_of(wavelet), 0
             maker.begin([10_000, *range(wavelet, sessions, wavelets)])
             bases[maker.name] = maker.base
-        say(bases)
-        hear()
+        for w in writers:
+            w.join(bases[w.name])
+        groups = [hand_on(client, writers[k::count], each, each * sessions // wavelets) for count in [min(os.cpu_count(), sessions)] for k in range(count)]
         before, begin = processor(server.pid), time.time()
-        say("go")
-        hear()
+        for group in groups:
+            group.stdin.write("go\n")
+            group.stdin.flush()
+        for group in groups:
+            assert group.stdout.readline() == "done\n"
         wall, used, total = time.time() - begin, processor(server.pid) - before, each * sessions
         memory = resident(server.pid)
-        say("end")
-        let_go([maker])
-        for part, _ in parts:
-            part.join()
-            assert part.exitcode == 0
+        let_go([maker, *writers])
         assert server.wait(20) == 0
     kind = " with a store" if store else ""
     print(f"| {sessions} on {wavelets}{kind} | {cores or os.cpu_count()} | {used / total * 1e6:.0f} | {total / wall:.0f} | {memory:.0f} |", flush=True)
