@@ -16,8 +16,9 @@ use std::sync::Wait;
 /// The ticket that is no longer drawn.
 const TURN_LIMIT: u64 = 1 << 63;
 
-/// How often a thread whose ticket is the next one looks before it sleeps: some microseconds long.
-const LOOKS: u32 = 200;
+/// How often a thread whose ticket is the next one looks before it sleeps: a microsecond or two, as long as a short turn. More looks cost
+/// more than a sleep does.
+const LOOKS: u32 = 30;
 
 impl Spent {
     /// The ticket word that was read.
