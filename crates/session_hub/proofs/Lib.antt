@@ -2,3 +2,4 @@ pub mod Loading
 pub mod Turning
 pub mod Leaving
 pub mod Adding
+pub mod Written

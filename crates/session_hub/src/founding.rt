@@ -70,6 +70,7 @@ impl<F: Folder + Drop> Shard<F> {
             number,
             shelf,
             records,
+            texts: Vec::new(alloc),
         })
     }
 }

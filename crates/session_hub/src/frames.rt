@@ -1,16 +1,19 @@
 // Messages as they are sent.
-ghost use Rattle.std.specs.Prelude.{◌≡◌, map, IfOk};
+ghost use Rattle.std.specs.Prelude.{◌≡◌, List, map, IfOk};
 ghost use Rattle.std.specs.List.{All};
 ghost use Rattle.message_json.specs.Write.{IsShort};
 ghost use Rattle.message_json.specs.declared.message.Message.{Message};
 ghost use Rattle.session_core.specs.News.{message_of, messages_of, reply_message};
+ghost use Rattle.wavelet_shelf.specs.Hosting.{Hosted};
 ghost use Rattle.shard_marks.specs.Frames.{frame_of, frames_of};
+ghost use Rattle.session_hub.specs.Texts.{AreWritten, IsPlacedIn};
 
+use crate::texts::{Text, update_text};
 use doc_items::Memory;
 use session_core::{News, Reply};
 use std::alloc::Global;
 use wave_base::WaveletName;
-use wave_messages::{Message, write, write_update};
+use wave_messages::{Message, write};
 use wavelet_op::AppliedDelta;
 
 /// The text of a reply. The error is want of memory, here and below.
@@ -40,25 +43,31 @@ fn applied(alloc: Global, name: &WaveletName, delta: &AppliedDelta) -> Result<Me
 
 // The text of what a session is sent.
 #[tactic(auto, unfolding(shard_marks::specs::Frames::frame_of))]
-fn news_frame(alloc: Global, news: &News) -> Result<Vec<u8>, Memory>
+fn news_frame(alloc: Global, news: &News, texts: &mut Vec<Text>) -> Result<Vec<u8>, Memory>
     requires { IsShort (message_of news.now) }
-    ensures { IfOk result (λ v. v.items ≡ frame_of (message_of news.now)) }
+    ensures frame { IfOk result (λ v. (hs : List Hosted) → AreWritten hs texts.old.items → IsPlacedIn hs news.now → v.items ≡ frame_of (message_of news.now)) }
+    ensures texts { (hs : List Hosted) → AreWritten hs texts.old.items → IsPlacedIn hs news.now → AreWritten hs texts.new.items }
 {
     match news {
-        News::Update { name, delta, .. } => write_update(alloc, name, delta),
+        News::Update { name, place, delta } => update_text(alloc, name, *place, delta, texts),
         News::Applied { name, delta, .. } => write(alloc, &applied(alloc, name, delta)?),
         News::Message(message) => write(alloc, message),
     }
 }
 
-/// The texts of what a session is sent, in order.
-pub(crate) fn frames(alloc: Global, news: &[News]) -> Result<Vec<Vec<u8>>, Memory>
+/// The texts of what a session is sent, in order. Updates are written once, and kept for others.
+pub(crate) fn frames(
+    alloc: Global,
+    news: &[News],
+    texts: &mut Vec<Text>,
+) -> Result<Vec<Vec<u8>>, Memory>
     requires { All (λ n. IsShort (message_of n)) news.now }
-    ensures { IfOk result (λ v. map (λ f. f.items) v.items ≡ frames_of (messages_of news.now)) }
+    ensures frames { IfOk result (λ v. (hs : List Hosted) → AreWritten hs texts.old.items → All (IsPlacedIn hs) news.now → map (λ f. f.items) v.items ≡ frames_of (messages_of news.now)) }
+    ensures texts { (hs : List Hosted) → AreWritten hs texts.old.items → All (IsPlacedIn hs) news.now → AreWritten hs texts.new.items }
 {
-    let mut texts = Vec::new(alloc);
+    let mut made = Vec::new(alloc);
     for item in news {
-        texts.push(news_frame(alloc, item)?)?;
+        made.push(news_frame(alloc, item, texts)?)?;
     }
-    Ok(texts)
+    Ok(made)
 }

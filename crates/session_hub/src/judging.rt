@@ -102,7 +102,7 @@ impl<F: Folder + Drop> Shard<F> {
         Ok((self.length(), answer))
     }
 
-    // So it is, where the domain hosts the wavelet.
+    // The answer to a submission to a wavelet that the domain hosts.
     fn judge(
         &mut self,
         alloc: Global,

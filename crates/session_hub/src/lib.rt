@@ -19,6 +19,7 @@ mod shard;
 mod sharing;
 mod showing;
 mod submit;
+mod texts;
 mod turns;
 
 pub use attach::Attached;

@@ -1,15 +1,17 @@
 // The wavelets of one shard.
-ghost use Rattle.std.specs.Prelude.{◌≡◌, ◌≤◌, true, min};
+ghost use Rattle.std.specs.Prelude.{◌≡◌, ◌≤◌, true, min, map, Some};
 ghost use Rattle.std.specs.List.{list_all};
-ghost use Rattle.std.specs.Coded.{Coded-set, coded_list};
+ghost use Rattle.std.specs.Coded.{Coded-set, coded_list, coded_option, coded_ℕ};
 ghost use Rattle.wavelet_op.specs.contracts.delta.AppliedDelta as delta_row;
 ghost use Rattle.wavelet_shelf.specs.Shelves.{hosted_of, fault_count as faults_of};
 ghost use Rattle.hosted_copies.specs.Domains.{hosted_by};
 ghost use Rattle.shard_marks.specs.Marks.{is_own_mark, replayed, fault_count};
 ghost use Rattle.shard_marks.specs.Marks.{most_faults};
 ghost use Rattle.session_hub.specs.Records.{marks_in, hosted_code};
+ghost use Rattle.session_hub.specs.Texts.{AreWritten, update_in};
 
 use crate::record::Record;
+use crate::texts::Text;
 use wave_base::Domain;
 use wave_outside::Folder;
 use wavelet_shelf::Shelf;
@@ -21,9 +23,12 @@ pub struct Shard<F: Folder> {
     pub(crate) number: u64,
     pub(crate) shelf: Shelf<F>,
     pub(crate) records: Vec<Record>,
+    // Texts of updates that sessions were sent, for those that are still to be sent them.
+    pub(crate) texts: Vec<Text>,
     ghost replay: { hosted_by domain (hosted_of shelf) ≡ replayed domain number (marks_in domain number records.items) } by { Coded-set (coded_list (hosted_code delta_row.the_row.coded)) (hosted_by domain (hosted_of shelf)) (replayed domain number (marks_in domain number records.items)) },
     ghost own: { list_all (is_own_mark domain number) (marks_in domain number records.items) ≡ true },
     ghost counted: { min (fault_count (marks_in domain number records.items)) most_faults ≤ faults_of shelf },
+    ghost written: { AreWritten (hosted_by domain (hosted_of shelf)) texts.items } by { Coded-set (coded_list (coded_option (coded_list coded_ℕ))) (map (λ w. update_in (hosted_by domain (hosted_of shelf)) w.name w.place) texts.items) (map (λ w. Some w.bytes.items) texts.items) },
 }
 
 impl<F: Folder + Drop> Drop for Shard<F> {
@@ -33,6 +38,7 @@ impl<F: Folder + Drop> Drop for Shard<F> {
             number: _number,
             shelf: _shelf,
             records: _records,
+            texts: _texts,
         } = self;
     }
 }

@@ -5,7 +5,7 @@ ghost use Rattle.session_core.specs.Answers.{attached};
 ghost use Rattle.session_core.specs.Deliveries.{delivered, after_delivery};
 ghost use Rattle.session_core.specs.News.{reply_message};
 ghost use Rattle.session_core.specs.Rules.{has_user, has_peer};
-ghost use Rattle.session_hub.specs.Entries.{copies_at};
+ghost use Rattle.session_hub.specs.Entries.{copies_at, entries_of};
 ghost use Rattle.shard_marks.specs.Frames.{frames_of};
 
 use crate::frames::frames;
@@ -39,16 +39,17 @@ impl<F: Folder + Drop> Shard<F> {
         session.answer_attach(alloc, &copies, name, from)
     }
 
-    /// What is new to a session, as texts. The error is want of memory.
+    /// What is new to a session, as texts. The error is want of memory. The marks stay.
     pub(crate) fn deliver(
-        &self,
+        &mut self,
         alloc: Global,
         session: &mut Session,
     ) -> Result<Vec<Vec<u8>>, Memory>
         requires { has_peer session.old ≡ false }
-        ensures frames { IfOk result (λ v. map (λ f. f.items) v.items ≡ frames_of (delivered (copies_at self.now) session.old)) }
-        ensures after { OnOk result (session.new ≡ after_delivery (copies_at self.now) session.old) }
-        ensures told { OnOk result (delivered (copies_at self.now) session.new ≡ []) }
+        ensures marks { entries_of self.new ≡ entries_of self.old }
+        ensures frames { IfOk result (λ v. map (λ f. f.items) v.items ≡ frames_of (delivered (copies_at self.old) session.old)) }
+        ensures after { OnOk result (session.new ≡ after_delivery (copies_at self.old) session.old) }
+        ensures told { OnOk result (delivered (copies_at self.old) session.new ≡ []) }
         ensures client { has_peer session.new ≡ false }
     {
         let copies = HostedCopies {
@@ -57,6 +58,6 @@ impl<F: Folder + Drop> Shard<F> {
         };
         copies.are_hosted();
         let news = session.deliver(alloc, &copies)?;
-        frames(alloc, news.as_slice())
+        frames(alloc, news.as_slice(), &mut self.texts)
     }
 }

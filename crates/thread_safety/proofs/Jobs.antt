@@ -14,6 +14,7 @@ use Rattle.wave_outside.specs.declared.folder.Folder as folder
 use Rattle.wave_base.specs.contracts.domain.Domain as domain
 use Rattle.session_hub.specs.contracts.record.Record as record_row
 use Rattle.session_hub.specs.contracts.shard.Shard as shard
+use Rattle.session_hub.specs.contracts.texts.Text as text_row
 use Rattle.session_hub.specs.contracts.hub.Hub as hub
 use Rattle.session_link.specs.contracts.job.LinkJob as job
 use Rattle.session_link.specs.contracts.job.LinkEnd as link_end
@@ -42,6 +43,18 @@ records_send = search (sendable, crosses, record_send) depth 20
 records_sync : IsSync (Vec.the_row record_row.the_row Heap.the_row ghosts)
 records_sync = search (sendable, crosses, record_sync) depth 20
 
+text_send : IsSend text_row.the_row
+text_send = search (sendable, crosses) depth 40
+
+text_sync : IsSync text_row.the_row
+text_sync = search (sendable, crosses) depth 40
+
+texts_send : IsSend (Vec.the_row text_row.the_row Heap.the_row ghosts)
+texts_send = search (sendable, crosses, text_send) depth 20
+
+texts_sync : IsSync (Vec.the_row text_row.the_row Heap.the_row ghosts)
+texts_sync = search (sendable, crosses, text_sync) depth 20
+
 module _ (F K : RattleType) (f : folder.Ghosts F.Denot K.Denot) (g : disk.Ghosts K.Denot) where
   shard_send : IsSend F → IsSend K → IsSend (shard.the_row F K f g)
   shard_send s k = declared_send (shard.the_type F K f g) (
@@ -50,7 +63,10 @@ module _ (F K : RattleType) (f : folder.Ghosts F.Denot K.Denot) (g : disk.Ghosts
       search (sendable, as_row_send),
       (
         shelf_send F K f g s k,
-        (as_row_send (Vec.the_field record_row.the_row Heap.the_row ghosts) records_send, tt),
+        (
+          as_row_send (Vec.the_field record_row.the_row Heap.the_row ghosts) records_send,
+          (as_row_send (Vec.the_field text_row.the_row Heap.the_row ghosts) texts_send, tt),
+        ),
       ),
     ),
   )
@@ -62,7 +78,10 @@ module _ (F K : RattleType) (f : folder.Ghosts F.Denot K.Denot) (g : disk.Ghosts
       search (sendable, as_row_sync),
       (
         shelf_sync F K f g s k,
-        (as_row_sync (Vec.the_field record_row.the_row Heap.the_row ghosts) records_sync, tt),
+        (
+          as_row_sync (Vec.the_field record_row.the_row Heap.the_row ghosts) records_sync,
+          (as_row_sync (Vec.the_field text_row.the_row Heap.the_row ghosts) texts_sync, tt),
+        ),
       ),
     ),
   )

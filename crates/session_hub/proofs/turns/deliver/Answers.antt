@@ -1,4 +1,4 @@
-use Rattle.std.proofs.Common.{rules, ◌≡◌, [], map, ap, ◌∙◌}
+use Rattle.std.proofs.Common.{rules, ◌≡◌, [], map, ap, ◌∙◌, inl}
 use Rattle.session_core.specs.Deliveries.{delivered, after_delivery}
 use Rattle.shard_marks.specs.Frames.{frames_of}
 use Rattle.shard_marks.specs.Marks.{shown_at}
@@ -6,6 +6,9 @@ use Rattle.session_hub.specs.Entries.{entries_of}
 use Rattle.turn_lock.specs.Passes.{seen}
 use Rattle.session_hub.proofs.Turning.{later_of, frames_moment, after_moment, told_moment}
 use Rattle.session_hub.proofs.turns.deliver.Goals as goal
+
+pub leave-requires-clause-one : goal.leave-requires-clause-one
+leave-requires-clause-one g c = inl (c.deliver-frames.ensures.marks ∙ ap entries_of c.value-shard.ensures.value ∙ c.in_ok-guard.ensures.guard.2)
 
 pub returns-in_err-frames-clause-later : goal.returns-in_err-frames-clause-later
 returns-in_err-frames-clause-later g c = later_of _ _ _ c.in_ok-guard.ensures.value (search rules)

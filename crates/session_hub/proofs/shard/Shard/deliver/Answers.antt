@@ -12,7 +12,9 @@ use Rattle.hosted_copies.proofs.Short.{all_short}
 use Rattle.shard_marks.specs.Frames.{frames_of}
 use Rattle.session_hub.proofs.Leaving.{nothing_more}
 use Rattle.shard_marks.proofs.Seeing.{delivered_at, after_at, sent_at}
+use Rattle.session_hub.specs.Texts.{AreWritten, IsPlacedIn}
 use Rattle.session_hub.proofs.Turning.{on_ok}
+use Rattle.session_hub.proofs.Written.{placed_in, each_ok}
 use Rattle.session_hub.proofs.shard.Shard.deliver.Goals as goal
 
 pub frames-requires : goal.frames-requires
@@ -23,9 +25,11 @@ frames-requires g c =
 pub returns-clause-frames : goal.returns-clause-frames
 returns-clause-frames g c =
     let s = c.args.self.now in
+    let hs = hosted_by s.domain (hosted_of s.shelf) in
+    let placed = subst (All (IsPlacedIn hs)) (sym c.as_slice.ensures.value) (placed_in (shown_by s.domain s.shelf) hs c.are_hosted.ensures.same c.in_ok-news.news.items c.in_ok-news.ensures.placed) in
     let same = delivered_at (shown_by s.domain s.shelf) s.domain s.number (entries_of s) (hosted_by s.domain (hosted_of s.shelf)) c.are_hosted.ensures.same s.replay c.args.session.now in
     let sent : messages_of c.as_slice.result.now ≡ delivered (copies_at s) c.args.session.now = ap messages_of c.as_slice.ensures.value ∙ c.in_ok-news.ensures.sent ∙ same in
-    subst (λ z. IfOk c.frames.result (λ v. map (λ f. f.items) v.items ≡ z)) (ap frames_of sent) c.frames.ensures
+    subst (λ z. IfOk c.frames.result (λ v. map (λ f. f.items) v.items ≡ z)) (ap frames_of sent) (each_ok (λ v _. map (λ f. f.items) v.items ≡ frames_of (messages_of c.as_slice.result.now)) (λ z. AreWritten z s.texts.items) (λ z. All (IsPlacedIn z) c.as_slice.result.now) c.frames.result c.frames.ensures.frames hs s.written placed)
 
 pub returns-clause-after : goal.returns-clause-after
 returns-clause-after g c =

@@ -1,4 +1,4 @@
-use Rattle.std.proofs.Common.{rules, map, length, slice_get, ap, sym, ◌∙◌, ◌≡◌, ◌++◌, ◌∷◌, []}
+use Rattle.std.proofs.Common.{rules, map, length, slice_get, ap, sym, subst, ◌∙◌, ◌≡◌, ◌++◌, ◌∷◌, []}
 use Rattle.wavelet_shelf.specs.Hosting.{deltas_in, judged_in}
 use Rattle.wavelet_shelf.specs.Shelves.{hosted_of, fault_count}
 use Rattle.hosted_copies.specs.Domains.{hosted_by}
@@ -7,7 +7,9 @@ use Rattle.shard_marks.specs.declared.mark.Mark.TheVariants as mark
 use Rattle.shard_marks.proofs.Replaying.{noted, own_of, noted_replay, judged_noted, own_noted, counted_noted, fault_replay, judged_fault, own_fault, counted_fault}
 use Rattle.session_hub.specs.Entries.{entries_of}
 use Rattle.session_hub.specs.Records.{marks_in}
+use Rattle.session_hub.specs.Texts.{AreWritten}
 use Rattle.session_hub.proofs.Adding.{grown_at, grown_marks, fault_marks}
+use Rattle.session_hub.proofs.Written.{written_later}
 use Rattle.session_hub.proofs.shard.Shard.judge.Goals as goal
 
 pub invariant_of-self-in-Ok-clause-replay : goal.invariant_of-self-in-Ok-clause-replay
@@ -48,6 +50,11 @@ invariant_of-self-in-Ok-clause-counted g c =
     grown_marks s.domain s.number s.records.items c.keep_growth.new.records.items n (slice_get (deltas_in gs n) (length (deltas_in hs n))) j.1 at (search rules) in
     let ns = marks_in s.domain s.number c.keep_growth.new.records.items in
     counted_noted (entries_of s) ns n j.1 (fault_count s.shelf) (fault_count c.submit.new.self) e s.counted c.submit.ensures.later
+
+pub invariant_of-self-in-Ok-clause-written : goal.invariant_of-self-in-Ok-clause-written
+invariant_of-self-in-Ok-clause-written g c =
+    let s = c.args.self.now in
+    written_later s.domain (hosted_of s.shelf) (hosted_of c.submit.new.self) c.args.name.now c.args.submission.now c.args.time s.texts.items c.copies_are_hosted.ensures.ascending c.requires.hosted c.in-Ok.ensures.grown s.written
 
 pub returns-in-Ok-clause-judged : goal.returns-in-Ok-clause-judged
 returns-in-Ok-clause-judged g c =
@@ -91,6 +98,11 @@ invariant_of-self-in-Err-DiskFault-clause-counted g c =
     let r = record_of.Fault c.of.result c.of-in-Err-DiskFault.result in
     let e : ns ≡ entries_of s ++ mark.Fault n i ∷ [] = fault_marks s.domain s.number s.records.items c.keep.new.records.items n i r (search rules) (search rules) in
     counted_fault (entries_of s) ns n i (fault_count s.shelf) (fault_count c.submit.new.self) e s.counted (search rules)
+
+pub invariant_of-self-in-Err-DiskFault-clause-written : goal.invariant_of-self-in-Err-DiskFault-clause-written
+invariant_of-self-in-Err-DiskFault-clause-written g c =
+    let s = c.args.self.now in
+    subst (λ hs. AreWritten (hosted_by s.domain hs) s.texts.items) (sym c.in-Err-DiskFault.ensures.same) s.written
 
 pub returns-in-Err-DiskFault-clause-judged : goal.returns-in-Err-DiskFault-clause-judged
 returns-in-Err-DiskFault-clause-judged g c =
