@@ -149,10 +149,11 @@ def built_writers(folder):
     return program
 
 
-def hand_on(program, writers, each, all_updates):
-    """A process of bench/writers.c that goes on with these sessions, whose links stay ours."""
+def hand_on(program, writers, each, all_updates, cores):
+    """A process of bench/writers.c that goes on with these sessions, whose links stay ours. It leaves these cores to the server, if there are others."""
     fds = [w.s.fileno() for w in writers]
-    writer = subprocess.Popen([program, str(each), str(all_updates)], stdin=subprocess.PIPE, stdout=subprocess.PIPE, text=True, pass_fds=fds)
+    lead = ["taskset", "-c", f"{cores}-{os.cpu_count() - 1}"] if cores < os.cpu_count() else []
+    writer = subprocess.Popen([*lead, program, str(each), str(all_updates)], stdin=subprocess.PIPE, stdout=subprocess.PIPE, text=True, pass_fds=fds)
     for w, fd in zip(writers, fds):
         assert not w.data and not w.messages
         writer.stdin.write(f"{fd} {w.client} {w.number} {w.first} {w.base[0]} {w.base[1]} {w.name}\n")
@@ -174,7 +175,7 @@ def rates(program, sessions, wavelets, each, cores=None, store=False):
             bases[maker.name] = maker.base
         for w in writers:
             w.join(bases[w.name])
-        groups = [hand_on(client, writers[k::count], each, each * sessions // wavelets) for count in [min(os.cpu_count(), sessions)] for k in range(count)]
+        groups = [hand_on(client, writers[k::count], each, each * sessions // wavelets, cores or os.cpu_count()) for count in [min(os.cpu_count(), sessions)] for k in range(count)]
         before, begin = processor(server.pid), time.time()
         for group in groups:
             group.stdin.write("go\n")

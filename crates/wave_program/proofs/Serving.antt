@@ -3,19 +3,24 @@
 --     told_other       a store that wasn't loaded isn't status 0
 --     served_from      the marks begin with the histories for which the files stand
 --     same_from        so they do over files that read the same
-use Rattle.std.proofs.Common.{◌≡◌, ◌∙◌, ◌⊎◌, inl, inr, arith, ℕ, List, Bool, true, false, true≢false, Option, Some, None, IfSome, IsTrue, is_some}
+--     left_same        a folder's own files are there
+--     left_before      files are there that are as before
+--     left_from        files of one folder are there as those of another that has the same ones
+use Rattle.std.proofs.Common.{◌≡◌, ◌∙◌, ◌⊎◌, inl, inr, arith, ℕ, List, Bool, true, false, true≢false, Option, Some, None, IfSome, IsTrue, is_some, sym, subst}
 use Rattle.doc_items.specs.Maps.{Key}
 use Rattle.disk_model.specs.declared.disk.Disk as disk_of
 use Rattle.wave_outside.specs.declared.clock.Clock as clock_of
 use Rattle.wave_outside.specs.declared.folder.Folder as folder_of
-use Rattle.wave_outside.specs.Folders.{Entry}
+use Rattle.disk_model.specs.Disk.{DiskView}
+use Rattle.wave_outside.specs.Folders.{Entry, IsAsBefore, IsReadAlike}
+use Rattle.wavelet_shelf.proofs.Loading.{as_it_is}
 use Rattle.wavelet_shelf.specs.Shelves.{in_folder, container_in, hosted_of}
 use Rattle.wavelet_shelf.specs.declared.shelf.Shelf.{Shelf}
 use Rattle.turn_cells.specs.declared.cells.Passes.{Passes}
 use Rattle.shard_marks.specs.declared.mark.Mark.{Mark}
 use Rattle.shard_marks.specs.Passes.{marks_of}
 use Rattle.wave_server.specs.Running.{BeginWith}
-use Rattle.wave_program.specs.Net.{IsServedFrom}
+use Rattle.wave_program.specs.Net.{IsServedFrom, AreLeft}
 use Rattle.wave_program.specs.Store.{IsLoaded}
 use Rattle.wave_program.proofs.Storing.{standing, same_standing}
 
@@ -58,3 +63,19 @@ module _ {F D K T : Type 0} (folder : folder_of.Ghosts F D) (disk : disk_of.Ghos
         begun = s.begun;
       })
       served
+
+before_alike : {D : Type 0} (view : D → DiskView) (o p : Option D) → IsAsBefore view o p → IsReadAlike view o p
+before_alike view None None h = tt
+before_alike view None (Some g) h = absurd h
+before_alike view (Some f) None h = absurd h
+before_alike view (Some f) (Some g) h = record { seen = h.seen; images = h.images }
+
+module _ {F D : Type 0} (folder : folder_of.Ghosts F D) (disk : disk_of.Ghosts D) where
+  pub left_before : (f g : F) → ((m : List ℕ) → IsAsBefore disk.view (folder.files f m) (folder.files g m)) → AreLeft folder disk f g
+  left_before f g before m = before_alike disk.view (folder.files f m) (folder.files g m) (before m)
+
+  pub left_same : (f : F) → AreLeft folder disk f f
+  left_same f = left_before f f (λ m. as_it_is disk.view (folder.files f m))
+
+  pub left_from : (f e g : F) → ((m : List ℕ) → folder.files e m ≡ folder.files f m) → AreLeft folder disk e g → AreLeft folder disk f g
+  left_from f e g same left m = subst (λ (o : Option D). IsReadAlike disk.view o (folder.files g m)) (same m) (left m)

@@ -1,12 +1,13 @@
 -- Runs of a server.
 --     IfServe c P            P of the words of a command that is one of a server
 --     IsEntered ..           nothing more was entered; for want of memory, maybe nothing at all
+--     AreLeft f g            each file of one folder is in the other, where a read gives the same and a crash leaves no more
 --     IsServedFrom .. marks  the folder was entered, and the marks of each shard begin with the histories for which its files stood
 use Rattle.std.specs.Prelude.{◌≡◌, ◌⊎◌, ℕ, Bool, List, Option, Some, None}
 use Rattle.doc_items.specs.Maps.{Key}
 use Rattle.disk_model.specs.declared.disk.Disk as disk_of
 use Rattle.wave_outside.specs.declared.folder.Folder as folder_of
-use Rattle.wave_outside.specs.Folders.{Entry}
+use Rattle.wave_outside.specs.Folders.{Entry, IsReadAlike}
 use Rattle.command_words.specs.Commands.{CommandOf, Pipe, Load, Play, Inbox, Serve, Edit}
 use Rattle.wavelet_shelf.specs.Hosting.{Hosted}
 use Rattle.shard_marks.specs.declared.mark.Mark.{Mark}
@@ -27,6 +28,9 @@ abbrev pub IsEntered : {F D : Type 0} → folder_of.Ghosts F D → List Entry �
 IsEntered folder entries f g status = ((folder.log g).entries ≡ entries) ⊎ ((status ≡ 8) × ((folder.log g).entries ≡ (folder.log f).entries))
 
 module _ {F D : Type 0} (folder : folder_of.Ghosts F D) (disk : disk_of.Ghosts D) where
+  abbrev pub AreLeft : F → F → Type 0
+  AreLeft f g = (m : List ℕ) → IsReadAlike disk.view (folder.files f m) (folder.files g m)
+
   -- the folder before and after it
   pub record IsServedFrom (d : Key) (marks : ℕ → List Mark) (entries : List Entry) (f g : F) : Type 0 where
     pub hosted : List Hosted

@@ -9,7 +9,7 @@ ghost use Rattle.shard_marks.specs.Passes.{marks_of};
 ghost use Rattle.wave_server.specs.Running.{BeginWith, HasServed};
 ghost use Rattle.wave_server.specs.Statuses.{IsServerStatus};
 ghost use Rattle.wave_program.specs.Edit.{IfEdit, IsClient, HasNetCause, IsEditRun};
-ghost use Rattle.wave_program.specs.Net.{IfServe, IsServedFrom, IsEntered};
+ghost use Rattle.wave_program.specs.Net.{IfServe, IsServedFrom, IsEntered, AreLeft};
 ghost use Rattle.wave_program.specs.Run.{IsStatus};
 ghost use Rattle.wave_program.specs.Store.{entered_at, IsUnloaded};
 ghost use Rattle.wave_program.specs.Words.{IsStoring};
@@ -57,6 +57,8 @@ pub fn net_command<
         → IfSome outside.new.server.passes (λ p. IsServedFrom F.Folder F.Disk.Disk domain (marks_of p) (entered_at F.Folder path outside.old.folder) outside.old.folder outside.new.folder))) }
     ensures unloaded { IfServe (Some (shown command.entry)) (λ domain listen sessions store. IfSome store (λ path. IsTrue F.tells → IsTrue F.Disk.tells → (result ≡ 5) ⊎ (result ≡ 6)
         → IsUnloaded F.Folder F.Disk.Disk (entered_at F.Folder path outside.old.folder) outside.old.folder outside.new.folder (W.written outside.old.sink) (W.written outside.new.sink) (W.faults outside.old.sink) (W.faults outside.new.sink) result)) }
+    ensures left { IfServe (Some (shown command.entry)) (λ domain listen sessions store. IsTrue F.tells → IsTrue F.Disk.tells → is_some outside.new.server.passes ≡ false
+        → AreLeft F.Folder F.Disk.Disk outside.old.folder outside.new.folder) }
     ensures edited { IfEdit (Some (shown command.entry)) (λ user client connect.
         IsEditRun N.Net N.Link.Link connect outside.old.server.net outside.new.server.net S.left W.written user client outside.old.source outside.new.source outside.old.sink outside.new.sink result) }
     ensures unserved { IfEdit (Some (shown command.entry)) (λ user client connect.
@@ -134,6 +136,7 @@ fn serve_net<
         → IfSome outside.new.server.passes (λ p. IsServedFrom F.Folder F.Disk.Disk domain (marks_of p) (entered_at F.Folder path outside.old.folder) outside.old.folder outside.new.folder)) }
     ensures unloaded { IfSome (option_map (λ s. s.now) store.entry) (λ path. IsTrue F.tells → IsTrue F.Disk.tells → (result ≡ 5) ⊎ (result ≡ 6)
         → IsUnloaded F.Folder F.Disk.Disk (entered_at F.Folder path outside.old.folder) outside.old.folder outside.new.folder (W.written outside.old.sink) (W.written outside.new.sink) (W.faults outside.old.sink) (W.faults outside.new.sink) result) }
+    ensures left { IsTrue F.tells → IsTrue F.Disk.tells → is_some outside.new.server.passes ≡ false → AreLeft F.Folder F.Disk.Disk outside.old.folder outside.new.folder }
     ensures store_failed { result ≡ 5 → Rose (F.faults outside.old.folder) (F.faults outside.new.folder) }
     ensures known { IsServerStatus result ⊎ ((result ≡ 5) ⊎ (result ≡ 6)) }
     ensures damaged { result ≡ 6 → IsSome store.entry }
@@ -189,6 +192,7 @@ fn serve_path<
     ensures stored { IsTrue F.tells → IsTrue F.Disk.tells → IfSome outside.new.server.passes (λ p. IsServedFrom F.Folder F.Disk.Disk domain (marks_of p) (entered_at F.Folder path.now outside.old.folder) outside.old.folder outside.new.folder) }
     ensures unloaded { IsTrue F.tells → IsTrue F.Disk.tells → (result ≡ 5) ⊎ (result ≡ 6)
         → IsUnloaded F.Folder F.Disk.Disk (entered_at F.Folder path.now outside.old.folder) outside.old.folder outside.new.folder (W.written outside.old.sink) (W.written outside.new.sink) (W.faults outside.old.sink) (W.faults outside.new.sink) result }
+    ensures left { IsTrue F.tells → IsTrue F.Disk.tells → is_some outside.new.server.passes ≡ false → AreLeft F.Folder F.Disk.Disk outside.old.folder outside.new.folder }
     ensures store_failed { result ≡ 5 → Rose (F.faults outside.old.folder) (F.faults outside.new.folder) }
     ensures known { IsServerStatus result ⊎ ((result ≡ 5) ⊎ (result ≡ 6)) }
 {
@@ -231,6 +235,7 @@ fn serve_folder<
     ensures stored { IsTrue F.tells → IsTrue F.Disk.tells → IfSome outside.new.server.passes (λ p. IsServedFrom F.Folder F.Disk.Disk domain (marks_of p) (F.log outside.old.folder).entries outside.old.folder outside.new.folder) }
     ensures unloaded { IsTrue F.tells → IsTrue F.Disk.tells → (result ≡ 5) ⊎ (result ≡ 6)
         → IsUnloaded F.Folder F.Disk.Disk (F.log outside.old.folder).entries outside.old.folder outside.new.folder (W.written outside.old.sink) (W.written outside.new.sink) (W.faults outside.old.sink) (W.faults outside.new.sink) result }
+    ensures left { IsTrue F.tells → IsTrue F.Disk.tells → is_some outside.new.server.passes ≡ false → AreLeft F.Folder F.Disk.Disk outside.old.folder outside.new.folder }
     ensures store_failed { result ≡ 5 → Rose (F.faults outside.old.folder) (F.faults outside.new.folder) }
     ensures known { IsServerStatus result ⊎ ((result ≡ 5) ⊎ (result ≡ 6)) }
 {

@@ -12,7 +12,7 @@ ghost use Rattle.wave_server.specs.Running.{BeginWith, HasServed};
 ghost use Rattle.wave_server.specs.Statuses.{IsServerStatus};
 ghost use Rattle.wave_program.specs.Edit.{IfEdit, IsClient, HasNetCause, IsEditRun};
 ghost use Rattle.wave_program.specs.Load.{IsLoaded};
-ghost use Rattle.wave_program.specs.Net.{IfServe, IsServedFrom, IsEntered};
+ghost use Rattle.wave_program.specs.Net.{IfServe, IsServedFrom, IsEntered, AreLeft};
 ghost use Rattle.wave_program.specs.Pipe.{answers_over};
 ghost use Rattle.wave_program.specs.Run.{IsStatus};
 ghost use Rattle.wave_program.specs.Services.{service_of};
@@ -91,7 +91,8 @@ pub fn run<
     ensures load_complete { (n : ℕ) → command_of (map string_bytes words.now.items) ≡ Some (Load n)
         → (Rose (W.faults outside.old.sink) (W.faults outside.new.sink) → ⊥) → (result ≡ 0) ⊎ (result ≡ 8) }
 
-    // A server: each session that ended was served from the marks that were seen, and these begin with those of the stored histories.
+    // A server: each session that ended was served from the marks that were seen, and these begin with those of the stored histories. Where
+    // nothing was served the folder's files read as before.
     ensures net_served { IfServe (command_of (map string_bytes words.now.items)) (λ domain listen sessions store.
         IfSome outside.new.server.passes (λ p. HasServed N.Link.tells N.Link.events N.Link.faults N.Link.closed domain (marks_of p) (is_some sessions) (is_some outside.new.server.spent) (N.back outside.old.server.net) (N.back outside.new.server.net) outside.new.server.ended.items)) }
     ensures net_done { IfServe (command_of (map string_bytes words.now.items)) (λ domain listen sessions store.
@@ -102,6 +103,8 @@ pub fn run<
         → IfSome outside.new.server.passes (λ p. IsServedFrom F.Folder F.Disk.Disk domain (marks_of p) (entered_at F.Folder path outside.old.folder) outside.old.folder outside.new.folder))) }
     ensures net_unloaded { IfServe (command_of (map string_bytes words.now.items)) (λ domain listen sessions store. IfSome store (λ path. IsTrue F.tells → IsTrue F.Disk.tells → (result ≡ 5) ⊎ (result ≡ 6)
         → IsUnloaded F.Folder F.Disk.Disk (entered_at F.Folder path outside.old.folder) outside.old.folder outside.new.folder (W.written outside.old.sink) (W.written outside.new.sink) (W.faults outside.old.sink) (W.faults outside.new.sink) result)) }
+    ensures net_left { IfServe (command_of (map string_bytes words.now.items)) (λ domain listen sessions store. IsTrue F.tells → IsTrue F.Disk.tells → is_some outside.new.server.passes ≡ false
+        → AreLeft F.Folder F.Disk.Disk outside.old.folder outside.new.folder) }
     ensures net_entered { IfServe (command_of (map string_bytes words.now.items)) (λ domain listen sessions store. IfSome store (λ path. IsTrue F.tells
         → IsEntered F.Folder (entered_at F.Folder path outside.old.folder) outside.old.folder outside.new.folder result)) }
     ensures net_unread { IfServe (command_of (map string_bytes words.now.items)) (λ domain listen sessions store. outside.new.source ≡ outside.old.source) }

@@ -1,11 +1,12 @@
-use Rattle.std.proofs.Common.{◌≡◌, ◌∙◌, Some, rules, refl, ap, inl, inr, map, string_bytes, IsTrue}
+use Rattle.std.proofs.Common.{◌≡◌, ◌∙◌, Some, rules, refl, ap, inl, inr, map, string_bytes, IsTrue, is_some, false}
 use Rattle.command_words.specs.Commands.{command_of, Load}
 use Rattle.command_words.specs.Shown.{shown}
+use Rattle.wave_program.specs.Net.{AreLeft}
 use Rattle.wave_program.specs.Store.{entered_at}
 use Rattle.wave_program.proofs.Completing.{nothing_run, memory_complete}
 use Rattle.wave_program.proofs.LoadWords.{load_bound, key_bound}
 use Rattle.wave_program.proofs.Naming.{as_named, all_served, all_unless, all_where, all_over, all_but, all_entered, not_done, not_unloaded, all_edited, all_same}
-use Rattle.wave_program.proofs.Serving.{none_there}
+use Rattle.wave_program.proofs.Serving.{none_there, left_same}
 use Rattle.wave_program.proofs.top.run.Goals as goal
 
 pub net_command-requires-clause-key : goal.net_command-requires-clause-key
@@ -46,6 +47,12 @@ returns-in-Err-Memory-clause-net_stored g c = all_over _ _ _ _ (λ domain listen
 
 pub returns-in-Err-Memory-clause-net_unloaded : goal.returns-in-Err-Memory-clause-net_unloaded
 returns-in-Err-Memory-clause-net_unloaded g c = all_but _ _ _ _ _ not_unloaded
+
+pub returns-in-Err-Memory-clause-net_left : goal.returns-in-Err-Memory-clause-net_left
+returns-in-Err-Memory-clause-net_left g c =
+    let folder = c.args.outside.now.folder in
+    all_served (λ domain listen sessions store. IsTrue g.F.Folder.tells → IsTrue g.F.Disk.Disk.tells → is_some c.args.outside.now.server.passes ≡ false → AreLeft g.F.Folder g.F.Disk.Disk folder folder) _
+    (λ domain listen sessions store folder_tells tells none. left_same g.F.Folder g.F.Disk.Disk folder)
 
 pub returns-in-Err-Memory-clause-net_entered : goal.returns-in-Err-Memory-clause-net_entered
 returns-in-Err-Memory-clause-net_entered g c = all_entered g.F.Folder (IsTrue g.F.Folder.tells) (λ path. entered_at g.F.Folder path c.args.outside.now.folder) c.args.outside.now.folder _
