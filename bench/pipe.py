@@ -6,8 +6,10 @@ front of a document of its wavelet, made on the last version that was told. Ever
 session has its wavelet open, so it is sent each delta of it. For 1, 4, 16 and 64 sessions on one wavelet and 64 sessions on 64, with
 and without a store, a line has the microseconds of processor time for one submission. Then so many sessions on one wavelet type at
 once: each submission of a round is made on the head before the round, so all but the first are late. What it costs to start the program and to open
-the wavelets is measured by a run without submissions and taken off. The client waits for each answer. The last lines have what it takes
-for so many sessions to say hello, in a file that is read at once. `--bars` leaves out all but the runs that have a bar.
+the wavelets is measured by a run without submissions and taken off. The client waits for each answer. A line has what
+the system's calls of a stored submission cost in a process that does nothing else: it reads, writes and syncs a record, writes and syncs a
+byte, and answers. The last lines have what it takes for so many sessions to say hello, in a file that is read at once. Each figure is the least of
+three runs. `--bars` leaves out all but the runs that have a bar.
 """
 
 import json
@@ -20,10 +22,11 @@ from pathlib import Path
 WORDS = [word for word in sys.argv[1:] if word != "--bars"]
 PROGRAM = WORDS[0] if WORDS else Path(__file__).resolve().parent.parent / "crates" / "wave" / "out" / "wave"
 BARS = {(1, 1, False): 25, (64, 1, False): 100, (64, 64, False): 25, (1, 1, True): 80}
+TOGETHER_BARS = {4: 60, 16: 100}
 RUNS = [(1, 1), (4, 1), (16, 1), (64, 1), (64, 64)]
-TOGETHER = [4, 16]
 HELLOS = [10_000, 50_000]
 SUBMISSIONS = 2_000
+TIMES = 3
 
 
 class Pipe:
@@ -114,6 +117,48 @@ def measured_together(sessions, submissions):
     return pipe.end()
 
 
+def calls_alone(path):
+    """Makes the calls of stored submissions until the input ends."""
+    file, end, record, answer = os.open(path, os.O_RDWR | os.O_CREAT), 1, bytes(85), b"x" * 497 + b"\n"
+    while os.read(0, 65_536):
+        os.pwrite(file, record, end)
+        os.fdatasync(file)
+        os.pwrite(file, b"\1", end - 1)
+        os.fdatasync(file)
+        os.write(1, answer)
+        end += len(record)
+
+
+def measured_calls(submissions):
+    """The cost of the calls of so many stored submissions."""
+    with tempfile.TemporaryDirectory() as folder:
+        words = [sys.executable, __file__, "--calls", os.path.join(folder, "a")]
+        process = subprocess.Popen(words, stdin=subprocess.PIPE, stdout=subprocess.PIPE)
+        for _ in range(submissions):
+            process.stdin.write(b"x" * 279 + b"\n")
+            process.stdin.flush()
+            process.stdout.readline()
+        process.stdin.close()
+        usage = os.wait4(process.pid, 0)[2]
+        return usage.ru_utime + usage.ru_stime
+
+
+def least(measure, *words):
+    """The least of some runs."""
+    return min(measure(*words) for _ in range(TIMES))
+
+
+def measured_stored(sessions, wavelets, submissions):
+    """The cost of such a run over a store of its own."""
+    with tempfile.TemporaryDirectory() as folder:
+        return measured(sessions, wavelets, submissions, ["pipe", "--store", folder])
+
+
+def measured_plain(sessions, wavelets, submissions):
+    """The cost of such a run without a store."""
+    return measured(sessions, wavelets, submissions, ["pipe"])
+
+
 def measured_hellos(sessions):
     """The cost of so many sessions that say hello."""
     with tempfile.TemporaryFile() as lines, open(os.devnull, "wb") as nowhere:
@@ -126,22 +171,23 @@ def measured_hellos(sessions):
         return usage.ru_utime + usage.ru_stime
 
 
+if "--calls" in sys.argv:
+    calls_alone(sys.argv[-1])
+    sys.exit()
 ZEROS = {f"a.com/w{number}/a.com/conv+root": zero_hash(f"a.com/w{number}/a.com/conv+root") for number in range(64)}
 for stored in (False, True):
     for sessions, wavelets in RUNS:
         bar = BARS.get((sessions, wavelets, stored))
         if bar is None and "--bars" in sys.argv:
             continue
-        with tempfile.TemporaryDirectory() as folder:
-            words = ["pipe", "--store", os.path.join(folder, "a")] if stored else ["pipe"]
-            idle = measured(sessions, wavelets, 0, words)
-            words = ["pipe", "--store", os.path.join(folder, "b")] if stored else ["pipe"]
-            busy = measured(sessions, wavelets, SUBMISSIONS, words)
-        cost = (busy - idle) * 1e6 / SUBMISSIONS
+        measure = measured_stored if stored else measured_plain
+        cost = (least(measure, sessions, wavelets, SUBMISSIONS) - least(measure, sessions, wavelets, 0)) * 1e6 / SUBMISSIONS
         told = f", of at most {bar}" if bar else ""
-        print(f"{sessions} sessions on {wavelets} wavelets{' with a store' if stored else ''}: {cost:.0f} microseconds a submission{told}")
-for sessions in [] if "--bars" in sys.argv else TOGETHER:
-    cost = (measured_together(sessions, SUBMISSIONS) - measured_together(sessions, 0)) * 1e6 / SUBMISSIONS
-    print(f"{sessions} sessions that type at once: {cost:.0f} microseconds a submission")
+        print(f"{sessions} sessions on {wavelets} wavelets{' with a store' if stored else ''}: {cost:.0f} microseconds a submission{told}", flush=True)
+calls = (least(measured_calls, SUBMISSIONS) - least(measured_calls, 0)) * 1e6 / SUBMISSIONS
+print(f"the system's calls of a stored submission alone: {calls:.0f} microseconds", flush=True)
+for sessions, bar in TOGETHER_BARS.items():
+    cost = (least(measured_together, sessions, SUBMISSIONS) - least(measured_together, sessions, 0)) * 1e6 / SUBMISSIONS
+    print(f"{sessions} sessions that type at once: {cost:.0f} microseconds a submission, of at most {bar}", flush=True)
 for sessions in HELLOS:
-    print(f"{sessions} sessions say hello: {measured_hellos(sessions) * 1e6 / sessions:.0f} microseconds each")
+    print(f"{sessions} sessions say hello: {least(measured_hellos, sessions) * 1e6 / sessions:.0f} microseconds each", flush=True)
