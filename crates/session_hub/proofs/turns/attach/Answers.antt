@@ -1,4 +1,4 @@
-use Rattle.std.proofs.Common.{rules, ◌≡◌, option_copied, ap, ◌∙◌}
+use Rattle.std.proofs.Common.{rules, ◌≡◌, option_copied, length, ap, sym, ◌∙◌}
 use Rattle.session_core.specs.Answers.{attached}
 use Rattle.session_core.specs.News.{reply_message}
 use Rattle.shard_marks.specs.Marks.{shown_at}
@@ -17,3 +17,8 @@ pub returns-clause-reply : goal.returns-clause-reply
 returns-clause-reply g c = λ d k own.
     let moment = attached_moment (seen c.args.pass.now) (seen c.pass-2-1.given.0) c.in_ok-guard.guard.value c.value-shard.result.now d k own c.in_ok-guard.ensures.value c.value-shard.ensures.value (search rules) (c.attach-reply.new.session, reply_message c.in_ok-reply.field-0) c.args.session.now c.args.name.now (option_copied c.args.from) c.in_ok-reply.ensures.reply in
     search (rules, moment)
+
+pub returns-clause-length : goal.returns-clause-length
+returns-clause-length g c =
+    let last : seen c.pass-2-1.given.0 ≡ entries_of c.in_ok-guard.guard.value = search rules in
+    c.length-length.ensures ∙ ap length (ap entries_of c.value-shard.ensures.value ∙ sym last)

@@ -30,3 +30,6 @@ returns-in_err-answer-clause-later g c = grown_later _ _ _ _ _ c.in_ok-guard.ens
 
 pub returns-clause-later : goal.returns-clause-later
 returns-clause-later g c = grown_later _ _ _ _ _ c.in_ok-guard.ensures.value (ap entries_of c.value.ensures.value) c.submit-answer.ensures.one (search rules)
+
+pub returns-clause-own : goal.returns-clause-own
+returns-clause-own g c = let own = c.leave.ensures.own in search (rules, own)
