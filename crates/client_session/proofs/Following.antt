@@ -3,7 +3,7 @@
 --     fresh                   a new chain follows
 --     at_screen               another chain that stands at the screen
 --     new_is_followed, edit_is_followed, undo_is_followed, drop_is_followed, submit_is_followed, refusal_is_followed      each step keeps it
-use Rattle.std.proofs.Common.{◌≡◌, ℕ, Bool, true, false, List, [], ◌∷◌, Option, None, Some, IsSome, Result, Ok, Err, refl, sym, ap, subst, ◌∙◌, nat_le, option_and_then, unwrap_or}
+use Rattle.std.proofs.Common.{◌≡◌, Bool, true, false, List, [], ◌∷◌, Option, None, Some, Ok, Err, refl, sym, ap, subst, ◌∙◌, nat_le, option_and_then, unwrap_or}
 use Rattle.std.specs.Option.{option_map}
 use Rattle.std.specs.Cmp.Lexicographic.{slice_cmp}
 use Rattle.std.specs.FinMap.{get-empty}
@@ -11,27 +11,25 @@ use Rattle.std.specs.Ordering.{nat_cmp}
 use Rattle.doc_items.specs.Balance.{Balanced}
 use Rattle.doc_items.specs.Limits.{max_count}
 use Rattle.doc_items.specs.declared.item.Item.{Item}
-use Rattle.wave_base.specs.Versions.{IdOf, same_id}
+use Rattle.wave_base.specs.Versions.{same_id}
 use Rattle.doc_op.proofs.Applying.{same_Some}
 use Rattle.wavelet_op.specs.Acts.{Act}
 use Rattle.wavelet_op.specs.Laws.{IsWhole}
 use Rattle.wavelet_op.specs.States.{State, empty_state, kept, run}
-use Rattle.wavelet_op.specs.declared.delta.Submission.{Submission}
 use Rattle.wavelet_op.proofs.Partial.{and_then_some}
 use Rattle.wavelet_op.proofs.Wholes.{states_hold}
 use Rattle.wavelet_state.specs.Inverses.{inverse_acts}
-use Rattle.follower_rules.specs.Followers.{ClientOf, Flight, FollowerOf, new_follower, run_all, pending, screen, moved, dropped, refuse_if, refuse_flight, refuse}
+use Rattle.follower_rules.specs.Followers.{Flight, FollowerOf, run_all, pending, screen, dropped, refuse_if, refuse_flight}
 use Rattle.follower_rules.specs.Laws.{IsSound}
 use Rattle.follower_rules.specs.Submitting.{Edited, Submitted, Gathered, edit, submit, gather, take_numbered, take_gathered, take_queued, take_unless}
 use Rattle.follower_rules.proofs.Gathers.{submit_is_sound}
 use Rattle.follower_rules.proofs.Sounds.{new_is_sound, edit_is_sound, edited_is, dropped_is_sound}
 use Rattle.undo_control.specs.Chains.{ChainOf, with_entry, edited, undone_by, undone, IsInTurn}
 use Rattle.undo_control.proofs.Keeping.{edit_keeps, undo_keeps}
-use Rattle.client_session.specs.Editing.{edited_as, undone_as, undo_by, drop_seat, submitted_as}
+use Rattle.client_session.specs.Editing.{edited_as, undone_as, undo_by, submitted_as}
 use Rattle.client_session.specs.Laws.{IsFollowed, NewIsFollowed, EditIsFollowed, UndoIsFollowed, DropIsFollowed, SubmitIsFollowed, RefusalIsFollowed}
-use Rattle.client_session.specs.Seats.{SeatOf, shown, fresh_chain, after_edit, after_undo, with_follower, anew, new_seat}
+use Rattle.client_session.specs.Seats.{SeatOf, with_follower, anew}
 use Rattle.client_session.specs.Taking.{refused_told}
-use Rattle.client_session.specs.declared.said.Said.{Said}
 use Rattle.client_session.proofs.Noting.{value_is}
 
 run_whole : (s t : State) (es : List (List Act)) → IsWhole s → run_all s es ≡ Some t → IsWhole t
@@ -60,7 +58,7 @@ new_is_followed name k created = record { sound = new_is_sound name k; whole = e
 
 -- ---- edits
 
-edited_chain : (c : ChainOf) (acts : List Act) (t : State) → run c.state acts ≡ Some t → edited c acts ≡ Some (record { state = t; entries = with_entry (inverse_acts c.state acts) c.entries })
+pub edited_chain : (c : ChainOf) (acts : List Act) (t : State) → run c.state acts ≡ Some t → edited c acts ≡ Some (record { state = t; entries = with_entry (inverse_acts c.state acts) c.entries })
 edited_chain c acts t e = ap (option_map (λ u. record { state = u; entries = with_entry (inverse_acts c.state acts) c.entries })) e
 
 -- the state of a follower after an edit
@@ -68,7 +66,7 @@ here_stays : (f g : FollowerOf) (acts : List Act) → edit f acts ≡ Ok g → I
 here_stays f g acts e w = subst (λ (z : FollowerOf). IsWhole z.here.state) (edited_is f g acts e) w
 
 -- an edit moves the screen by its acts
-moves : (s : SeatOf) (g : FollowerOf) (acts : List Act) → IsFollowed s → edit s.follower acts ≡ Ok g → screen g ≡ run s.chain.state acts
+pub moves : (s : SeatOf) (g : FollowerOf) (acts : List Act) → IsFollowed s → edit s.follower acts ≡ Ok g → screen g ≡ run s.chain.state acts
 moves s g acts h e = (edit_is_sound s.follower g acts h.sound e).1 ∙ ap (option_and_then (λ t. run t acts)) h.shows
 
 pub edit_is_followed : EditIsFollowed

@@ -2,7 +2,10 @@ mod Commanding
 mod Deltas
 mod Following
 mod Gathering
+mod Lasting
+mod Leading
 mod Noting
 mod Placing
 mod Seating
+mod Undoing
 mod Updating

@@ -2,8 +2,8 @@
 --     value_is                what is there is what is unwrapped
 --     edit_noted, edit_refused      an edit that a chain took, and one that it refused
 --     undo_noted, undo_empty        an undo, and one where there is nothing to take back
---     change_noted, change_refused  a change by others that a chain took, and one that it refused
-use Rattle.std.proofs.Common.{◌≡◌, ◌⊎◌, inl, inr, ℕ, List, [], ◌∷◌, length, map, Option, None, Some, refl, sym, ap, ◌∙◌, option_and_then, unwrap_or}
+--     change_noted, change_refused, change_crowded      a change by others that a chain took, and one that it refused
+use Rattle.std.proofs.Common.{◌≡◌, ◌⊎◌, inl, inr, List, [], ◌∷◌, length, Option, None, Some, refl, sym, ap, ◌∙◌, option_and_then, unwrap_or}
 use Rattle.std.specs.Option.{option_map}
 use Rattle.wavelet_op.specs.Acts.{Act}
 use Rattle.wavelet_op.specs.States.{State, run}
@@ -11,8 +11,9 @@ use Rattle.wavelet_op.specs.declared.op.WaveletOp.{WaveletOp}
 use Rattle.wavelet_state.specs.Inverses.{inverse_acts}
 use Rattle.follower_rules.specs.Followers.{FollowerOf}
 use Rattle.follower_rules.specs.Receiving.{rebase}
-use Rattle.undo_control.specs.Chains.{ChainOf, with_entry, edited, changed, undone}
+use Rattle.undo_control.specs.Chains.{ChainOf, with_entry, edited, changed, undone, IsCrowded}
 use Rattle.undo_control.specs.Parts.{Chain, chain_of}
+use Rattle.undo_control.proofs.Crowding.{crowded_is}
 use Rattle.client_session.specs.Seats.{fresh_chain, after_edit, after_undo, after_change}
 
 pub value_is : {X : Type 0} (o : Option X) (x d : X) → o ≡ Some x → x ≡ unwrap_or o d
@@ -53,3 +54,6 @@ no_change c acts (inr e) = ap (λ o. option_and_then (λ t. option_map (λ p. re
 
 pub change_refused : (f : FollowerOf) (c : ChainOf) (acts : List Act) → (run c.state acts ≡ None) ⊎ (rebase c.entries acts ≡ None) → fresh_chain f ≡ after_change f c acts
 change_refused f c acts h = sym (ap (λ o. unwrap_or o (fresh_chain f)) (no_change c acts h))
+
+pub change_crowded : (f : FollowerOf) (c : ChainOf) (acts : List Act) → IsCrowded c.entries acts → fresh_chain f ≡ after_change f c acts
+change_crowded f c acts h = change_refused f c acts (inr (crowded_is c.entries acts h))

@@ -7,7 +7,7 @@
 --     undo_at, undo_refused, undo_none     an undo
 --     follower_moved, with_note, edit_step, undo_step, submit_step      a call that moved the follower
 --     stays, edit_failed, undo_failed, submit_failed      one that didn't
-use Rattle.std.proofs.Common.{◌≡◌, ℕ, Bool, List, [], ◌∷◌, map, Option, None, Some, Result, Ok, Err, refl, sym, ap, subst, ◌∙◌, slice_get, unwrap_or}
+use Rattle.std.proofs.Common.{◌≡◌, List, [], ◌∷◌, map, Option, None, Some, Result, Ok, Err, sym, ap, subst, ◌∙◌, slice_get, unwrap_or}
 use Rattle.std.specs.Result.{IfOk}
 use Rattle.std.proofs.lemmas.Result.{IfOk-weaker}
 use Rattle.wavelet_op.specs.Acts.{Act, meanings}
@@ -22,7 +22,7 @@ use Rattle.client_control.specs.Parts.{Parts, follower_of, ops_pending}
 use Rattle.client_control.specs.Steps.{AreStructured}
 use Rattle.client_control.proofs.Pending.{pending_same, entries_structured}
 use Rattle.undo_control.specs.Chains.{ChainOf}
-use Rattle.undo_control.specs.Parts.{Chain, chain_of}
+use Rattle.undo_control.specs.Parts.{chain_of}
 use Rattle.wavelet_op.specs.declared.delta.Submission.{Submission}
 use Rattle.client_session.specs.Editing.{edited_as, edit_seat, undone_as, undo_by, undo_seat, sent_message, submitted_as, submit_seat, handed, IsUnsent}
 use Rattle.client_session.specs.Lines.{IsFaultSaid, fault_said}

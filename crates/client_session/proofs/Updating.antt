@@ -2,7 +2,7 @@
 --     asked                   an opening changes neither follower nor chain
 --     other_leads, own_leads  where the follower advances by another's delta, and by its own
 --     update_is_followed, snapshot_is_followed
-use Rattle.std.proofs.Common.{◌≡◌, ℕ, Bool, true, false, List, [], ◌∷◌, Option, None, Some, Result, Ok, Err, refl, sym, ap, subst, ◌∙◌, nat_lt, option_and_then, unwrap_or}
+use Rattle.std.proofs.Common.{◌≡◌, Bool, true, false, List, [], ◌∷◌, Option, None, Some, refl, sym, ap, subst, ◌∙◌, nat_lt, option_and_then, unwrap_or}
 use Rattle.std.specs.Option.{option_map}
 use Rattle.doc_items.specs.Maps.{same_text}
 use Rattle.wave_base.specs.Versions.{same_id}
@@ -10,19 +10,17 @@ use Rattle.wave_base.proofs.Same.{same_id-is}
 use Rattle.wavelet_op.specs.Acts.{Act}
 use Rattle.wavelet_op.specs.Deltas.{DeltaOf}
 use Rattle.wavelet_op.specs.Laws.{IsWhole}
-use Rattle.wavelet_op.specs.States.{State, run}
+use Rattle.wavelet_op.specs.States.{run}
 use Rattle.wavelet_op.proofs.Wholes.{states_hold}
-use Rattle.wavelet_state.specs.Snapshots.{SnapshotOf}
 use Rattle.delta_history.specs.Points.{Point, acts_of, next_point}
 use Rattle.delta_history.specs.Verdicts.{same_hash}
 use Rattle.delta_history.proofs.Points.{behind_point}
-use Rattle.follower_rules.specs.Followers.{Flight, FollowerOf, pending, screen, moved, point_of, take_newer, take_settled, take_snapshot}
-use Rattle.follower_rules.specs.Laws.{IsPlace, IsSound, AreOwn}
+use Rattle.follower_rules.specs.Followers.{Flight, FollowerOf, pending, screen, moved, point_of, take_newer, take_settled}
+use Rattle.follower_rules.specs.Laws.{IsSound, AreOwn}
 use Rattle.follower_rules.specs.Receiving.{Over, Answered, over, is_own, is_within, rebase, advance_within, advance_to, receive_other, receive_own, receive_id, receive_flight, receive_hash, receive_gap, receive_old}
-use Rattle.follower_rules.specs.declared.received.Received.TheVariants as received
-use Rattle.follower_rules.proofs.Advances.{IsPassing, IsLanding, passing_is, landing_is}
+use Rattle.follower_rules.proofs.Advances.{IsPassing, passing_is, landing_is}
 use Rattle.follower_rules.proofs.Sounds.{snapshot_is_sound}
-use Rattle.undo_control.specs.Chains.{ChainOf, changed, IsInTurn}
+use Rattle.undo_control.specs.Chains.{ChainOf, changed}
 use Rattle.undo_control.proofs.Keeping.{change_keeps}
 use Rattle.client_session.specs.Laws.{IsFollowed, SnapshotIsFollowed, UpdateIsFollowed}
 use Rattle.client_session.specs.Seats.{SeatOf, fresh_chain, after_change, with_follower, answered}
@@ -30,7 +28,6 @@ use Rattle.client_session.specs.Taking.{Rebasing, flies, flies_as, chain_after, 
 use Rattle.client_session.specs.declared.said.Said.{Said}
 use Rattle.client_session.specs.declared.said.Said.TheVariants as said
 use Rattle.client_session.proofs.Following.{at_screen, fresh}
-use Rattle.client_session.proofs.Noting.{value_is}
 
 pub asked : (s : SeatOf) (t : Said) (b : Bool) → IsFollowed s → IsFollowed (ask_unless s t b).0
 asked s t true h = h

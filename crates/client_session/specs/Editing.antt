@@ -8,11 +8,11 @@
 --     handed ms t             these messages are sent, and this is said of a submission that can't be taken
 --     IsUnsent e h            a submission can't be taken for this reason
 --     submit_seat s           a submission of what waits, if one is taken; what is said of its refusal
-use Rattle.std.specs.Prelude.{◌≡◌, ℕ, Bool, not, List, [], ◌∷◌, Option, Some, None, Result, Ok, Err}
+use Rattle.std.specs.Prelude.{◌≡◌, ℕ, not, List, [], ◌∷◌, Option, Some, None, Ok, Err}
 use Rattle.doc_items.specs.Maps.{Key}
 use Rattle.wavelet_op.specs.Acts.{Act, meanings}
 use Rattle.wavelet_op.specs.declared.delta.Submission.{Submission}
-use Rattle.follower_rules.specs.Followers.{FollowerOf, pending, dropped}
+use Rattle.follower_rules.specs.Followers.{pending, dropped}
 use Rattle.follower_rules.specs.Submitting.{Edited, Submitted, edit, submit}
 use Rattle.follower_rules.specs.declared.fault.FollowerFault.{FollowerFault}
 use Rattle.client_control.specs.Parts.{settled}

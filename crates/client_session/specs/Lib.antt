@@ -5,3 +5,4 @@ pub mod Lines
 pub mod Machine
 pub mod Seats
 pub mod Taking
+pub mod Undoing

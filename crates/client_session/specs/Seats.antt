@@ -11,7 +11,7 @@
 --     with_follower s f c     another follower and chain
 --     anew s f                another follower with a new chain
 --     answered s, opening s   no opening is unanswered; one is
-use Rattle.std.specs.Prelude.{ℕ, Bool, true, false, List, [], Option, Some, None, unwrap_or}
+use Rattle.std.specs.Prelude.{ℕ, Bool, true, false, List, [], Option, None, unwrap_or}
 use Rattle.doc_items.specs.Maps.{Key}
 use Rattle.wavelet_op.specs.Acts.{Act, meanings}
 use Rattle.wavelet_op.specs.States.{State, empty_state}

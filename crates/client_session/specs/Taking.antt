@@ -14,7 +14,7 @@
 --     refuse_seat s i said, refuse_known b s i said     a submission was refused; only one whose id is in range can be its own
 --     unopen_seat s r         the wavelet wasn't opened
 --     close_seat s r          it is open no more
-use Rattle.std.specs.Prelude.{◌≡◌, ℕ, ◌==◌, Bool, true, false, cond, List, [], ◌∷◌, Option, Some, None}
+use Rattle.std.specs.Prelude.{◌≡◌, ◌==◌, Bool, true, false, cond, List, [], ◌∷◌, Option, Some, None}
 use Rattle.std.specs.Option.{option_map, option_map_or}
 use Rattle.doc_items.specs.Maps.{Key, same_text}
 use Rattle.wave_base.specs.Versions.{IdOf, same_id}
@@ -27,8 +27,8 @@ use Rattle.wavelet_json.specs.declared.reason.UnopenedReason.{UnopenedReason}
 use Rattle.wavelet_json.specs.declared.reason.UnopenedReason.TheVariants as unopened
 use Rattle.message_json.specs.declared.message.Message.{Message}
 use Rattle.message_json.specs.declared.message.Message.TheVariants.{OpenWavelet}
-use Rattle.delta_history.specs.Points.{Point, start, acts_of}
-use Rattle.follower_rules.specs.Followers.{Flight, FollowerOf, pending, dropped, refuse, point_of, take_snapshot}
+use Rattle.delta_history.specs.Points.{start, acts_of}
+use Rattle.follower_rules.specs.Followers.{Flight, FollowerOf, pending, refuse, point_of, take_snapshot}
 use Rattle.follower_rules.specs.Receiving.{rebase, receive}
 use Rattle.follower_rules.specs.declared.received.Received.{Received}
 use Rattle.follower_rules.specs.declared.received.Received.TheVariants as received

@@ -15,7 +15,7 @@ mod state;
 mod taking;
 
 pub use acts::Acts;
-pub use laws::chains_follow;
+pub use laws::{chains_follow, changes_pass, undos_lead_back};
 pub use messages::Messages;
 pub use said::{Reason, Said, ShownText};
 pub use state::ClientState;

@@ -8,7 +8,7 @@
 --     all_structured                  what is valid in turn is structured
 --     is_past                         the entries as the follower's call gives them
 --     as_entry, no_entry              whether what takes an edit back is an entry
-use Rattle.std.proofs.Common.{◌≡◌, ◌≤◌, ◌<◌, ℕ, suc, Bool, true, false, cond, ◌&&◌, List, [], ◌∷◌, ◌++◌, map, length, take, refl, sym, ap, ap₂, subst, ◌∙◌, arith, Option, None, Some, IsSome, is_some, true≢false, nat_le, MatchOption, option_and_then}
+use Rattle.std.proofs.Common.{◌≡◌, ◌⊎◌, inl, inr, ◌≤◌, ◌<◌, ℕ, suc, Bool, true, false, cond, ◌&&◌, List, [], ◌∷◌, ◌++◌, map, length, take, refl, sym, ap, ap₂, subst, ◌∙◌, arith, Option, None, Some, IsSome, is_some, true≢false, nat_le, MatchOption, option_and_then}
 use Rattle.std.specs.Option.{option_map, option_map_or}
 use Rattle.std.proofs.lemmas.Bool.{and_parts}
 use Rattle.std.proofs.lemmas.List.{take-map, length-map, length-append}
@@ -30,9 +30,10 @@ use Rattle.client_control.proofs.Kept.{true_le}
 use Rattle.client_control.proofs.Pending.{run_structured, entries_structured}
 use Rattle.client_control.specs.Steps.{AreStructured, IsRebased}
 use Rattle.client_control.specs.declared.past.Rebased.{Rebased}
-use Rattle.undo_control.specs.Chains.{max_entries, ChainOf, with_entry, edited, changed, undone}
+use Rattle.undo_control.specs.Chains.{max_entries, ChainOf, with_entry, edited, changed, undone, IsCrowded}
 use Rattle.undo_control.specs.Parts.{Chain, chain, chain_of, IsKept, IsPast}
-use Rattle.undo_control.proofs.Keeping.{some_value, take_few, kept_turn, change_keeps, undo_keeps}
+use Rattle.undo_control.proofs.Crowding.{change_is_taken}
+use Rattle.undo_control.proofs.Keeping.{some_value, take_few, kept_turn, rebase_long, change_keeps, undo_keeps}
 
 pub new_kept : (s : State) (entries : List (List WaveletOp)) → entries ≡ [] → IsKept (chain s entries)
 new_kept s entries e = subst (λ es. IsKept (chain s es)) (sym e) (record { in_turn = refl; few = omega arith; normal = All-nil AreNormal })
@@ -114,13 +115,6 @@ edit_empties s t ops back old new some e i n g =
 
 -- ---- a change
 
-rebase_long : (entries : List (List Act)) (acts : List Act) (p : List (List Act) × List Act) → rebase entries acts ≡ Some p → length p.0 ≡ length entries
-rebase_long [] acts p e = ap (λ (z : List (List Act) × List Act). length z.0) (sym (same_Some e))
-rebase_long (entry ∷ rest) acts p e =
-    let x = and_then_some (past entry acts) (λ z. option_map (λ more. (z.0 ∷ more.0, more.1)) (rebase rest z.1)) p e in
-    let y = mapped (λ (more : List (List Act) × List Act). (x.0.0 ∷ more.0, more.1)) (rebase rest x.0.1) p x.2 in
-    ap (λ (z : List (List Act) × List Act). length z.0) (sym y.gives) ∙ ap suc (rebase_long rest x.0.1 y.value y.had)
-
 -- the chain after a change, of the state that it leads to
 abbrev after_change : ChainOf → List Act → State → Option ChainOf
 after_change c acts t = option_map (λ z. record { state = t; entries = z.0 }) (rebase c.entries acts)
@@ -157,15 +151,12 @@ unpassed c acts e = go (run c.state acts)
     go (Some t) = ap (λ (o : Option (List (List Act) × List Act)). option_map (λ z. record { state = t; entries = z.0 }) o) e
 
 -- what is refused though it is valid
-pub unchanged : (c : ChainOf) (acts : List Act) (t : State) → run c.state acts ≡ Some t → changed c acts ≡ None → rebase c.entries acts ≡ None
-unchanged c acts t e h = go (rebase c.entries acts) (sym (and_then_is (run c.state acts) (after_change c acts) t e) ∙ h)
+pub unchanged : (c : Chain) (t : State) (acts : List Act) → IsKept c → run c.state acts ≡ Some t → changed (chain_of c) acts ≡ None → IsSome (run c.state acts) × IsCrowded (map meanings c.entries) acts
+unchanged c t acts k e h = (ap is_some e, taken (change_is_taken (chain_of c) acts t k.in_turn e))
   where
-    chain_at : List (List Act) × List Act → ChainOf
-    chain_at z = record { state = t; entries = z.0 }
-
-    go : (o : Option (List (List Act) × List Act)) → option_map chain_at o ≡ None → o ≡ None
-    go None k = refl
-    go (Some p) k = absurd (true≢false (ap is_some k))
+    taken : ((d : ChainOf) × (changed (chain_of c) acts ≡ Some d)) ⊎ IsCrowded (map meanings c.entries) acts → IsCrowded (map meanings c.entries) acts
+    taken (inl d) = absurd (true≢false (ap is_some (sym d.1 ∙ h)))
+    taken (inr x) = x
 
 pub all_structured : (s : State) (entries : List (List WaveletOp)) → IsKept (chain s entries) → AreStructured entries
 all_structured s entries k = let u = some_value (run_all s (map meanings entries)) k.in_turn in entries_structured s u.0 entries u.1

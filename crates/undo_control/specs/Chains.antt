@@ -7,15 +7,18 @@
 --     changed c acts           after a change made by others, which passes through the entries as through a queue
 --     undone c                 after the first entry took its edit back
 --     IsInTurn c               the entries are valid in turn at the state
+--     IsCrowded es acts        some entry and what is left of the acts for it are over too many items together
 --     edited_all c edits       after edits of one's own in turn
 --     undone_times n c         after so many undos
-use Rattle.std.specs.Prelude.{ℕ, zero, suc, cond, nat_le, List, [], ◌∷◌, length, take, Option, None, Some, IsSome, option_and_then}
+use Rattle.std.specs.Prelude.{◌≡◌, ◌⊎◌, ℕ, zero, suc, cond, nat_le, List, [], ◌∷◌, length, take, Option, None, Some, IsSome, Err, option_and_then}
 use Rattle.std.specs.Option.{option_map}
 use Rattle.wavelet_op.specs.Acts.{Act}
+use Rattle.wavelet_op.specs.Grids.{Lists, bounded_grid}
 use Rattle.wavelet_op.specs.States.{State, run}
+use Rattle.wavelet_op.specs.Transform.{TooLarge}
 use Rattle.wavelet_state.specs.Inverses.{inverse_acts}
 use Rattle.follower_rules.specs.Followers.{run_all}
-use Rattle.follower_rules.specs.Receiving.{rebase}
+use Rattle.follower_rules.specs.Receiving.{past, rebase}
 
 abbrev pub max_entries : ℕ
 max_entries = 100
@@ -36,6 +39,11 @@ edited c acts = option_map (λ t. record { state = t; entries = with_entry (inve
 
 abbrev pub changed : ChainOf → List Act → Option ChainOf
 changed c acts = option_and_then (λ t. option_map (λ p. record { state = t; entries = p.0 }) (rebase c.entries acts)) (run c.state acts)
+
+-- the first entry that can't pass what is left of the acts meets too many items there
+abbrev pub IsCrowded : List (List Act) → List Act → Type 0
+IsCrowded [] acts = ⊥
+IsCrowded (entry ∷ rest) acts = ((k : ℕ) × (bounded_grid entry acts ≡ Err (k, TooLarge))) ⊎ ((p : Lists) × (past entry acts ≡ Some p) × IsCrowded rest p.1)
 
 -- ---- an undo
 

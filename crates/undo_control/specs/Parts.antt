@@ -13,7 +13,7 @@ use Rattle.wavelet_op.specs.declared.fault.WaveletFault.{WaveletFault}
 use Rattle.wavelet_op.specs.declared.fault.WaveletFault.TheVariants.{OpInvalid, CountTooLarge, Conflict, DontFit, Memory}
 use Rattle.wavelet_op.specs.declared.op.WaveletOp.{WaveletOp}
 use Rattle.follower_rules.specs.Receiving.{rebase}
-use Rattle.undo_control.specs.Chains.{max_entries, ChainOf, IsInTurn}
+use Rattle.undo_control.specs.Chains.{max_entries, ChainOf, IsInTurn, IsCrowded}
 
 pub record Chain : Type 0 where
   pub state : State
@@ -37,7 +37,7 @@ pub record IsPast (c : ChainOf) (acts : List Act) (entries : List (List WaveletO
 
 abbrev pub IsRefusedChange : ChainOf → List Act → WaveletFault → Type 0
 IsRefusedChange c acts (OpInvalid k) = (run c.state acts ≡ None) × (k ≡ first_invalid c.state acts)
-IsRefusedChange c acts CountTooLarge = IsSome (run c.state acts) × (rebase c.entries acts ≡ None)
+IsRefusedChange c acts CountTooLarge = IsSome (run c.state acts) × IsCrowded c.entries acts
 IsRefusedChange c acts (Conflict k) = ⊥
 IsRefusedChange c acts (DontFit place) = ⊥
 IsRefusedChange c acts Memory = Unit {0}

@@ -7,5 +7,5 @@ mod laws;
 
 pub use chain::UndoChain;
 pub use invert::invert_delta;
-pub use laws::{chains_keep, undos_take_back};
+pub use laws::{chains_keep, changes_pass, entries_stay_light, undos_take_back};
 pub use wavelet_state::Back;
