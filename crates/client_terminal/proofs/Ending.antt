@@ -25,7 +25,7 @@ use Rattle.client_terminal.specs.Inputs.{input_lines}
 use Rattle.client_terminal.specs.Moods.{mood_run}
 use Rattle.client_terminal.specs.Pumping.{pumped_as, ended_as, IsOfRoom, IsOver, IsMore, IsEnded, IsPumped, IsCut}
 use Rattle.client_terminal.specs.Runs.{Phase, RunOf, Reading, Left, Closed, in_phase, lines_in, sends, begun}
-use Rattle.client_terminal.specs.Whole.{stop_status, IsWholeStatus, IsRunAs, origin_of}
+use Rattle.client_terminal.specs.Whole.{stop_status, IsWholeStatus, IsStopStatus, IsRunAs, origin_of}
 use Rattle.client_terminal.specs.declared.mood.Mood.{Mood}
 use Rattle.client_terminal.specs.declared.mood.Mood.TheVariants as mood
 use Rattle.client_terminal.specs.declared.mood.Pumped.{Pumped}
@@ -136,12 +136,18 @@ never_whole Sink other x = apart 4 (omega arith) (omega arith) x
 never_whole Link other x = apart 7 (omega arith) (omega arith) x
 never_whole Memory other x = apart 8 (omega arith) (omega arith) x
 
+stop_known : (e : Stop) → e ≢ Source → IsStopStatus (stop_status e)
+stop_known Source other = absurd (other refl)
+stop_known Sink other = inl refl
+stop_known Link other = inr (inl refl)
+stop_known Memory other = inr (inr (inl refl))
+
 -- ---- the end of a run
 
 module _ (tells : Bool) (o : Origin) (read : List ℕ) (a c : Option (List ℕ)) (es : List LinkEvent) (held : Option (List ℕ)) (status : ℕ) (taken : Consumes a c read) (most : length read ≤ byte_limit) where
   -- of what it did a front was sent and printed
-  ran_off : (IsWholeStatus status → ⊥) → IsOff tells o (input_lines read) es held → IsRunAs tells o es a c held status
-  ran_off never h = record {
+  ran_off : (IsWholeStatus status → ⊥) → IsStopStatus status → IsOff tells o (input_lines read) es held → IsRunAs tells o es a c held status
+  ran_off never known h = record {
     steps = h.steps;
     run = h.run;
     walk = h.walk;
@@ -158,11 +164,12 @@ module _ (tells : Bool) (o : Origin) (read : List ℕ) (a c : Option (List ℕ))
     ended = λ e. absurd (elim e [ inl x ↦ never (inr (inl x)) | inr x ↦ never (inr (inr (inl x))) ]);
     closed = λ e. absurd (never (inr (inr (inr e))));
     limit = λ e. absurd (never (inr (inr (inl e))));
+    at_limit = λ e. inr (inr known);
   }
 
   -- no line is under way
-  ran_reading : (m : MachineOf) (line : List ℕ) → (status ≡ 3) ⊎ (status ≡ 10) → (status ≡ 10 → length read ≡ byte_limit) → IsReading tells o m read line es held → IsRunAs tells o es a c held status
-  ran_reading m line is full h = record {
+  ran_reading : (m : MachineOf) (line : List ℕ) → (status ≡ 3) ⊎ (status ≡ 10) → (status ≡ 10 → length read ≡ byte_limit) → (length read ≡ byte_limit → status ≡ 10) → IsReading tells o m read line es held → IsRunAs tells o es a c held status
+  ran_reading m line is full there h = record {
     steps = h.on.steps;
     run = in_phase Reading h.on.run;
     walk = h.on.walk;
@@ -179,6 +186,7 @@ module _ (tells : Bool) (o : Origin) (read : List ℕ) (a c : Option (List ℕ))
     ended = λ e. (refl, h.on.lines ∙ sym (read_ended read h.lines line h.reading));
     closed = λ e. absurd (elim is [ inl x ↦ omega (arith, x, e) | inr x ↦ omega (arith, x, e) ]);
     limit = full;
+    at_limit = λ e. inl (there e);
   }
 
 -- ---- between two reads
@@ -191,7 +199,7 @@ pub record IsUnderWay (tells : Bool) (o : Origin) (m : MachineOf) (line : List �
 
 module _ (tells : Bool) (o : Origin) (m : MachineOf) (line : List ℕ) (a b : Option (List ℕ)) (es : List LinkEvent) (held : Option (List ℕ)) (taken : ℕ) (u : IsUnderWay tells o m line a b es held taken) where
   pub ran_limit : taken ≡ byte_limit → IsRunAs tells o es a b held 10
-  ran_limit full = ran_reading tells o u.read a b es held 10 u.consumed (omega (arith, u.len, full)) m line (inr refl) (λ e. u.len ∙ full) u.reading
+  ran_limit full = ran_reading tells o u.read a b es held 10 u.consumed (omega (arith, u.len, full)) m line (inr refl) (λ e. u.len ∙ full) (λ e. refl) u.reading
 
   module _ (n : MachineOf) (next : List ℕ) (c : Option (List ℕ)) (fs : List LinkEvent) (kept : Option (List ℕ)) (room : ℕ) where
     pub gone_on : (count : ℕ) → IsMore tells o count n u.read next b c fs kept → IsUnderWay tells o n next a c fs kept (taken + count)
@@ -202,9 +210,9 @@ module _ (tells : Bool) (o : Origin) (m : MachineOf) (line : List ℕ) (a b : Op
       reading = p.reading;
     }
 
-    module _ (fits : taken + room ≤ byte_limit) where
-      over_at : (at : Phase) (status : ℕ) → (status ≡ 0 → at ≡ Left) → (status ≡ 11 → at ≡ Closed) → ((status ≡ 3) ⊎ (status ≡ 10) → ⊥) → IsOver tells o room (in_phase at) n u.read b c fs kept → IsRunAs tells o fs a c kept status
-      over_at at status left shut never p = record {
+    module _ (fits : taken + room ≤ byte_limit) (below : taken < byte_limit) where
+      over_at : (at : Phase) (status : ℕ) → (status ≡ 0 → at ≡ Left) → (status ≡ 11 → at ≡ Closed) → ((status ≡ 3) ⊎ (status ≡ 10) → ⊥) → (at ≡ Left) ⊎ IsStopStatus status → IsOver tells o room (in_phase at) n u.read b c fs kept → IsRunAs tells o fs a c kept status
+      over_at at status left shut never rest p = record {
         steps = p.on.steps;
         run = in_phase at p.on.run;
         walk = p.on.walk;
@@ -221,13 +229,14 @@ module _ (tells : Bool) (o : Origin) (m : MachineOf) (line : List ℕ) (a b : Op
         ended = λ e. absurd (never e);
         closed = shut;
         limit = λ e. absurd (never (inr e));
+        at_limit = λ e. inr rest;
       }
 
       pub ran_left : IsOver tells o room (in_phase Left) n u.read b c fs kept → IsRunAs tells o fs a c kept 0
-      ran_left p = over_at Left 0 (λ e. refl) (λ e. absurd (omega (arith, e))) (λ e. elim e [ inl x ↦ omega (arith, x) | inr x ↦ omega (arith, x) ]) p
+      ran_left p = over_at Left 0 (λ e. refl) (λ e. absurd (omega (arith, e))) (λ e. elim e [ inl x ↦ omega (arith, x) | inr x ↦ omega (arith, x) ]) (inl refl) p
 
       pub ran_closed : IsOver tells o room (in_phase Closed) n u.read b c fs kept → IsRunAs tells o fs a c kept 11
-      ran_closed p = over_at Closed 11 (λ e. absurd (omega (arith, e))) (λ e. refl) (λ e. elim e [ inl x ↦ omega (arith, x) | inr x ↦ omega (arith, x) ]) p
+      ran_closed p = over_at Closed 11 (λ e. absurd (omega (arith, e))) (λ e. refl) (λ e. elim e [ inl x ↦ omega (arith, x) | inr x ↦ omega (arith, x) ]) (inr (inr (inr (inr refl)))) p
 
       pub ran_end : IsEnded tells o n u.read b c fs kept → IsRunAs tells o fs a c kept 0
       ran_end p = record {
@@ -247,17 +256,18 @@ module _ (tells : Bool) (o : Origin) (m : MachineOf) (line : List ℕ) (a b : Op
         ended = λ e. absurd (elim e [ inl x ↦ omega (arith, x) | inr x ↦ omega (arith, x) ]);
         closed = λ e. absurd (omega (arith, e));
         limit = λ e. absurd (omega (arith, e));
+        at_limit = λ e. absurd (omega (arith, e, u.len, below));
       }
 
       cut_off : (e : Stop) → e ≢ Source → IsCut tells o room e n u.read next b c fs kept → IsRunAs tells o fs a c kept (stop_status e)
       cut_off e other p = ran_off tells o (u.read ++ p.bytes) a c fs kept (stop_status e) (Consumes-then a b c u.read p.bytes u.consumed p.consumed)
-          (let small = p.small in omega (arith, length-append u.read p.bytes, u.len, small, fits)) (never_whole e other) p.off
+          (let small = p.small in omega (arith, length-append u.read p.bytes, u.len, small, fits)) (never_whole e other) (stop_known e other) p.off
 
       pub ran_cut : (e : Stop) → IsCut tells o room e n u.read next b c fs kept → IsRunAs tells o fs a c kept (stop_status e)
       ran_cut Source p =
           let w = p.unread refl in
           ran_reading tells o u.read a c fs kept 3 (subst (Consumes a c) (ap (λ v. u.read ++ v) w.0 ∙ append-nil u.read) (Consumes-then a b c u.read p.bytes u.consumed p.consumed))
-          (omega (arith, u.len, fits)) n next (inl refl) (λ e. absurd (omega (arith, e))) w.1
+          (omega (arith, u.len, fits)) n next (inl refl) (λ e. absurd (omega (arith, e))) (λ e. absurd (omega (arith, e, u.len, below))) w.1
       ran_cut Sink p = cut_off Sink (λ e. cc) p
       ran_cut Link p = cut_off Link (λ e. cc) p
       ran_cut Memory p = cut_off Memory (λ e. cc) p
@@ -281,7 +291,7 @@ module _ (tells : Bool) (user : Key) (key : ℕ) (es fs : List LinkEvent) (i j :
   }
 
   pub ungreeted : (e : Stop) (a : Option (List ℕ)) → e ≢ Source → (IsTrue tells → IsPrefix fs (es ++ sends (greeted m).1.send)) → IsWrittenInPart i j (printed (greeted m).1) → IsRunAs tells (origin_of user key es i) fs a a j (stop_status e)
-  ungreeted e a other sent said = ran_off tells (origin_of user key es i) [] a a fs j (stop_status e) (Consumes-none a) (omega arith) (never_whole e other) part
+  ungreeted e a other sent said = ran_off tells (origin_of user key es i) [] a a fs j (stop_status e) (Consumes-none a) (omega arith) (never_whole e other) (stop_known e other) part
     where
       part : IsOff tells (origin_of user key es i) (input_lines []) fs j
       part = record {

@@ -3,6 +3,7 @@
 --                        closed the link
 --     stop_status e      the status of each stop
 --     IsWholeStatus n    at which all that the run did was sent and printed
+--     IsStopStatus n     at which it ended among the lines of the bytes that it had read: a failure, or the server's close
 --     IsRunAs o ..       what a run from an origin with this status read, sent and printed
 --     origin_of u k ..   the origin of a run of this user and key
 use Rattle.std.specs.Prelude.{◌≡◌, ◌⊎◌, ℕ, ◌≤◌, Bool, IsTrue, List, [], ◌++◌, length, Option}
@@ -29,6 +30,9 @@ stop_status Memory = 8
 abbrev pub IsWholeStatus : ℕ → Type 0
 IsWholeStatus n = (n ≡ 0) ⊎ ((n ≡ 3) ⊎ ((n ≡ 10) ⊎ (n ≡ 11)))
 
+abbrev pub IsStopStatus : ℕ → Type 0
+IsStopStatus n = (n ≡ 4) ⊎ ((n ≡ 7) ⊎ ((n ≡ 8) ⊎ (n ≡ 11)))
+
 -- the link's list, what the source has left and what the sink holds, before (in the origin) and after
 pub record IsRunAs (tells : Bool) (o : Origin) (es : List LinkEvent) (left0 left1 held : Option (List ℕ)) (status : ℕ) : Type 0 where
   pub steps : List Step
@@ -48,6 +52,7 @@ pub record IsRunAs (tells : Bool) (o : Origin) (es : List LinkEvent) (left0 left
   pub ended : (status ≡ 3) ⊎ (status ≡ 10) → (run.phase ≡ Reading) × (lines_in steps ≡ ended_by [] read)
   pub closed : status ≡ 11 → run.phase ≡ Closed
   pub limit : status ≡ 10 → length read ≡ byte_limit
+  pub at_limit : length read ≡ byte_limit → (status ≡ 10) ⊎ ((run.phase ≡ Left) ⊎ IsStopStatus status)
 
 abbrev pub origin_of : Key → ℕ → List LinkEvent → Option (List ℕ) → Origin
 origin_of user client es held = record { events = es; held = held; run = begun user client }

@@ -17,7 +17,7 @@ returns-in_err-count-clause-stopped g c = λ o h.
     err_same c.from_residual.result c.in_err-count.field-0.0
     (λ (e : Stop). IsRunAs g.L.Link.tells o (g.L.Link.events c.pump.new.link) (g.S.Source.left c.args.source.now) (g.S.Source.left c.pump.new.source) (g.W.Sink.written c.pump.new.sink) (stop_status e))
     c.from_residual.ensures.1
-    (ran_cut g.L.Link.tells o _ _ _ _ _ _ c.loop-taken.taken u _ _ _ _ _ size fits c.in_err-count.field-0.0 (c.in_err-count.ensures.halts o u.read u.reading))
+    (ran_cut g.L.Link.tells o _ _ _ _ _ _ c.loop-taken.taken u _ _ _ _ _ size fits (omega (arith, low)) c.in_err-count.field-0.0 (c.in_err-count.ensures.halts o u.read u.reading))
 
 pub overflow_add-taken : goal.overflow_add-taken
 overflow_add-taken g c =
@@ -65,7 +65,7 @@ returns-in-Left-clause-edited g c = λ o h.
     let room = c.min-room.ensures in
     let low = c.loop-taken-test.true in
     let fits : c.loop-taken.taken + size ≤ 4611686018427387904 = omega (arith, room, low, length-take c.min-room.result c.loop-taken.buffer) in
-    ran_left g.L.Link.tells o _ _ _ _ _ _ c.loop-taken.taken u _ c.pump.new.line.items _ _ _ size fits
+    ran_left g.L.Link.tells o _ _ _ _ _ _ c.loop-taken.taken u _ c.pump.new.line.items _ _ _ size fits (omega (arith, low))
     (subst (λ (z : Pumped). IsPumped g.L.Link.tells o size z (machine_of c.pump.new.client) u.read c.pump.new.line.items (g.S.Source.left c.loop-taken.source) (g.S.Source.left c.pump.new.source) (g.L.Link.events c.pump.new.link) (g.W.Sink.written c.pump.new.sink))
     c.in-Left.is (c.in_ok-count.ensures.goes o u.read u.reading))
 
@@ -76,7 +76,7 @@ returns-in-Ended-clause-edited g c = λ o h.
     let room = c.min-room.ensures in
     let low = c.loop-taken-test.true in
     let fits : c.loop-taken.taken + size ≤ 4611686018427387904 = omega (arith, room, low, length-take c.min-room.result c.loop-taken.buffer) in
-    ran_end g.L.Link.tells o _ _ _ _ _ _ c.loop-taken.taken u _ c.pump.new.line.items _ _ _ size fits
+    ran_end g.L.Link.tells o _ _ _ _ _ _ c.loop-taken.taken u _ c.pump.new.line.items _ _ _ size fits (omega (arith, low))
     (subst (λ (z : Pumped). IsPumped g.L.Link.tells o size z (machine_of c.pump.new.client) u.read c.pump.new.line.items (g.S.Source.left c.loop-taken.source) (g.S.Source.left c.pump.new.source) (g.L.Link.events c.pump.new.link) (g.W.Sink.written c.pump.new.sink))
     c.in-Ended.is (c.in_ok-count.ensures.goes o u.read u.reading))
 
@@ -87,7 +87,7 @@ returns-in-Closed-clause-edited g c = λ o h.
     let room = c.min-room.ensures in
     let low = c.loop-taken-test.true in
     let fits : c.loop-taken.taken + size ≤ 4611686018427387904 = omega (arith, room, low, length-take c.min-room.result c.loop-taken.buffer) in
-    ran_closed g.L.Link.tells o _ _ _ _ _ _ c.loop-taken.taken u _ c.pump.new.line.items _ _ _ size fits
+    ran_closed g.L.Link.tells o _ _ _ _ _ _ c.loop-taken.taken u _ c.pump.new.line.items _ _ _ size fits (omega (arith, low))
     (subst (λ (z : Pumped). IsPumped g.L.Link.tells o size z (machine_of c.pump.new.client) u.read c.pump.new.line.items (g.S.Source.left c.loop-taken.source) (g.S.Source.left c.pump.new.source) (g.L.Link.events c.pump.new.link) (g.W.Sink.written c.pump.new.sink))
     c.in-Closed.is (c.in_ok-count.ensures.goes o u.read u.reading))
 
