@@ -80,8 +80,9 @@ impl Disk for FileDisk {
         }
     }
 
+    // The bytes and the length outlive a crash then; the times of the file needn't.
     fn sync(&mut self) -> Result<(), DiskFault> {
-        match self.file.sync_all() {
+        match self.file.sync_data() {
             Ok(()) => Ok(()),
             Err(_) => Err(self.fault()),
         }
