@@ -2,3 +2,5 @@ pub mod Loading
 pub mod Turning
 pub mod Leaving
 pub mod Adding
+pub mod RobotTurns
+pub mod RobotMoments

@@ -1,4 +1,5 @@
 pub mod Entries
 pub mod Hubs
 pub mod Records
+pub mod Robots
 pub mod Turns
