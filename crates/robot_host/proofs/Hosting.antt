@@ -2,6 +2,7 @@
 --     nobody_there           no robot has the number
 --     without_robot, without_none      a robot is dropped, and none is
 --     gone_kept              what is kept without it
+--     settled_by             nothing is left, by what is kept of a wavelet
 use Rattle.std.proofs.Common.{◌≡◌, ℕ, zero, suc, ◌<◌, arith, Bool, true, false, cond, List, [], ◌∷◌, length, map, slice_get, slice_set, Option, Some, None, refl, sym, ap, subst, ◌∙◌, true≢false, is_eq}
 use Rattle.std.specs.List.{filter}
 use Rattle.std.specs.Option.{option_map, option_map_or}
@@ -13,11 +14,12 @@ use Rattle.std.specs.BTreeMap as tree
 use Rattle.std.proofs.lemmas.List.{map-set, set-get_or}
 use Rattle.std.proofs.lemmas.Option.{slice_get-map, slice_get_within, get_or_from_slice_get}
 use Rattle.doc_items.specs.Maps.{Key}
+use Rattle.delta_history.specs.Histories.{HistoryOf}
 use Rattle.robot_host.specs.declared.edit.RobotEdit.{RobotEdit}
 use Rattle.robot_host.specs.declared.progress.Progress.{Progress}
 use Rattle.robot_host.specs.declared.seat.Seat.{Seat}
 use Rattle.robot_host.specs.Calls.{Call}
-use Rattle.robot_host.specs.Hosts.{IsWithout, progress_in, number_in, edits_in, AreSameWavelets}
+use Rattle.robot_host.specs.Hosts.{IsWithout, IsSettled, progress_in, number_in, edits_in, AreSameWavelets}
 use Rattle.robot_host.specs.Robots.{RobotOf, robot_by}
 use Rattle.robot_host.specs.Showing.{dropped}
 use Rattle.robot_host.specs.Turns.{is_there, is_of_there, number_of}
@@ -122,3 +124,12 @@ pub inside_there : {V : Type 0} {T : V → Type 0} (calls : DynBox V Global T �
 inside_there calls [] r there = absurd (true≢false (sym there))
 inside_there calls (s ∷ seats) zero there = omega arith
 inside_there calls (s ∷ seats) (suc r) there = let w = inside_there calls seats r there in omega (arith, w)
+
+-- ---- where nothing is left
+
+pub settled_by : (robots : List RobotOf) (m : tree.BTreeMap Key Progress) (h : HistoryOf) (p : Progress) → progress_in m h.name ≡ Some p → ((r : ℕ) → is_there robots r ≡ true → number_of p.counts.items r ≡ length h.deltas) → p.edits.items ≡ []
+    → IsSettled (record { robots = robots; number = λ name. number_in (progress_in m name); edits = λ name. edits_in (progress_in m name) }) h
+settled_by robots m h p is through none = record {
+  through = λ r s at here. ap (λ o. number_in o r) is ∙ through r (ap (λ o. option_map_or (λ (z : RobotOf). z.here) o false) at ∙ here);
+  none_kept = ap (λ o. filter (is_of_there robots) (edits_in o)) is ∙ ap (filter (is_of_there robots)) none;
+}

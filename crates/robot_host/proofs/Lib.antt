@@ -11,3 +11,5 @@ pub mod Hosting
 pub mod HostTurns
 pub mod HostSteps
 pub mod MayTurns
+pub mod RoundSteps
+pub mod EditSteps

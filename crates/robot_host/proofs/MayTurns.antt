@@ -1,5 +1,6 @@
 -- When a turn may be taken.
---     new_may_turn           by a host whose robots were shown nothing
+--     new_may_turn           by a new host
+--     same_view              what a longer history has of a view
 --     longer_may_turn        over a longer history
 --     others_may_turn        over another wavelet's history
 use Rattle.std.proofs.Common.{◌≡◌, ◌≢◌, ℕ, ◌+◌, ◌≤◌, arith, Bool, true, false, cond, List, [], ◌∷◌, ◌++◌, length, map, take, Option, Some, None, IfSome, refl, sym, ap, subst, ◌∙◌, append_assoc, append-nil}
@@ -23,11 +24,11 @@ fresh_told name None now e = tt
 fresh_told name (Some b) now e = subst (λ z. IfSome z (λ n. WasShown b n name [])) (sym e) (record { since = []; whole = append-nil b; given = refl })
 
 pub new_may_turn : NewMayTurn
-new_may_turn g h new fresh r s at here =
+new_may_turn g h new r s at here =
     let none : g.number h.name r ≡ 0 = new.numbers h.name r in
-    subst (IsShown (addresses g.robots) h s) (sym none) (record { within = omega arith; calls = fresh_told h.name s.before s.calls (fresh r s at) })
+    subst (IsShown (addresses g.robots) h s) (sym none) (record { within = omega arith; calls = fresh_told h.name s.before s.calls (new.fresh r s at) })
 
-same_view : (robots : List Key) (a : Key) (h k : HistoryOf) (more : List DeltaOf) (n : ℕ) → k.name ≡ h.name → k.deltas ≡ h.deltas ++ more → n ≤ length h.deltas → view robots a k n ≡ view robots a h n
+pub same_view : (robots : List Key) (a : Key) (h k : HistoryOf) (more : List DeltaOf) (n : ℕ) → k.name ≡ h.name → k.deltas ≡ h.deltas ++ more → n ≤ length h.deltas → view robots a k n ≡ view robots a h n
 same_view robots a h k more n name longer within =
     ap (λ z. filter (is_shown robots a) (seen_from (start z) (take n k.deltas))) name ∙ ap (λ z. filter (is_shown robots a) (seen_from (start h.name) z)) (ap (take n) longer ∙ take-append-le n h.deltas more within)
 

@@ -5,6 +5,7 @@
 --     not_turned             where it was shown nothing
 --     kept_of                what a filter keeps
 --     robots_more            one robot more
+--     fresh_more             it was shown nothing
 use Rattle.std.proofs.Common.{◌≡◌, ℕ, zero, suc, ◌<◌, arith, Bool, true, false, List, [], ◌∷◌, ◌++◌, length, map, get_or, slice_get, slice_set, Option, Some, unwrap_or, Result, Ok, Err, OnOk, OnErr, refl, sym, ap, subst, ◌∙◌, append-nil}
 use Rattle.std.specs.Option.{option_map, option_map_or}
 use Rattle.std.specs.declared.alloc.Global.{Global}
@@ -14,13 +15,14 @@ use Rattle.std.specs.List.{filter}
 use Rattle.std.specs.List.Retain.{IsFiltered}
 use Rattle.std.proofs.lemmas.Fn.{filter_same}
 use Rattle.std.proofs.lemmas.Option.{slice_get-map, slice_get-get_or, get_or_from_slice_get, unwrap_or-slice_get}
-use Rattle.doc_op.proofs.Applying.{same_Some}
+use Rattle.doc_op.proofs.Applying.{no_value, same_Some}
+use Rattle.doc_items.specs.Maps.{Key}
 use Rattle.delta_history.specs.Histories.{HistoryOf}
 use Rattle.robot_host.specs.declared.edit.RobotEdit.{RobotEdit}
 use Rattle.robot_host.specs.declared.seat.Seat.{Seat}
 use Rattle.robot_host.specs.Calls.{Call}
 use Rattle.robot_host.specs.declared.seat.Seated.TheVariants.{Here}
-use Rattle.robot_host.specs.Hosts.{added}
+use Rattle.robot_host.specs.Hosts.{AreFresh, added}
 use Rattle.robot_host.specs.Places.{AreNext}
 use Rattle.robot_host.specs.Robots.{RobotOf, robot_by, is_here, last_of, addresses}
 use Rattle.robot_host.specs.Showing.{HasShownSome, HasShownAll}
@@ -38,6 +40,12 @@ pub there_at : {A : Type 0} (xs : List A) (r : ℕ) → r < length xs → (x : A
 there_at [] r w = absurd (omega (arith, w))
 there_at (x ∷ xs) zero w = (x, refl)
 there_at (x ∷ xs) (suc r) w = there_at xs r (omega (arith, w))
+
+pub fresh_more : (robots : List RobotOf) (a : Key) (calls : Option (List Call)) → AreFresh robots → AreFresh (robots ++ added a calls ∷ [])
+fresh_more [] a calls fresh zero s e = subst (λ (z : RobotOf). z.calls ≡ z.before) (same_Some e) refl
+fresh_more [] a calls fresh (suc r) s e = no_value e
+fresh_more (x ∷ xs) a calls fresh zero s e = fresh 0 s e
+fresh_more (x ∷ xs) a calls fresh (suc r) s e = fresh_more xs a calls (λ q. fresh (suc q)) r s e
 
 pub number_read : (ns : List ℕ) (r n : ℕ) → r < length ns → n ≡ get_or ns r n → n ≡ number_of ns r
 number_read ns r n w is = sym (ap (λ o. unwrap_or o 0) (get_read ns r n w is))

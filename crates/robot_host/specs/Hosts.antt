@@ -1,11 +1,19 @@
 -- The robots of a host, and what they do.
 --     HostOf                     the robots by number; how many deltas of a wavelet each went through; the edits kept for a wavelet
 --     host_by calls host         a host, by what robots tell of their calls
+--     host_as robot host         the same, for other crates, whose clauses write `host_as ⟦<dyn Robot as Robot>⟧ host`
 --     kept g name                the edits kept for a wavelet, of robots that are there
+--     AreFresh robots            they were shown nothing since they were added
 --     IsNew g                    no turn was taken yet
 --     added a calls              a robot that is added
 --     MayTurn g h                each robot that is there went through at most the deltas of a history, and was shown exactly its view of
 --                                those that it went through
+--     HasTurned g h g' all       what a turn over a history does, of which these are the edits
+--     AreOthersKept g g' name    what it leaves of other wavelets
+--     HaveSeenAll g h            each robot that is there, where it tells its calls, was shown its whole view of a history since it was added
+--     IsSettled g h              each robot that is there went through all deltas of the history, and no edit is kept for it
+--     IsWithout g r g'           a robot was dropped
+--     AreFewer g g'              so were some
 use Rattle.std.specs.Prelude.{◌≡◌, ◌≢◌, ℕ, true, List, [], ◌++◌, length, map, filter, slice_get, slice_set, Option, Some}
 use Rattle.std.specs.Cmp.Lexicographic.{slice_cmp}
 use Rattle.std.specs.Option.{option_map_or}
@@ -18,6 +26,7 @@ use Rattle.delta_history.specs.Histories.{HistoryOf}
 use Rattle.robot_host.specs.declared.edit.RobotEdit.{RobotEdit}
 use Rattle.robot_host.specs.declared.host.RobotHost.{RobotHost}
 use Rattle.robot_host.specs.declared.progress.Progress.{Progress}
+use Rattle.robot_host.specs.declared.robot.Robot as robot_of
 use Rattle.robot_host.specs.Calls.{Call}
 use Rattle.robot_host.specs.Robots.{RobotOf, robot_by, addresses}
 use Rattle.robot_host.specs.Showing.{dropped}
@@ -45,10 +54,17 @@ host_by calls host = record {
   edits = λ name. edits_in (progress_in host.wavelets name);
 }
 
+abbrev pub host_as : {V : Type 0} → {T : V → Type 0} → ((v : V) → robot_of.Ghosts (T v)) → RobotHost V T → HostOf
+host_as robot host = host_by (λ b. (robot b.vtable).calls b.value) host
+
 abbrev pub kept : HostOf → Key → List RobotEdit
 kept g name = filter (is_of_there g.robots) (g.edits name)
 
+abbrev pub AreFresh : List RobotOf → Type 0
+AreFresh robots = (r : ℕ) (s : RobotOf) → slice_get robots r ≡ Some s → s.calls ≡ s.before
+
 pub record IsNew (g : HostOf) : Type 0 where
+  pub fresh : AreFresh g.robots
   pub numbers : (name : Key) (r : ℕ) → g.number name r ≡ 0
   pub edits : (name : Key) → g.edits name ≡ []
 
@@ -76,6 +92,13 @@ pub record AreOthersKept (g g' : HostOf) (name : Key) : Type 0 where
 abbrev pub AreThroughAll : HostOf → HistoryOf → Type 0
 AreThroughAll g h = (r : ℕ) (s : RobotOf) → slice_get g.robots r ≡ Some s → s.here ≡ true → g.number h.name r ≡ length h.deltas
 
+abbrev pub HaveSeenAll : HostOf → HistoryOf → Type 0
+HaveSeenAll g h = (r : ℕ) (s : RobotOf) → slice_get g.robots r ≡ Some s → s.here ≡ true → IsShown (addresses g.robots) h s (length h.deltas)
+
+pub record IsSettled (g : HostOf) (h : HistoryOf) : Type 0 where
+  pub through : AreThroughAll g h
+  pub none_kept : kept g h.name ≡ []
+
 -- ---- without a robot
 
 abbrev pub without : List RobotOf → ℕ → List RobotOf
@@ -84,6 +107,13 @@ without robots r = option_map_or (λ s. slice_set robots r (dropped s)) (slice_g
 pub record IsWithout (g : HostOf) (r : ℕ) (g' : HostOf) : Type 0 where
   pub robots : g'.robots ≡ without g.robots r
   pub numbers : (name : Key) (q : ℕ) → g'.number name q ≡ g.number name q
+  pub edits : (name : Key) → kept g' name ≡ filter (is_of_there g'.robots) (kept g name)
+
+-- what is so after robots were dropped, and nothing else was done
+pub record AreFewer (g g' : HostOf) : Type 0 where
+  pub robots : (r : ℕ) (t : RobotOf) → slice_get g'.robots r ≡ Some t → t.here ≡ true → slice_get g.robots r ≡ Some t
+  pub addresses : addresses g'.robots ≡ addresses g.robots
+  pub numbers : (name : Key) (r : ℕ) → g'.number name r ≡ g.number name r
   pub edits : (name : Key) → kept g' name ≡ filter (is_of_there g'.robots) (kept g name)
 
 pub record AreSameWavelets (m m' : tree.BTreeMap Key Progress) : Type 0 where

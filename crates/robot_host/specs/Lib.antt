@@ -8,5 +8,7 @@ pub mod Reactions
 pub mod Showing
 pub mod Turns
 pub mod Hosts
+pub mod Rounds
+pub mod Edits
 pub mod Laws
 pub mod Tables

@@ -1,9 +1,9 @@
-ghost use Rattle.std.specs.Prelude.{◌≡◌, ◌≤◌, ◌++◌, ◌∷◌, [], length, IfSome, IsSome, IfOk, OnOk, OnErr};
+ghost use Rattle.std.specs.Prelude.{◌≡◌, ◌≤◌, ◌++◌, ◌∷◌, [], ℕ, true, false, length, IfSome, IsSome, IfOk, OnOk, OnErr};
 ghost use Rattle.robot_host.specs.Hosts.{host_by, kept, added, progress_in, IsNew};
-ghost use Rattle.robot_host.specs.Hosts.{IsWithout, AreSameWavelets, MayTurn, HasTurned, AreThroughAll, AreOthersKept};
+ghost use Rattle.robot_host.specs.Hosts.{IsWithout, AreSameWavelets, MayTurn, HasTurned, AreThroughAll, AreOthersKept, IsSettled};
 ghost use Rattle.robot_host.specs.Turns.{is_there as is_robot_there};
 
-use crate::progress::{Progress, is_there};
+use crate::progress::{Progress, are_gone, is_there};
 use crate::seat::{Seat, Seated};
 use crate::{Robot, RobotEdit};
 use delta_history::History;
@@ -97,6 +97,24 @@ impl RobotHost {
         match self.wavelets.get_mut(history.name()) {
             Some(progress) => progress.turn(alloc, self.seats.as_mut_slice(), history),
             None => unreachable!(),
+        }
+    }
+
+    /// Whether no robot is there.
+    pub fn is_deserted(&self) -> bool
+        ensures { result ≡ true → (r : ℕ) → is_robot_there (host_by calls self.now).robots r ≡ false }
+    {
+        are_gone(&self.seats)
+    }
+
+    /// Whether each robot that is there went through all deltas of the history, and no edit is kept for it. It costs no more than a look
+    /// at a number for each robot; it may say no where it is so.
+    pub fn is_settled(&self, history: &History) -> bool
+        ensures { result ≡ true → IsSettled (host_by calls self.now) history.now }
+    {
+        match self.wavelets.get(history.name()) {
+            Some(progress) => progress.is_settled(&self.seats, history.deltas().len() as u64),
+            None => self.is_deserted(),
         }
     }
 

@@ -1,6 +1,6 @@
-ghost use Rattle.robot_host.specs.Laws.{NewMayTurn, LongerMayTurn, OthersMayTurn};
+ghost use Rattle.robot_host.specs.Laws.{NewMayTurn, LongerMayTurn, OthersMayTurn, RefusedMayTurn};
 
-/// The law of a new host: where the robots were shown nothing since they were added, a turn may be taken over any history.
+/// The law of a new host: a turn may be taken over any history.
 pub fn new_hosts_may_turn()
     ensures { NewMayTurn }
 {}
@@ -13,4 +13,9 @@ pub fn longer_histories_may_follow()
 /// The law of other wavelets: after a turn over one wavelet's history, a host may take a turn over another wavelet's as it might before.
 pub fn turns_leave_other_wavelets()
     ensures { OthersMayTurn }
+{}
+
+/// The law of refusals: after a robot was dropped, a host may take a turn over a history as it might before.
+pub fn refused_robots_leave_the_others()
+    ensures { RefusedMayTurn }
 {}

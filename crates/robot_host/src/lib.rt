@@ -16,6 +16,9 @@ mod walk;
 
 pub use edit::RobotEdit;
 pub use host::RobotHost;
-pub use laws::{longer_histories_may_follow, new_hosts_may_turn, turns_leave_other_wavelets};
+pub use laws::{
+    longer_histories_may_follow, new_hosts_may_turn, refused_robots_leave_the_others,
+    turns_leave_other_wavelets,
+};
 pub use reaction::Reaction;
 pub use robot::Robot;

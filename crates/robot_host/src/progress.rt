@@ -1,5 +1,5 @@
 // How far the robots are with one wavelet.
-ghost use Rattle.std.specs.Prelude.{◌≡◌, ◌<◌, ◌≤◌, ℕ, [], true, length, map, filter, IfOk, OnOk, OnErr};
+ghost use Rattle.std.specs.Prelude.{◌≡◌, ◌<◌, ◌≤◌, ℕ, [], true, false, length, map, filter, IfOk, OnOk, OnErr};
 ghost use Rattle.robot_host.specs.Tables.{robots_by, TurnsOne, TurnsAll, AnswersAll};
 ghost use Rattle.robot_host.specs.Turns.{is_there, number_of, IsThrough, AreThrough, is_of_there};
 ghost use Rattle.robot_host.specs.Walks.{IsReached};
@@ -39,6 +39,38 @@ pub(crate) fn is_there(seats: &[Seat], robot: u64) -> bool
         Some(seat) => seat.is_here(),
         None => false,
     }
+}
+
+/// Whether no robot is there.
+pub(crate) fn are_gone(seats: &[Seat]) -> bool
+    ensures { result ≡ true → (r : ℕ) → is_there (robots_by calls seats.now) r ≡ false }
+{
+    for robot in 0..seats.len() {
+        if is_there(seats, robot as u64) {
+            return false;
+        }
+    }
+    true
+}
+
+// The number of deltas that a robot went through.
+fn number_of(counts: &[u64], robot: usize) -> u64
+    ensures { result ≡ number_of counts.now robot }
+{
+    match counts.get(robot) {
+        Some(number) => *number,
+        None => 0,
+    }
+}
+
+// Whether the robot, if it is there, went through so many deltas.
+fn is_through(seats: &[Seat], counts: &[u64], robot: usize, deltas: u64) -> bool
+    ensures { result ≡ true → is_there (robots_by calls seats.now) robot ≡ true → number_of counts.now robot ≡ deltas }
+{
+    if is_there(seats, robot as u64) {
+        return number_of(counts, robot) == deltas;
+    }
+    true
 }
 
 // Shows the robot that is there what of its view it wasn't shown yet.
@@ -151,6 +183,19 @@ impl Progress {
             self.counts.push(0)?;
         }
         Ok(())
+    }
+
+    /// Whether each robot that is there went through so many deltas, and no edit is kept.
+    pub fn is_settled(&self, seats: &[Seat], deltas: u64) -> bool
+        ensures through { result ≡ true → (r : ℕ) → is_there (robots_by calls seats.now) r ≡ true → number_of self.now.counts.items r ≡ deltas }
+        ensures none_kept { result ≡ true → self.now.edits.items ≡ [] }
+    {
+        for robot in 0..seats.len() {
+            if !is_through(seats, &self.counts, robot, deltas) {
+                return false;
+            }
+        }
+        self.edits.is_empty()
     }
 
     /// Shows the robots what of their views they weren't shown yet, and gives the edits that were kept and then those answered. The error

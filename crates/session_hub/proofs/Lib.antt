@@ -3,3 +3,5 @@ pub mod Turning
 pub mod Leaving
 pub mod Adding
 pub mod Written
+pub mod RobotTurns
+pub mod RobotMoments

@@ -2,4 +2,5 @@ pub mod Entries
 pub mod Hubs
 pub mod Records
 pub mod Texts
+pub mod Robots
 pub mod Turns

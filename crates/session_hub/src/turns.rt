@@ -3,6 +3,7 @@ ghost use Rattle.std.specs.Prelude.{◌≡◌, ℕ, [], map, true, false, length
 ghost use mathlib.Core.List.{IsPrefix};
 ghost use Rattle.doc_items.specs.Maps.{Key};
 ghost use Rattle.message_json.specs.Write.{IsShort};
+ghost use Rattle.robot_host.specs.Hosts.{host_as};
 ghost use Rattle.session_core.specs.Answers.{attached};
 ghost use Rattle.session_core.specs.Deliveries.{delivered, after_delivery};
 ghost use Rattle.session_core.specs.News.{reply_message};
@@ -11,10 +12,13 @@ ghost use Rattle.turn_lock.specs.Passes.{seen, loads, added, IsOf};
 ghost use Rattle.wavelet_shelf.specs.FileNames.{shard_of};
 ghost use Rattle.shard_marks.specs.Frames.{frames_of};
 ghost use Rattle.shard_marks.specs.Marks.{is_founded, shown_at};
+ghost use Rattle.session_hub.specs.Robots.{MayTurnFrom, IsRoundAt, IsRoundCutAt};
 ghost use Rattle.session_hub.specs.Turns.{IsBegun, IsAnsweredBy, IsFault};
 
 use crate::fault::HubFault;
+use crate::rounds::Round;
 use crate::shard::Shard;
+use robot_host::{Robot, RobotHost};
 use session_core::{Reply, Session, SubmitAnswer};
 use std::alloc::Global;
 use std::sync::Wait;
@@ -106,4 +110,31 @@ pub(crate) fn deliver<F: Folder + Drop, R: Wait>(
     let frames = shard.deliver(alloc, session);
     guard.leave();
     Ok((length, frames?))
+}
+
+/// Turns of the robots in a turn of a shard, and the length of its history then.
+pub(crate) fn robot_turn<F: Folder + Drop, R: Wait>(
+    rt: &R,
+    alloc: Global,
+    cell: &TurnCell<Shard<F>>,
+    pass: &mut Pass<Shard<F>>,
+    host: &mut RobotHost,
+) -> Result<(u64, Round), HubFault>
+    requires own { IsOf cell.now pass.old }
+    requires may { MayTurnFrom (seen pass.old) (host_as ⟦<dyn Robot as Robot>⟧ host.old) }
+    ensures own { IsOf cell.now pass.new }
+    ensures later { IsPrefix (seen pass.old) (seen pass.new) }
+    ensures looked { loads pass.new ≡ loads pass.old }
+    ensures unadded { added pass.new ≡ added pass.old }
+    ensures length { IfOk result (λ r. r.0 ≡ length (seen pass.new)) }
+    ensures round { IfOk result (λ r. (d : Key) (k : ℕ) → is_founded d k (seen pass.old) ≡ true → IsRoundAt d k (seen pass.new) (host_as ⟦<dyn Robot as Robot>⟧ host.old) (host_as ⟦<dyn Robot as Robot>⟧ host.new) r.1.name r.1.edits.items) }
+    ensures cut { OnErr result ((d : Key) (k : ℕ) → is_founded d k (seen pass.old) ≡ true → IsRoundCutAt d k (seen pass.new) (host_as ⟦<dyn Robot as Robot>⟧ host.old) (host_as ⟦<dyn Robot as Robot>⟧ host.new)) }
+    ensures fault { IfErr result (IsFault pass.new) }
+{
+    let mut guard = pass.enter(rt, cell)?;
+    let shard = guard.value();
+    let length = shard.length();
+    let round = shard.robot_turn(alloc, host);
+    guard.leave();
+    Ok((length, round?))
 }

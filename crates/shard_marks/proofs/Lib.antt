@@ -1,3 +1,5 @@
 pub mod Founded
 pub mod Seeing
 pub mod Replaying
+pub mod Following
+pub mod Deciding
