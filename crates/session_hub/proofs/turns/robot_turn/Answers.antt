@@ -1,4 +1,5 @@
-use Rattle.std.proofs.Common.{rules, ◌≡◌, refl}
+use Rattle.std.proofs.Common.{rules, ◌≡◌, refl, ◌∙◌, length, ap, sym}
+use Rattle.session_hub.specs.Entries.{entries_of}
 use Rattle.robot_host.specs.Hosts.{host_by}
 use Rattle.turn_lock.specs.Passes.{seen}
 use Rattle.session_hub.specs.Robots.{IsRoundAt, IsRoundCutAt}
@@ -28,3 +29,8 @@ pub returns-in_err-round-clause-cut : goal.returns-in_err-round-clause-cut
 returns-in_err-round-clause-cut g c = on_err c.from_residual-in_err-round.result (λ d k own.
     cut_moment (seen c.args.pass.now) (seen c.pass-2-1.given.0) c.in_ok-guard.guard.value c.value-shard.result.now d k own c.in_ok-guard.ensures.value c.value-shard.ensures.value (search rules)
     (host_by (λ b. (goal.Robot-dyn g (b.vtable, b.value)).calls b.value) c.args.host.now) (host_by (λ b. (goal.Robot-dyn g (b.vtable, b.value)).calls b.value) c.robot_turn-round.new.host) c.in_err-round.ensures.cut)
+
+pub returns-clause-length : goal.returns-clause-length
+returns-clause-length g c =
+    let last : seen c.pass-2-1.given.0 ≡ entries_of c.in_ok-guard.guard.value = search rules in
+    c.length-length.ensures ∙ ap length (ap entries_of c.value-shard.ensures.value ∙ sym last)
