@@ -18,7 +18,6 @@ use crate::edit::edit_over;
 use crate::outside::Outside;
 use crate::store::{put_back, tell};
 use command_words::Command;
-use robot_host::RobotHost;
 use session_link::LinkJob;
 use std::alloc::Global;
 use std::mem::replace;
@@ -145,7 +144,6 @@ fn serve_net<
     match store {
         None => {
             let Outside { clock, server, .. } = outside;
-            let mut robots = RobotHost::new(alloc);
             serve(
                 rt,
                 alloc,
@@ -154,7 +152,6 @@ fn serve_net<
                 sessions,
                 Shelf::new(alloc),
                 clock,
-                &mut robots,
                 server,
             )
         }
@@ -249,18 +246,7 @@ fn serve_folder<
     match shelf.load(alloc) {
         Ok(()) => {
             let Outside { clock, server, .. } = outside;
-            let mut robots = RobotHost::new(alloc);
-            serve(
-                rt,
-                alloc,
-                domain,
-                listen,
-                sessions,
-                shelf,
-                clock,
-                &mut robots,
-                server,
-            )
+            serve(rt, alloc, domain, listen, sessions, shelf, clock, server)
         }
         Err(fault) => {
             let status = tell(alloc, &mut outside.sink, &fault);
