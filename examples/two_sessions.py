@@ -84,4 +84,5 @@ def main():
         server.wait()
 
 
-main()
+if __name__ == "__main__":
+    main()

@@ -35,7 +35,7 @@ impl Follower {
     /// What the follower answers to a delta of the history, and what becomes of it. The first of these that holds: `Old` where the
     /// delta starts below the follower's version, `Gap` where it starts above it, `Diverged` where it starts there with another hash,
     /// `OtherFlight` where it has the flight's id and other operations, `NotNext` where its operations aren't valid there or a bound
-    /// would be broken, else `Advanced`. Only `Advanced` changes the follower. `Old`, `Gap` and `Diverged` take no memory.
+    /// would be broken, else `Advanced`. Only `Advanced` changes the follower. `Old`, `Gap` and `Diverged` never become `Memory`.
     pub fn receive_update(
         &mut self,
         alloc: Global,
@@ -43,6 +43,7 @@ impl Follower {
     ) -> Result<Received, Memory>
         ensures ok { IfOk result (λ answer. (answer, follower_of self.new) ≡ receive (follower_of self.old) delta.now) }
         ensures same { OnErr result (self.new ≡ self.old) }
+        ensures late { OnErr result (delta.now.from ≡ (follower_of self.old).here.at) }
     {
         if delta.from.version < self.at.version {
             return Ok(Received::Old);

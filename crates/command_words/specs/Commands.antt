@@ -1,5 +1,6 @@
 -- The words of the program.
 --     option_rule, word_rule      an option with a value, as `--store DIR`;  a word that must be there
+--     flag_rule                   an option without a value, as `--echo`
 --     pipe, load, play, inbox     commands, as clap has them
 --     door, serve                 the options that `serve` must have;  with those that it may have
 --     writer, edit                the options that say who types;  with the address
@@ -15,6 +16,7 @@
 --     given v                     a value, where there is one and it isn't empty and doesn't begin with `-`
 --     perhaps read v              what a value is read as, where there is one; None where it can't be read
 --     folder v                    a value as a folder
+--     flag v                      whether an option without a value is there; clap gives it the value `true` or `false`
 --     both a b                    two values, where there are both
 --     paired make a b             what is made of two values, where there are both
 --     CommandOf                   a command
@@ -29,13 +31,16 @@ use Rattle.clap.specs.Words.{App, Rule, Shape, Text, new_app, new_rule, with_rul
 use Rattle.clap.specs.Simple.{on_top}
 use Rattle.clap.specs.Walk.{Row, is_empty}
 use Rattle.clap.specs.Faults.{fault_of}
-use Rattle.clap.specs.declared.builder.action.ArgAction.TheVariants.{Set}
+use Rattle.clap.specs.declared.builder.action.ArgAction.TheVariants.{Set, SetTrue}
 use Rattle.wave_base.specs.Grammar.{is_address, is_domain, is_wavelet_name}
 
 -- ---- as clap has them
 
 abbrev pub option_rule : Text → Bool → Rule
 option_rule name needed = record (new_rule name) { long = Some name; action = Some Set; required = needed }
+
+abbrev pub flag_rule : Text → Rule
+flag_rule name = record (new_rule name) { long = Some name; action = Some SetTrue }
 
 abbrev pub word_rule : Text → Rule
 word_rule name = record (new_rule name) { required = true }
@@ -56,7 +61,7 @@ abbrev pub door : App
 door = with_rule (with_rule (new_app (codes "serve")) (option_rule (codes "domain") true)) (option_rule (codes "listen") true)
 
 abbrev pub serve : App
-serve = with_rule (with_rule door (option_rule (codes "sessions") false)) (option_rule (codes "store") false)
+serve = with_rule (with_rule (with_rule door (option_rule (codes "sessions") false)) (option_rule (codes "store") false)) (flag_rule (codes "echo"))
 
 abbrev pub writer : App
 writer = with_rule (with_rule (new_app (codes "edit")) (option_rule (codes "user") true)) (option_rule (codes "client") true)
@@ -124,7 +129,7 @@ pub data CommandOf : Type 0 where
   Load : ℕ → CommandOf
   Play : List ℕ → List ℕ → CommandOf
   Inbox : List ℕ → List ℕ → CommandOf
-  Serve : List ℕ → List ℕ → Option ℕ → Option (List ℕ) → CommandOf
+  Serve : List ℕ → List ℕ → Option ℕ → Option (List ℕ) → Bool → CommandOf
   Edit : List ℕ → ℕ → List ℕ → CommandOf
 
 abbrev pub needs_net : CommandOf → Bool
@@ -132,7 +137,7 @@ needs_net (Pipe store) = false
 needs_net (Load n) = false
 needs_net (Play store wavelet) = false
 needs_net (Inbox store user) = false
-needs_net (Serve domain listen sessions store) = true
+needs_net (Serve domain listen sessions store echo) = true
 needs_net (Edit user client connect) = true
 
 abbrev pub loaded : Option (List ℕ) → Option CommandOf
@@ -156,6 +161,10 @@ folder v = given (Some v)
 abbrev pub stored : Option (List ℕ) → Option CommandOf
 stored store = option_map Pipe (perhaps folder store)
 
+abbrev pub flag : Option (List ℕ) → Bool
+flag None = false
+flag (Some v) = pointwise ◌==◌ v (codes "true")
+
 abbrev pub both : {X Y : Type 0} → Option X → Option Y → Option (X × Y)
 both None b = None
 both (Some a) None = None
@@ -170,11 +179,11 @@ played store wavelet = paired Play (given store) (checked is_wavelet_name wavele
 abbrev pub inboxed : Option (List ℕ) → Option (List ℕ) → Option CommandOf
 inboxed store user = paired Inbox (given store) (checked is_address user)
 
-abbrev pub served : (listen domain sessions store : Option (List ℕ)) → Option CommandOf
-served listen domain sessions store = paired (λ d b. Serve d.1 d.0 b.0 b.1) (both (given listen) (checked is_domain domain)) (both (perhaps session_number sessions) (perhaps folder store))
+abbrev pub served : (listen domain sessions store : Option (List ℕ)) → (echo : Bool) → Option CommandOf
+served listen domain sessions store echo = paired (λ d b. Serve d.1 d.0 b.0 b.1 echo) (both (given listen) (checked is_domain domain)) (both (perhaps session_number sessions) (perhaps folder store))
 
 abbrev pub served_by : List Row → Option CommandOf
-served_by r = served (first_of (codes "listen") r) (first_of (codes "domain") r) (first_of (codes "sessions") r) (first_of (codes "store") r)
+served_by r = served (first_of (codes "listen") r) (first_of (codes "domain") r) (first_of (codes "sessions") r) (first_of (codes "store") r) (flag (first_of (codes "echo") r))
 
 abbrev pub edited : (connect user client : Option (List ℕ)) → Option CommandOf
 edited connect user client = paired (λ w k. Edit w.1 k w.0) (both (given connect) (checked is_address user)) (option_and_then client_key client)

@@ -1,6 +1,6 @@
 ghost use Rattle.std.specs.Prelude.{◌≡◌, Some, None, true, IfOk, IfErr, option_map, option_and_then, map, string_bytes};
 ghost use Rattle.clap.specs.Words.{first_of, subcommand_rows_of};
-ghost use Rattle.command_words.specs.Commands.{stored, loaded, checked, given, perhaps, folder, both, session_number, played, inboxed, served, served_by, client_key, edited, edited_by, named_net, named_past, named, is_cut, accepted, command_of, needs_net};
+ghost use Rattle.command_words.specs.Commands.{stored, loaded, checked, given, perhaps, folder, flag, both, session_number, played, inboxed, served, served_by, client_key, edited, edited_by, named_net, named_past, named, is_cut, accepted, command_of, needs_net};
 ghost use Rattle.command_words.specs.Shown.{shown};
 
 use crate::grammar::matches_of;
@@ -40,13 +40,14 @@ pub enum Command<'a> {
         store: &'a str,
         user: Address,
     },
-    /// Sessions of a domain's users over a net, at this address, with the wavelets of a folder where one is named. It ends after this
-    /// number of sessions, from 1 to 1,000,000, where there is one.
+    /// Sessions of a domain's users over a net, at this address, with the wavelets of a folder where one is named, and with the robot
+    /// `echo` where it is asked for. It ends after this number of sessions, from 1 to 1,000,000, where there is one.
     Serve {
         domain: Domain,
         listen: &'a str,
         sessions: Option<u64>,
         store: Option<&'a str>,
+        echo: bool,
     },
     /// The terminal client of a user with this key, at most 2^53 - 1, over a link with the server at this address.
     Edit {
@@ -77,6 +78,7 @@ impl Command<'_> {
                 listen: _listen,
                 sessions: _sessions,
                 store: _store,
+                echo: _echo,
             } => true,
             Command::Edit {
                 user: _user,
@@ -102,6 +104,16 @@ fn value_of<'a>(matches: &ArgMatches<'a>, name: &str) -> Option<&'a str>
 {
     let (_command, inner) = matches.subcommand()?;
     inner.get_str(name)
+}
+
+// Whether an option without a value is among the words of the command that they named.
+fn is_flagged(matches: &ArgMatches<'_>, name: &str) -> bool
+    ensures { result ≡ flag (option_and_then (λ p. first_of name.now p.1) (subcommand_rows_of matches.now)) }
+{
+    match value_of(matches, name) {
+        Some(text) => text == "true",
+        None => false,
+    }
 }
 
 // The name of the command.
@@ -250,9 +262,10 @@ fn served<'a>(
     domain: Option<&str>,
     count: Option<&str>,
     store: Option<&'a str>,
+    echo: bool,
 ) -> Result<Command<'a>, WordsFault>
-    ensures ok { IfOk result (λ c. served (option_map (λ s. s.now) listen.entry) (option_map (λ s. s.now) domain.entry) (option_map (λ s. s.now) count.entry) (option_map (λ s. s.now) store.entry) ≡ Some (shown c)) }
-    ensures refused { IfErr result (λ e. e ≡ WordsFault.Usage → served (option_map (λ s. s.now) listen.entry) (option_map (λ s. s.now) domain.entry) (option_map (λ s. s.now) count.entry) (option_map (λ s. s.now) store.entry) ≡ None) }
+    ensures ok { IfOk result (λ c. served (option_map (λ s. s.now) listen.entry) (option_map (λ s. s.now) domain.entry) (option_map (λ s. s.now) count.entry) (option_map (λ s. s.now) store.entry) echo ≡ Some (shown c)) }
+    ensures refused { IfErr result (λ e. e ≡ WordsFault.Usage → served (option_map (λ s. s.now) listen.entry) (option_map (λ s. s.now) domain.entry) (option_map (λ s. s.now) count.entry) (option_map (λ s. s.now) store.entry) echo ≡ None) }
 {
     match both(alloc, listen, domain) {
         Err(fault) => Err(fault),
@@ -263,6 +276,7 @@ fn served<'a>(
                 listen,
                 sessions,
                 store,
+                echo,
             }),
         },
     }
@@ -276,7 +290,15 @@ fn served_by<'a>(alloc: Global, matches: &ArgMatches<'a>) -> Result<Command<'a>,
     let listen = value_of(matches, "listen");
     let domain = value_of(matches, "domain");
     let count = value_of(matches, "sessions");
-    served(alloc, listen, domain, count, value_of(matches, "store"))
+    let store = value_of(matches, "store");
+    served(
+        alloc,
+        listen,
+        domain,
+        count,
+        store,
+        is_flagged(matches, "echo"),
+    )
 }
 
 // The key of an option that must be there.

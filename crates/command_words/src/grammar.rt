@@ -5,7 +5,7 @@ ghost use Rattle.clap.specs.Faults.{fault_of};
 ghost use Rattle.clap.specs.Simple.{on_top};
 ghost use Rattle.clap.specs.Walk.{is_empty};
 ghost use Rattle.clap.specs.declared.builder.command.Command.TheViews.{out-Command as fields_of};
-ghost use Rattle.command_words.specs.Commands.{pipe as pipe_app, load as load_app, play as play_app, inbox as inbox_app, door as door_app, serve as serve_app, writer as writer_app, edit as edit_app, storeless as storeless_app, storing as storing_app, serving as serving_app, wave as wave_app, plain_top, option_rule};
+ghost use Rattle.command_words.specs.Commands.{pipe as pipe_app, load as load_app, play as play_app, inbox as inbox_app, door as door_app, serve as serve_app, writer as writer_app, edit as edit_app, storeless as storeless_app, storing as storing_app, serving as serving_app, wave as wave_app, plain_top, option_rule, flag_rule};
 
 use crate::command::WordsFault;
 use clap::error::ErrorKind;
@@ -21,6 +21,14 @@ fn option<'a>(alloc: Global, name: &'a str, needed: bool) -> Arg<'a>
         .long(name)
         .required(needed)
         .action(ArgAction::Set)
+}
+
+// An option without a value.
+fn flag<'a>(alloc: Global, name: &'a str) -> Arg<'a>
+    ensures rule { rule_of result ≡ flag_rule name.now }
+    ensures global { result.global ≡ false }
+{
+    Arg::new(alloc, name).long(name).action(ArgAction::SetTrue)
 }
 
 // The program, without its commands.
@@ -84,7 +92,8 @@ fn serve<'a>(alloc: Global) -> Result<Command<'a>, AllocError>
 {
     door(alloc)?
         .arg(option(alloc, "sessions", false))?
-        .arg(option(alloc, "store", false))
+        .arg(option(alloc, "store", false))?
+        .arg(flag(alloc, "echo"))
 }
 
 // The terminal client, with the options that say who types.

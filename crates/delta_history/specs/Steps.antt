@@ -1,7 +1,7 @@
 -- What is asked of the next delta of a history, its state apart.
 --     IsWithin at n d         behind a delta at this hashed version, where n items were inserted, the three bounds hold
 --     step_behind at n d      the hashed version and the number of items behind it
---     IsWritten at n d s t    the bounds hold, s is what the delta leads to, and t are its bytes
+--     IsWritten at n d s t    the bounds hold, s is what the delta leads to, and t are the bytes that it has
 --     IsFitting h d           the delta starts at the head, its id is new, and the bounds hold
 --     IsUnfit h d e           why it doesn't fit
 use Rattle.std.specs.Prelude.{◌≡◌, ◌≢◌, ◌≤◌, ◌+◌, ℕ, false, List, length}
@@ -9,7 +9,7 @@ use Rattle.doc_items.specs.Limits.{max_count}
 use Rattle.wave_base.specs.Versions.{VersionAt}
 use Rattle.wavelet_op.specs.Acts.{inserted}
 use Rattle.wavelet_op.specs.Deltas.{DeltaOf}
-use Rattle.wavelet_codec.specs.Spelling.{delta_bytes}
+use Rattle.wavelet_codec.specs.Spelling.{delta_bytes, IsDelta}
 use Rattle.delta_history.specs.declared.fault.HistoryFault.{HistoryFault}
 use Rattle.delta_history.specs.declared.fault.HistoryFault.TheVariants.{NotNext, NotLegal, Memory}
 use Rattle.delta_history.specs.declared.step.Step.{Step}
@@ -29,6 +29,7 @@ step_behind at n d = record { to = version_behind at d; inserted = n + inserted 
 pub record IsWritten (at : VersionAt) (n : ℕ) (d : DeltaOf) (s : Step) (text : List ℕ) : Type 0 where
   pub within : IsWithin at n d
   pub step : s ≡ step_behind at n d
+  pub is : IsDelta d
   pub bytes : text ≡ delta_bytes d
 
 pub record IsFitting (h : HistoryOf) (d : DeltaOf) : Type 0 where

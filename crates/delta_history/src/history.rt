@@ -2,7 +2,7 @@ ghost use Rattle.std.specs.Prelude.{◌≡◌, ◌<◌, ◌≤◌, [], Some, IfO
 ghost use Rattle.wavelet_op.specs.Acts.{meanings, AreNormal};
 ghost use Rattle.wavelet_op.specs.Deltas.{is_count};
 ghost use Rattle.wavelet_op.specs.States.{run};
-ghost use Rattle.wavelet_codec.specs.Spelling.{delta_bytes};
+ghost use Rattle.wavelet_codec.specs.Spelling.{delta_bytes, IsDelta};
 ghost use Rattle.delta_history.specs.Histories.{head_of, hash_found, IsSameHistory, IsGrown};
 ghost use Rattle.delta_history.specs.Legal.{adds_first, standing, may_write, IsLegal};
 ghost use Rattle.wavelet_state.specs.Snapshots.{max_inserted};
@@ -71,7 +71,7 @@ impl Model for Prepared {
     ghost use Rattle.doc_items.specs.contracts.item.Item as item_row;
     ghost use Rattle.wavelet_op.specs.contracts.delta.AppliedDelta as delta_row;
     ghost use Rattle.wavelet_op.specs.contracts.role.Role as role_row;
-    ghost use Rattle.wavelet_codec.specs.Spelling.{delta_bytes};
+    ghost use Rattle.wavelet_codec.specs.Spelling.{delta_bytes, IsDelta};
     ghost use Rattle.delta_history.specs.Pushes.{PreparedOf, prepared_code};
 
     ghost Value = { PreparedOf };
@@ -80,7 +80,7 @@ impl Model for Prepared {
 
     ghost view = { λ p. record { delta = p.delta; after = record { at = p.written.step.to; state = p.state; count = p.written.step.inserted } } };
 
-    ghost invariant = { λ p. p.written.bytes.items ≡ delta_bytes p.delta };
+    ghost invariant = { λ p. record { is : IsDelta p.delta; bytes : p.written.bytes.items ≡ delta_bytes p.delta } };
 }
 
 impl Prepared {
@@ -91,9 +91,10 @@ impl Prepared {
         &self.delta
     }
 
-    /// The canonical bytes of the delta.
+    /// The canonical bytes that the delta has.
     pub fn bytes(&self) -> &[u8]
-        ensures { result.now ≡ delta_bytes self.now.delta }
+        ensures value { result.now ≡ delta_bytes self.now.delta }
+        ensures is { IsDelta self.now.delta }
     {
         self.written.bytes.as_slice()
     }

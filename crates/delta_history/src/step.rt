@@ -1,6 +1,6 @@
 // What is tested of the next delta, its state apart.
-ghost use Rattle.std.specs.Prelude.{◌≡◌, ◌≤◌, ◌<◌, ◌*◌, ℕ, length, take, true, IfOk, IfErr, OnOk, MatchOption};
-ghost use Rattle.wavelet_codec.specs.Spelling.{delta_bytes};
+ghost use Rattle.std.specs.Prelude.{◌≡◌, ◌≤◌, ◌<◌, ◌*◌, ℕ, length, take, true, IfOk, IfErr, OnOk, MatchOption, IsSome};
+ghost use Rattle.wavelet_codec.specs.Spelling.{delta_bytes, IsDelta};
 ghost use Rattle.wavelet_op.specs.Acts.{inserted_act, inserted, meaning, meanings};
 ghost use Rattle.delta_history.specs.Histories.{head_of};
 ghost use Rattle.delta_history.specs.Legal.{max_delta};
@@ -73,7 +73,8 @@ fn inserted(ops: &Ops) -> u64
 
 // The bytes of a delta; None where they are more than a delta may have.
 fn bytes(alloc: Global, delta: &AppliedDelta) -> Result<Option<Vec<u8>>, Memory>
-    ensures { IfOk result (λ o. MatchOption o (max_delta < length (delta_bytes delta.now)) (λ v. (v.items ≡ delta_bytes delta.now) × (length v.items ≤ max_delta))) }
+    ensures bytes { IfOk result (λ o. MatchOption o (max_delta < length (delta_bytes delta.now)) (λ v. (v.items ≡ delta_bytes delta.now) × (length v.items ≤ max_delta))) }
+    ensures is { IfOk result (λ o. IsSome o → IsDelta delta.now) }
 {
     if applied_len(alloc, delta)? > MAX_DELTA {
         return Ok(None);

@@ -1,12 +1,18 @@
 -- What a journal is over its disk. `IsJournal` says that it holds these records under this name, `left_over` is the
--- record that a crash may leave behind them, `needs_repair` whether a gate may be open that is to be closed.
+-- record that a crash may leave behind them, `needs_repair` whether a gate may be open that is to be closed, and `IsHeadingOf`
+-- that a heading is what a journal of this name begins with.
 use Rattle.std.specs.Prelude.{◌≡◌, ℕ, Bool, List, [], ◌∷◌, ◌++◌, length, IsTrue}
 use Rattle.disk_model.specs.Disk.{DiskView, Kept}
 use Rattle.disk_model.specs.declared.disk.Disk.{Ghosts}
 use Rattle.delta_journal.specs.File.{header}
 use Rattle.delta_journal.specs.Shape.{HasShape}
 use Rattle.delta_journal.specs.Stage.{front_at, IsEmptyAt, shape_at, left_over_at, HasBlock, is_unsure_at}
+use Rattle.delta_journal.specs.declared.heading.Heading.{Heading}
 use Rattle.delta_journal.specs.declared.journal.Journal.{Journal}
+
+-- what a journal of this name begins with
+abbrev pub IsHeadingOf : List ℕ → Heading → Type 0
+IsHeadingOf name heading = heading.bytes.items ≡ header name ++ 0 ∷ []
 
 -- the journal's disk
 abbrev pub disk_of : {K : Type 0} {disk : Ghosts K} → Journal K disk → K

@@ -3,6 +3,7 @@
 
 mod append;
 mod fault;
+mod heading;
 mod journal;
 mod laws;
 mod load;
@@ -14,6 +15,7 @@ mod stored;
 mod write;
 
 pub use fault::JournalFault;
+pub use heading::Heading;
 pub use journal::Journal;
 pub use laws::{file_means_once, file_named_once};
 pub use load::{Loaded, Unloaded};

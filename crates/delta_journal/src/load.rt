@@ -1,15 +1,15 @@
 // Starting a journal, and loading one from its disk.
-ghost use Rattle.std.specs.Prelude.{◌≡◌, ◌≢◌, ◌^◌, ◌<◌, ◌≤◌, ℕ, [], ◌∷◌, ◌++◌, length, false, IfOk, IfErr, OnOk, IsTrue};
+ghost use Rattle.std.specs.Prelude.{◌≡◌, ◌≢◌, ◌^◌, ◌<◌, ◌≤◌, ℕ, List, [], ◌∷◌, ◌++◌, length, false, IfOk, IfErr, OnOk, IsTrue};
 ghost use Rattle.disk_model.specs.Disk.{LeavesJust, OnlyRead, Rose};
 ghost use Rattle.delta_journal.specs.File.{StandsFor, IsDamaged, header};
 ghost use Rattle.delta_journal.specs.Shape.{HasShape};
 ghost use Rattle.delta_journal.specs.Stage.{front_at, shape_at, IsEmptyAt, HasBlock, is_unsure_at, least_length};
 ghost use Rattle.delta_journal.specs.Stored.{bytes_of, StandFrom};
-ghost use Rattle.delta_journal.specs.Journal.{IsJournal, disk_of, on_disk, needs_repair};
+ghost use Rattle.delta_journal.specs.Journal.{IsHeadingOf, IsJournal, disk_of, on_disk, needs_repair};
 
 use crate::reading::{Parsed, parse};
-use crate::stage::{CLOSED, Stage};
-use crate::{Journal, JournalFault, StoredRecords};
+use crate::stage::Stage;
+use crate::{Heading, Journal, JournalFault, StoredRecords};
 use disk_model::{Disk, DiskError};
 use std::alloc::{AllocError, Global};
 
@@ -25,19 +25,6 @@ pub struct Loaded<K: Disk> {
 pub struct Unloaded<K> {
     pub disk: K,
     pub fault: JournalFault,
-}
-
-// The header of a name behind its gate, and a closed gate.
-fn header_of(alloc: Global, name: &[u8]) -> Result<Vec<u8>, AllocError>
-    requires { length name.now < 2 ^ 32 }
-    ensures { IfOk result (λ v. v.items ≡ header name.now ++ 0 ∷ []) }
-{
-    let mut header = Vec::new(alloc);
-    header.extend_from_slice(b"WAVEJNL1")?;
-    header.extend_from_slice(&(name.len() as u32).to_be_bytes())?;
-    header.extend_from_slice(name)?;
-    header.push(CLOSED)?;
-    Ok(header)
 }
 
 // All the bytes of a file, once they are synced.
@@ -87,7 +74,24 @@ fn read_journal<K: Disk>(
 }
 
 impl<K: Disk> Journal<K> {
-    /// A journal with no header and no records, over a disk with an empty file that is synced.
+    /// A journal with no header and no records, over a disk with an empty file that is synced. The header that it will have is there
+    /// already, so no memory is taken.
+    pub fn over(disk: K, heading: Heading) -> Journal<K>
+        requires empty { IsTrue K.tells → (K.view disk).seen ≡ [] }
+        requires synced { IsTrue K.tells → LeavesJust [] (K.view disk) }
+        ensures journal { (name : List ℕ) → IsHeadingOf name heading → IsTrue K.tells → IsJournal name [] result }
+        ensures whole { needs_repair result ≡ false }
+        ensures same { disk_of result ≡ disk }
+    {
+        Journal {
+            disk,
+            header: heading.bytes,
+            stage: Stage::Blank,
+            place: 0,
+        }
+    }
+
+    /// The same with a header that is made here.
     pub fn start(alloc: Global, disk: K, name: &str) -> Result<Journal<K>, AllocError>
     where
         K: Drop,
@@ -98,13 +102,8 @@ impl<K: Disk> Journal<K> {
         ensures whole { IfOk result (λ journal. needs_repair journal ≡ false) }
         ensures same { IfOk result (λ journal. disk_of journal ≡ disk) }
     {
-        let header = header_of(alloc, name.as_bytes())?;
-        Ok(Journal {
-            disk,
-            header,
-            stage: Stage::Blank,
-            place: 0,
-        })
+        let heading = Heading::new(alloc, name)?;
+        Ok(Journal::over(disk, heading))
     }
 
     /// Syncs the file of a disk, reads it, and gives the journal of this name with exactly the records that the
@@ -124,18 +123,18 @@ impl<K: Disk> Journal<K> {
         ensures failed { IfErr result (λ u. u.fault ≡ JournalFault.DiskFault → Rose (K.view disk) (K.view u.disk)) }
     {
         let mut disk = disk;
-        let header = match header_of(alloc, name.as_bytes()) {
-            Ok(header) => header,
+        let heading = match Heading::new(alloc, name) {
+            Ok(heading) => heading,
             Err(_) => return Err(Unloaded {
                 disk,
                 fault: JournalFault::Memory,
             }),
         };
-        match read_journal(alloc, &mut disk, name.as_bytes(), &header) {
+        match read_journal(alloc, &mut disk, name.as_bytes(), &heading.bytes) {
             Ok(parsed) => Ok(Loaded {
                 journal: Journal {
                     disk,
-                    header,
+                    header: heading.bytes,
                     stage: parsed.stage,
                     place: parsed.place,
                 },

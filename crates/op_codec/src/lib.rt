@@ -15,4 +15,4 @@ mod writing;
 pub use fault::CodecFault;
 pub use laws::spellings_differ;
 pub use reading::{ReadOp, read};
-pub use spell::{spelling_len, write};
+pub use spell::{normal_len, spelling_len, write, write_normal};

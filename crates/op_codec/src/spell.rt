@@ -15,9 +15,17 @@ pub fn spelling_len(alloc: Global, op: &DocOp) -> Result<u64, Memory>
     ensures { IfOk result (λ n. n ≡ capped (length (canonical op.now))) }
 {
     let normal = op.normal(alloc)?;
+    Ok(normal_len(&normal))
+}
+
+/// `spelling_len` of an operation in normal form, which takes no memory.
+pub fn normal_len(op: &DocOp) -> u64
+    requires { op.now ≡ normal_form (actions op.now) }
+    ensures { result ≡ capped (length (canonical op.now)) }
+{
     let mut meter = Meter::new();
-    meter.add_components(&normal);
-    Ok(meter.size())
+    meter.add_components(op);
+    meter.size()
 }
 
 /// Appends the spelling of an operation, which has fewer than 4,294,967,296 bytes. After want of memory a part of it may
@@ -28,10 +36,20 @@ pub fn write(alloc: Global, op: &DocOp, out: &mut Vec<u8>) -> Result<(), Memory>
     ensures spelling { OnOk result (IsSpelling (normal_form (actions op.now))) }
 {
     let normal = op.normal(alloc)?;
-    let _components = normal.as_slice();
+    write_normal(&normal, out)
+}
+
+/// `write` of an operation in normal form, which makes no other operation.
+pub fn write_normal(op: &DocOp, out: &mut Vec<u8>) -> Result<(), Memory>
+    requires short { length (canonical op.now) < limit }
+    requires normal { op.now ≡ normal_form (actions op.now) }
+    ensures appended { OnOk result (out.new.items ≡ out.old.items ++ canonical op.now) }
+    ensures spelling { OnOk result (IsSpelling op.now) }
+{
+    let _components = op.as_slice();
     let mut meter = Meter::new();
-    meter.add_components(&normal);
+    meter.add_components(op);
     out.reserve(meter.size() as usize)?;
-    write_components(out, &normal)?;
+    write_components(out, op)?;
     Ok(())
 }

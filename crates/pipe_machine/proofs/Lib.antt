@@ -14,3 +14,4 @@ pub mod Ordering
 pub mod Searching
 mod Serving
 mod Changing
+mod Running

@@ -1,5 +1,6 @@
 -- How a shelf moves.
 --     begins_itself, begins_added, begins_on     deltas that are the first of others
+--     nothing_before        the first of none are none
 --     other_name            names that differ
 --     stays                 one that stays as it is
 --     only_if               one that may move at fewer names
@@ -36,6 +37,10 @@ pub begins_added : (hs : List Hosted) (n : Key) (o : Option DeltaOf) (m : Key) �
 begins_added hs n None m up = begins_itself (deltas_in hs m)
 begins_added hs n (Some d) m up = begins_grown hs n d m up (same_or_not m n)
 
+pub nothing_before : (ds es : List DeltaOf) → Begins ds es → es ≡ [] → ds ≡ []
+nothing_before [] es p e = refl
+nothing_before (d ∷ ds) es p e = absurd (let w : d ∷ (ds ++ p.0) ≡ [] = p.1 ∙ e in cc)
+
 begins_as : (ds es fs : List DeltaOf) → es ≡ fs → Begins ds es → Begins ds fs
 begins_as ds es fs e b = (b.0, b.1 ∙ e)
 
@@ -66,12 +71,12 @@ module _ {F D : Type 0} {folder : folder_of.Ghosts F D} {disk : disk_of.Ghosts D
   }
 
   module _ (a b : Shelf F D folder disk) (name : Key) (others : (m : Key) → m ≢ name → container_in b m ≡ container_in a m)
-      (kept : IsKept a → IsKept b) (used : IsUsedIn folder (IsNewFile a name) (in_folder a) (in_folder b)) (later : fault_count a ≤ fault_count b) where
+      (kept : IsKept a → IsKept b) (s : Submission) (t : ℕ) (used : IsUsedIn folder (IsNewFile a name s t) (in_folder a) (in_folder b)) (later : fault_count a ≤ fault_count b) where
     used_file : IsUsedIn folder (IsFileAmong (same_text name)) (in_folder a) (in_folder b)
-    used_file = used_more folder (IsNewFile a name) (IsFileAmong (same_text name)) (λ m e. (name, own name, e.1)) (in_folder a) (in_folder b) used
+    used_file = used_more folder (IsNewFile a name s t) (IsFileAmong (same_text name)) (λ m e. (name, own name, e.2)) (in_folder a) (in_folder b) used
 
-    pub taken_in : (s : Submission) (t : ℕ) → AreAscending (names_of (hosted_of a)) → hosted_of b ≡ after_submission (hosted_of a) name s t → IsMoved (same_text name) a b
-    taken_in s t up is = record {
+    pub taken_in : AreAscending (names_of (hosted_of a)) → hosted_of b ≡ after_submission (hosted_of a) name s t → IsMoved (same_text name) a b
+    taken_in up is = record {
       grown = λ n. begins_as (deltas_in (hosted_of a) n) (deltas_in (after_submission (hosted_of a) name s t) n) (deltas_in (hosted_of b) n) (ap (λ hs. deltas_in hs n) (sym is))
           (begins_added (hosted_of a) name (judged_in (hosted_of a) name s t).1 n up);
       others = λ n apart. others n (other_name name n apart);

@@ -1,5 +1,5 @@
 -- The sessions that a turn may have something for.
---     due_back .. due_more, due_end   the places are gathered one by one
+--     due_back, due_here              one place before others, or none
 --     due_alone .. due_none           those of one session, of all, and of none
 --     due_set                         sending to a seat in front changes nothing of those behind
 --     gap_sent, gap_after             nothing is sent to those between, and they stay
@@ -7,6 +7,8 @@
 --     end_sent, end_after, quiet_from nothing is sent to those behind the last
 --     got_within .. none_behind       elements at places
 --     told_more, told_all             those who were sent all
+--     among_more .. among_apart       the places of the due are gathered one by one
+--     due_all                         they are the due
 use Rattle.std.proofs.Common.{◌≡◌, ◌≢◌, ◌+◌, ◌<◌, ◌≤◌, ◌⊎◌, inl, inr, ℕ, zero, suc, Bool, true, false, cond, ◌||◌, ◌==◌, List, [], ◌∷◌, ◌++◌, length, map, take, drop, slice_get, slice_set, get_or, Result, Ok, Err, OnOk, Some, refl, sym, ap, subst, ◌∙◌, arith, add-one, append_assoc, append-nil, true≢false}
 use Rattle.std.specs.List.{All}
 use Rattle.std.proofs.lemmas.List.Elements.{All-head, All-tail}
@@ -16,7 +18,7 @@ use Rattle.session_core.specs.Access.{Shown}
 use Rattle.pipe_machine.specs.declared.due.Due.{Due}
 use Rattle.pipe_machine.specs.declared.due.Due.TheVariants.{Nobody, Seat as OwnSeat, Everybody}
 use Rattle.pipe_machine.specs.declared.seats.Seat.{Seat}
-use Rattle.pipe_machine.specs.Due.{is_due, is_told, are_told, AreToldFrom, IsDueAlone, AreTheDue, reach}
+use Rattle.pipe_machine.specs.Due.{is_due, due_among, is_told, are_told, AreToldFrom, IsDueAlone, AreTheDue, reach}
 use Rattle.pipe_machine.specs.Lines.{sent_to}
 use Rattle.pipe_machine.specs.Seats.{seats_sent, seats_after, IsPlain}
 use Rattle.pipe_machine.proofs.Quiet.{IsQuiet, quiet_seat}
@@ -82,16 +84,6 @@ module _ (c : Shown) where
 
   pub due_here : (i : ℕ) (ps : List ℕ) (ss : List Seat) → i < length ss → AreTheDue c (i + 1) ps ss → AreTheDue c i (i ∷ ps) ss
   due_here i ps ss within due = (omega arith, within, (λ k s low high got. absurd (omega (arith, low, high))), due)
-
-  pub due_more : (due : Due) (i : ℕ) (ss : List Seat) (s : Seat) (items all : List ℕ) (t : Bool) → IsDueAlone c due ss → slice_get ss i ≡ Some s → t ≡ is_due due i s → all ≡ items ++ cond t (i ∷ []) []
-      → ((rest : List ℕ) → AreTheDue c i rest ss → AreTheDue c 0 (items ++ rest) ss) → (rest : List ℕ) → AreTheDue c (i + 1) rest ss → AreTheDue c 0 (all ++ rest) ss
-  due_more due i ss s items all true alone got is e before rest behind =
-      subst (λ ps. AreTheDue c 0 ps ss) (sym (ap (λ l. l ++ rest) e ∙ append_assoc items (i ∷ []) rest)) (before (i ∷ rest) (due_here i rest ss (got_within ss i s got) behind))
-  due_more due i ss s items all false alone got is e before rest behind =
-      subst (λ ps. AreTheDue c 0 ps ss) (sym (ap (λ l. l ++ rest) (e ∙ append-nil items))) (before rest (due_back i rest ss s got (alone i s got (sym is)) behind))
-
-  pub due_end : (ss : List Seat) → AreTheDue c (length ss) [] ss
-  due_end ss k s low high got = absurd (omega (arith, low, high))
 
   other : (k i : ℕ) → k ≢ i → (k == i) ≡ false
   other k i n = go (k == i) refl
@@ -236,3 +228,61 @@ next_at {A} xs k x e = go xs k e ∙ ap (λ n. x ∷ drop n xs) (sym (add-one k)
     go [] n h = absurd cc
     go (y ∷ ys) zero h = ap (λ z. z ∷ ys) (some_same y x h)
     go (y ∷ ys) (suc n) h = go ys n h
+
+-- ---- the places of the due
+
+pub none_left : {A : Type 0} (xs : List A) (k : ℕ) → length xs ≤ k → drop k xs ≡ []
+none_left [] zero h = refl
+none_left [] (suc k) h = refl
+none_left (x ∷ xs) zero h = absurd (omega (arith, h))
+none_left (x ∷ xs) (suc k) h = none_left xs k (omega (arith, h))
+
+one_on : (f i : ℕ) → f + i + 1 ≡ f + (i + 1)
+one_on f i = omega arith
+
+pub among_more : (due : Due) (f i : ℕ) (ss : List Seat) (s : Seat) (all items new : List ℕ) (t : Bool) → slice_get ss i ≡ Some s → t ≡ is_due due (f + i) s → new ≡ items ++ cond t ((f + i) ∷ []) []
+    → all ≡ items ++ due_among due (f + i) (drop i ss) → all ≡ new ++ due_among due (f + (i + 1)) (drop (i + 1) ss)
+among_more due f i ss s all items new t got is put before =
+    let here = cond (is_due due (f + i) s) ((f + i) ∷ []) [] in
+    let rest = due_among due (f + (i + 1)) (drop (i + 1) ss) in
+    before ∙ ap (λ (l : List Seat). items ++ due_among due (f + i) l) (next_at ss i s got)
+    ∙ ap (λ (n : ℕ). items ++ (here ++ due_among due n (drop (i + 1) ss))) (one_on f i)
+    ∙ sym (append_assoc items here rest) ∙ ap (λ (l : List ℕ). l ++ rest) (sym (put ∙ ap (λ (b : Bool). items ++ cond b ((f + i) ∷ []) []) is))
+
+no_more : (i : ℕ) → i ≡ i + 0
+no_more i = omega arith
+
+one_less : (i n : ℕ) → i + 1 + n ≡ i + suc n
+one_less i n = omega arith
+
+pub among_apart : (due : Due) (i : ℕ) (xs ys : List Seat) → due_among due i (xs ++ ys) ≡ due_among due i xs ++ due_among due (i + length xs) ys
+among_apart due i [] ys = ap (λ (n : ℕ). due_among due n ys) (no_more i)
+among_apart due i (x ∷ xs) ys =
+    let here = cond (is_due due i x) (i ∷ []) [] in
+    ap (λ (l : List ℕ). here ++ l) (among_apart due (i + 1) xs ys ∙ ap (λ (n : ℕ). due_among due (i + 1) xs ++ due_among due n ys) (one_less i (length xs)))
+    ∙ sym (append_assoc here (due_among due (i + 1) xs) (due_among due (i + length (x ∷ xs)) ys))
+
+head_at : (i : ℕ) (x : Seat) (xs ss : List Seat) → drop i ss ≡ x ∷ xs → slice_get ss i ≡ Some x
+head_at zero x xs [] e = absurd cc
+head_at zero x xs (y ∷ ss) e = cc
+head_at (suc i) x xs [] e = absurd cc
+head_at (suc i) x xs (y ∷ ss) e = head_at i x xs ss e
+
+same_tail : (x : Seat) (xs ys zs : List Seat) → zs ≡ x ∷ xs → zs ≡ x ∷ ys → ys ≡ xs
+same_tail x xs ys zs e f = cc
+
+all_left : (i : ℕ) (ss : List Seat) → drop i ss ≡ [] → length ss ≤ i
+all_left i [] e = omega arith
+all_left zero (s ∷ ss) e = absurd cc
+all_left (suc i) (s ∷ ss) e = let rest = all_left i ss e in omega (arith, rest)
+
+module _ (c : Shown) where
+  pub due_all : (due : Due) (i : ℕ) (xs ss : List Seat) → drop i ss ≡ xs → IsDueAlone c due ss → AreTheDue c i (due_among due i xs) ss
+  due_all due i [] ss e alone = λ k s low high got. let left = all_left i ss e in absurd (omega (arith, low, high, left))
+  due_all due i (x ∷ xs) ss e alone =
+      let at = head_at i x xs ss e in
+      go at (is_due due i x) refl (due_all due (i + 1) xs ss (same_tail x xs (drop (i + 1) ss) (drop i ss) e (next_at ss i x at)) alone)
+    where
+      go : slice_get ss i ≡ Some x → (t : Bool) → is_due due i x ≡ t → AreTheDue c (i + 1) (due_among due (i + 1) xs) ss → AreTheDue c i (cond t (i ∷ []) [] ++ due_among due (i + 1) xs) ss
+      go at true f rest = due_here c i (due_among due (i + 1) xs) ss (got_within ss i x at) rest
+      go at false f rest = due_back c i (due_among due (i + 1) xs) ss x at (alone i x at f) rest

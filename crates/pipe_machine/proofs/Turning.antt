@@ -24,11 +24,12 @@ use Rattle.line_loop.specs.declared.line_machine.TurnFault.{TurnFault}
 use Rattle.line_loop.specs.declared.line_machine.TurnFault.TheVariants.{Store}
 use Rattle.pipe_machine.specs.declared.pipe.PipeMachine.{PipeMachine}
 use Rattle.pipe_machine.specs.Pipes.{pipe_of, faults_where, store_faults, StandsAlong, IsCalm, IsReached, IsTried}
-use Rattle.pipe_machine.specs.Keeping.{submits_to, submitted_in, IsFileAmong, StandsForEither, AreStepped, IsMoved, IsEnded}
+use Rattle.pipe_machine.specs.Keeping.{Begins, submits_to, submitted_in, IsFileAmong, StandsForEither, AreBegun, AreStepped, IsMoved, IsEnded}
 use Rattle.pipe_machine.specs.Lines.{lines_of}
 use Rattle.pipe_machine.specs.Machine.{Pipe, Answer, delivered, turned, turn, sent, after}
 use Rattle.pipe_machine.proofs.Gathering.{lines_append}
 use Rattle.pipe_machine.proofs.Moving.{begins_on}
+use Rattle.pipe_machine.proofs.Trying.{begun_more, begun_both}
 
 pub after_more : (p : Pipe) (ts : List Turn) (time : ℕ) (line : List ℕ) → after p (ts ++ turn_at time line ∷ []) ≡ (turn (after p ts) time line).pipe
 after_more p [] time line = refl
@@ -119,9 +120,9 @@ module _ {F D : Type 0} {folder : folder_of.Ghosts F D} {disk : disk_of.Ghosts D
     later = omega (arith, m.later, n.later);
   }
 
-  pub reached_more : (a m b : PipeMachine F D folder disk) (ts : List Turn) (time : ℕ) (line : List ℕ) → IsReached a ts m → pipe_of b ≡ (turn (pipe_of m) time line).pipe → (IsCalm m → IsCalm b)
+  pub reached_more : (a m b : PipeMachine F D folder disk) (ts : List Turn) (time : ℕ) (line : List ℕ) → IsReached a ts m → pipe_of b ≡ (turn (pipe_of m) time line).pipe → (IsCalm m → IsCalm b) → ((n : Key) → Begins (deltas_in (hosted_of m.shelf) n) (deltas_in (hosted_of b.shelf) n))
       → AreStepped m.shelf b.shelf (turn (pipe_of m) time line).pipe.hosted → IsReached a (ts ++ turn_at time line ∷ []) b
-  reached_more a m b ts time line r is calm stepped =
+  reached_more a m b ts time line r is calm grows stepped =
       let p = pipe_of a in
       let next = (turn (pipe_of m) time line).pipe.hosted in
       let leads : after p (ts ++ turn_at time line ∷ []) ≡ (turn (pipe_of m) time line).pipe = after_more p ts time line ∙ ap (λ q. (turn q time line).pipe) r.pipe in
@@ -132,18 +133,20 @@ module _ {F D : Type 0} {folder : folder_of.Ghosts F D} {disk : disk_of.Ghosts D
             let along = StandsAlong p n (ts ++ turn_at time line ∷ []) in
             let one = written_more (StandsAlong p n ts) along (along_more p n ts (turn_at time line ∷ [])) (container_in a.shelf n) (container_in m.shelf n) (r.moments c n) in
             let two = written_more (StandsForEither n (deltas_in (hosted_of m.shelf) n) (deltas_in next n)) along (along_step p n ts (turn_at time line) (pipe_of m).hosted next (ap (λ (q : Pipe). q.hosted) r.pipe) (ap (λ (q : Pipe). q.hosted) leads))
-            (container_in m.shelf n) (container_in b.shelf n) (stepped (r.calm c).0 (r.calm c).1 n) in
+            (container_in m.shelf n) (container_in b.shelf n) (stepped.moments (r.calm c).0 (r.calm c).1 n) in
             written_both along (container_in a.shelf n) (container_in m.shelf n) (container_in b.shelf n) one two;
+        begun = begun_both a.shelf m.shelf b.shelf (hosted_of b.shelf) (begun_more a.shelf m.shelf (hosted_of m.shelf) (hosted_of b.shelf) grows r.begun)
+            (subst (λ hs. AreBegun m.shelf b.shelf hs) (sym (ap (λ (q : Pipe). q.hosted) is)) stepped.begun);
       }
 
   pub reached_after : {A : Type 0} (r : Result A TurnFault) (a b : PipeMachine F D folder disk) (may : Key → Bool) (time : ℕ) (line : List ℕ) → OnOk r (pipe_of b ≡ (turn (pipe_of a) time line).pipe)
       → IsMoved may a.shelf b.shelf → IsEnded a.shelf b.shelf (turn (pipe_of a) time line).pipe.hosted r → OnOk r ((start : PipeMachine F D folder disk) (ts : List Turn) → IsReached start ts a → IsReached start (ts ++ turn_at time line ∷ []) b)
-  reached_after (Ok x) a b may time line is moved ended = λ start ts r. reached_more start a b ts time line r is (λ calm. (moved.kept calm.0, ended.settled calm.0 calm.1)) ended.moments
+  reached_after (Ok x) a b may time line is moved ended = λ start ts r. reached_more start a b ts time line r is (λ calm. (moved.kept calm.0, ended.settled calm.0 calm.1)) moved.grown ended.stepped
   reached_after (Err e) a b may time line is moved ended = tt
 
   pub tried_after : {A : Type 0} (r : Result A TurnFault) (a b : PipeMachine F D folder disk) (time : ℕ) (line : List ℕ) → IsEnded a.shelf b.shelf (turn (pipe_of a) time line).pipe.hosted r → OnErr r (IsTried a (turn_at time line) b)
   tried_after (Ok x) a b time line ended = tt
-  tried_after (Err e) a b time line ended = record { to = ended.tried; moments = ended.moments }
+  tried_after (Err e) a b time line ended = record { to = ended.tried; stepped = ended.stepped }
 
   pub faults_later : (a b : Shelf F D folder disk) (may : Key → Bool) → IsMoved may a b → store_faults a ≤ store_faults b
   faults_later a b may m = where_later (in_folder a) (in_folder b) (fault_count a) (fault_count b) (used_there folder (IsFileAmong may) (in_folder a) (in_folder b) m.used) m.later

@@ -1,6 +1,7 @@
 -- Whom a turn may have something for.
 --     is_open n s             the session of a seat has the wavelet open
 --     is_due d i s            the seat at this place is due
+--     due_among d i ss        the places of the due among these, of which the first has this place
 --     due_at i o              whom there may be something for after the reply to the session there, where this wavelet may have changed
 --     is_told c s             the session of a seat was sent all that there is of what it has open, as the copies are
 --     are_told c ss           so was each
@@ -8,7 +9,7 @@
 --     IsDueAlone c d ss       so was each that isn't due
 --     AreTheDue c i ps ss     these places ascend, and from i on so was each that isn't at one of them
 --     reach i ps              the place behind the last of these, or i
-use Rattle.std.specs.Prelude.{◌≡◌, ℕ, ◌+◌, ◌<◌, ◌≤◌, ◌==◌, Bool, true, false, ◌||◌, List, [], ◌∷◌, length, slice_get, Option, None, Some, is_some}
+use Rattle.std.specs.Prelude.{◌≡◌, ℕ, ◌+◌, ◌<◌, ◌≤◌, ◌==◌, Bool, true, false, ◌||◌, cond, List, [], ◌∷◌, ◌++◌, length, slice_get, Option, None, Some, is_some}
 use Rattle.std.specs.List.{list_all}
 use Rattle.doc_items.specs.Maps.{Key}
 use Rattle.session_core.specs.Access.{Shown}
@@ -26,6 +27,10 @@ is_due Nobody i s = false
 is_due (OwnSeat own) i s = i == own
 is_due (Openers own name) i s = (i == own) || is_open name s
 is_due Everybody i s = true
+
+abbrev pub due_among : Due → ℕ → List Seat → List ℕ
+due_among d i [] = []
+due_among d i (s ∷ ss) = cond (is_due d i s) (i ∷ []) [] ++ due_among d (i + 1) ss
 
 abbrev pub due_at : ℕ → Option Key → Due
 due_at own None = OwnSeat own

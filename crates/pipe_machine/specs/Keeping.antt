@@ -10,10 +10,13 @@
 --     IsFileOfEither n ds es c    as it reads, and in each image, the container's file stands for the one history or the other
 --     AreWrittenOn a b P  the files of all containers were written on, and a crash since then left what it might have left before, or what
 --                         has P of the name
---     AreStepped a b hs   so were they by a step that leads to these histories, and each crash left the history of before, or that
+--     IsFileWith hs m     this is the file of a name that has a delta in these histories
+--     AreBegun a b hs     files and containers came for names alone that have a delta in these histories
+--     AreStepped a b hs   they were written on by a step that leads to these histories, each crash left the history of before, or that,
+--                         nothing came for names without a delta, and a file that is no container's is as it was, or emptied
 --     IsTriedTo a b hs    a step was tried that leads to these histories: there are those of before, or these, and so it is with each file
 --     IsEnded a b hs r    no repair waits after it; or why it failed, and that it was tried
-use Rattle.std.specs.Prelude.{◌≡◌, ◌⊎◌, ◌≤◌, ℕ, List, ◌++◌, Bool, true, false, Result, Ok, Err, IsSome, IfSome, OnOk, OnErr, IsErrOf}
+use Rattle.std.specs.Prelude.{◌≡◌, ◌≢◌, ◌⊎◌, ◌≤◌, ℕ, List, [], ◌++◌, Bool, true, false, Result, Ok, Err, IsSome, IfSome, OnOk, OnErr, IsErrOf}
 use Rattle.std.specs.List.{list_any}
 use Rattle.doc_items.specs.Maps.{Key, same_text}
 use Rattle.wavelet_op.specs.Deltas.{DeltaOf}
@@ -30,9 +33,9 @@ use Rattle.wavelet_container.specs.Records.{StandsForHistory}
 use Rattle.wavelet_container.specs.declared.container.Container.{Container}
 use Rattle.wavelet_shelf.specs.Entries.{IsWrittenOn}
 use Rattle.wavelet_shelf.specs.FileNames.{file_name_of}
-use Rattle.wavelet_shelf.specs.Folders.{IsUsedIn}
+use Rattle.wavelet_shelf.specs.Folders.{IsUsedIn, IsUnmadeIn}
 use Rattle.wavelet_shelf.specs.Hosting.{Hosted, deltas_in}
-use Rattle.wavelet_shelf.specs.Shelves.{hosted_of, in_folder, container_in, fault_count, IsKept, IsSettled}
+use Rattle.wavelet_shelf.specs.Shelves.{hosted_of, in_folder, container_in, fault_count, IsKept, IsSettled, HasFile}
 use Rattle.wavelet_shelf.specs.declared.shelf.Shelf.{Shelf}
 use Rattle.session_core.specs.declared.request.Request.{Request}
 use Rattle.session_core.specs.declared.request.Request.TheVariants as ask
@@ -87,6 +90,9 @@ IsFileAmong may m = (n : Key) × (may n ≡ true) × (m ≡ file_name_of n)
 abbrev pub StandsForEither : Key → List DeltaOf → List DeltaOf → List ℕ → Type 0
 StandsForEither n ds es bytes = StandsForHistory n ds bytes ⊎ StandsForHistory n es bytes
 
+abbrev pub IsFileWith : List Hosted → List ℕ → Type 0
+IsFileWith hs m = (n : Key) × (deltas_in hs n ≢ []) × (m ≡ file_name_of n)
+
 module _ {D : Type 0} {disk : disk_of.Ghosts D} where
   abbrev pub IsFileOfEither : Key → List DeltaOf → List DeltaOf → Container D disk → Type 0
   IsFileOfEither n ds es c = IfSome (journal_of c) (λ j. Kept (on_disk j) (StandsForEither n ds es))
@@ -102,8 +108,14 @@ module _ {F D : Type 0} {folder : folder_of.Ghosts F D} {disk : disk_of.Ghosts D
   abbrev pub AreWrittenOn : Shelf F D folder disk → Shelf F D folder disk → (Key → List ℕ → Type 0) → Type 0
   AreWrittenOn a b P = (n : Key) → IsWrittenOn (container_in a n) (container_in b n) (P n)
 
-  abbrev pub AreStepped : Shelf F D folder disk → Shelf F D folder disk → List Hosted → Type 0
-  AreStepped a b after = IsKept a → IsSettled a → AreWrittenOn a b (λ n. StandsForEither n (deltas_in (hosted_of a) n) (deltas_in after n))
+  pub record AreBegun (a b : Shelf F D folder disk) (hs : List Hosted) : Type 0 where
+    pub files : IsUsedIn folder (IsFileWith hs) (in_folder a) (in_folder b)
+    pub names : (n : Key) → IsSome (container_in b n) → IsSome (container_in a n) ⊎ (deltas_in hs n ≢ [])
+
+  pub record AreStepped (a b : Shelf F D folder disk) (after : List Hosted) : Type 0 where
+    pub moments : IsKept a → IsSettled a → AreWrittenOn a b (λ n. StandsForEither n (deltas_in (hosted_of a) n) (deltas_in after n))
+    pub begun : AreBegun a b after
+    pub unmade : (m : List ℕ) → (HasFile b m → ⊥) → IsUnmadeIn folder disk m (in_folder a) (in_folder b)
 
   pub record IsTriedTo (a b : Shelf F D folder disk) (after : List Hosted) : Type 0 where
     pub hosted : (hosted_of b ≡ hosted_of a) ⊎ (hosted_of b ≡ after)
@@ -114,4 +126,4 @@ module _ {F D : Type 0} {folder : folder_of.Ghosts F D} {disk : disk_of.Ghosts D
     pub failed : IsErrOf r Store → Rose (fault_count a) (fault_count b)
     pub store : IsErrOf r Store → IsSome (in_folder a)
     pub tried : OnErr r (IsTriedTo a b after)
-    pub moments : AreStepped a b after
+    pub stepped : AreStepped a b after

@@ -2,6 +2,7 @@ pub mod Lines
 pub mod Updates
 pub mod Due
 pub mod Seats
+pub mod Runs
 pub mod Machine
 pub mod Meant
 pub mod Keeping

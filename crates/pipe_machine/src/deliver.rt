@@ -1,5 +1,6 @@
 // What is new to each session.
-ghost use Rattle.std.specs.Prelude.{◌≡◌, ◌++◌, map, true, IfOk, OnOk};
+ghost use Rattle.std.specs.Prelude.{◌≡◌, ◌<◌, ◌++◌, length, slice_set, map, true, IfOk, OnOk};
+ghost use Rattle.pipe_machine.specs.Runs.{seats_in};
 ghost use Rattle.std.specs.List.{All};
 ghost use Rattle.message_json.specs.Write.{IsShort};
 ghost use Rattle.session_core.specs.Deliveries.{delivered, after_delivery};
@@ -9,10 +10,11 @@ ghost use Rattle.wavelet_shelf.specs.Shelves.{hosted_of};
 ghost use Rattle.pipe_machine.specs.Due.{is_told, are_told, AreTheDue};
 ghost use Rattle.pipe_machine.specs.Lines.{sent_to, lines_of};
 ghost use Rattle.hosted_copies.specs.Shown.{shown_in};
-ghost use Rattle.pipe_machine.specs.Seats.{seat_after, seats_sent, seats_after, IsPlain};
+ghost use Rattle.pipe_machine.specs.Seats.{seat_after, seat_in, seats_sent, seats_after, IsPlain};
 ghost use Rattle.pipe_machine.specs.Updates.{IsLast};
 
 use crate::lines::{Update, push_news};
+use crate::runs::{Run, Seats};
 use crate::seats::Seat;
 use doc_items::Memory;
 use session_core::{News, Session};
@@ -64,25 +66,57 @@ fn deliver_to<'a, F: Folder>(
     Ok(last)
 }
 
-// Appends what is new to each session of some seats, in order. Only those at these places may lack something.
+// The same at a place among runs.
+fn deliver_at<'a, F: Folder>(
+    alloc: Global,
+    shelf: &'a Shelf<F>,
+    runs: &mut [Run],
+    place: usize,
+    last: Option<Update<'a>>,
+    out: &mut Vec<u8>,
+) -> Result<Option<Update<'a>>, Memory>
+    requires inside { place < length (seats_in runs.old) }
+    requires plain { IsPlain (seat_in place (seats_in runs.old)).session }
+    requires last { IsLast (shown_in (hosted_of shelf.now)) last }
+    ensures sent { OnOk result (out.new.items ≡ out.old.items ++ lines_of (map (sent_to (seat_in place (seats_in runs.old)).name) (delivered (shown_in (hosted_of shelf.entry.now)) (seat_in place (seats_in runs.old)).session))) }
+    ensures after { OnOk result (seat_in place (seats_in runs.new) ≡ seat_after (shown_in (hosted_of shelf.entry.now)) (seat_in place (seats_in runs.old))) }
+    ensures told { OnOk result (is_told (shown_in (hosted_of shelf.entry.now)) (seat_in place (seats_in runs.new)) ≡ true) }
+    ensures changed { seats_in runs.new ≡ slice_set (seats_in runs.old) place (seat_in place (seats_in runs.new)) }
+    ensures name { (seat_in place (seats_in runs.new)).name ≡ (seat_in place (seats_in runs.old)).name }
+    ensures last { IfOk result (λ o. IsLast (shown_in (hosted_of shelf.entry.now)) o) }
+    ensures plain { IsPlain (seat_in place (seats_in runs.new)).session }
+{
+    let Some((first, rest)) = runs.split_first_mut() else {
+        unreachable!()
+    };
+    let count = first.seats.len();
+    if place < count {
+        deliver_to(alloc, shelf, &mut first.seats[place], last, out)
+    } else {
+        deliver_at(alloc, shelf, rest, place - count, last, out)
+    }
+}
+
+// Appends what is new to each session of the seats of runs, in order. Only those at these places may lack something.
 fn deliver_each<F: Folder>(
     alloc: Global,
     shelf: &Shelf<F>,
-    seats: &mut [Seat],
+    runs: &mut [Run],
     places: &[usize],
     out: &mut Vec<u8>,
 ) -> Result<(), Memory>
-    requires plain { All (λ s. IsPlain s.session) seats.old }
-    requires due { AreTheDue (shown_in (hosted_of shelf.now)) 0 places.now seats.old }
-    ensures sent { OnOk result (out.new.items ≡ out.old.items ++ lines_of (seats_sent (shown_in (hosted_of shelf.now)) seats.old)) }
-    ensures after { OnOk result (seats.new ≡ seats_after (shown_in (hosted_of shelf.now)) seats.old) }
-    ensures told { OnOk result (are_told (shown_in (hosted_of shelf.now)) seats.new ≡ true) }
-    ensures plain { All (λ s. IsPlain s.session) seats.new }
-    ensures names { map (λ s. s.name) seats.new ≡ map (λ s. s.name) seats.old }
+    requires plain { All (λ s. IsPlain s.session) (seats_in runs.old) }
+    requires due { AreTheDue (shown_in (hosted_of shelf.now)) 0 places.now (seats_in runs.old) }
+    ensures sent { OnOk result (out.new.items ≡ out.old.items ++ lines_of (seats_sent (shown_in (hosted_of shelf.now)) (seats_in runs.old))) }
+    ensures after { OnOk result (seats_in runs.new ≡ seats_after (shown_in (hosted_of shelf.now)) (seats_in runs.old)) }
+    ensures told { OnOk result (are_told (shown_in (hosted_of shelf.now)) (seats_in runs.new) ≡ true) }
+    ensures plain { All (λ s. IsPlain s.session) (seats_in runs.new) }
+    ensures names { map (λ s. s.name) (seats_in runs.new) ≡ map (λ s. s.name) (seats_in runs.old) }
+    ensures count { length (seats_in runs.new) ≡ length (seats_in runs.old) }
 {
     let mut last = None;
     for place in places {
-        last = deliver_to(alloc, shelf, &mut seats[*place], last, out)?;
+        last = deliver_at(alloc, shelf, runs, *place, last, out)?;
     }
     Ok(())
 }
@@ -91,17 +125,17 @@ fn deliver_each<F: Folder>(
 pub fn deliver<F: Folder>(
     alloc: Global,
     shelf: &Shelf<F>,
-    seats: &mut Vec<Seat>,
+    seats: &mut Seats,
     places: &[usize],
     out: &mut Vec<u8>,
 ) -> Result<(), Memory>
-    requires plain { All (λ s. IsPlain s.session) seats.old.items }
-    requires due { AreTheDue (shown_in (hosted_of shelf.now)) 0 places.now seats.old.items }
-    ensures sent { OnOk result (out.new.items ≡ out.old.items ++ lines_of (seats_sent (shown_in (hosted_of shelf.now)) seats.old.items)) }
-    ensures after { OnOk result (seats.new.items ≡ seats_after (shown_in (hosted_of shelf.now)) seats.old.items) }
-    ensures told { OnOk result (are_told (shown_in (hosted_of shelf.now)) seats.new.items ≡ true) }
-    ensures plain { All (λ s. IsPlain s.session) seats.new.items }
-    ensures names { map (λ s. s.name) seats.new.items ≡ map (λ s. s.name) seats.old.items }
+    requires plain { All (λ s. IsPlain s.session) (seats_in seats.old.runs.items) }
+    requires due { AreTheDue (shown_in (hosted_of shelf.now)) 0 places.now (seats_in seats.old.runs.items) }
+    ensures sent { OnOk result (out.new.items ≡ out.old.items ++ lines_of (seats_sent (shown_in (hosted_of shelf.now)) (seats_in seats.old.runs.items))) }
+    ensures after { OnOk result (seats_in seats.new.runs.items ≡ seats_after (shown_in (hosted_of shelf.now)) (seats_in seats.old.runs.items)) }
+    ensures told { OnOk result (are_told (shown_in (hosted_of shelf.now)) (seats_in seats.new.runs.items) ≡ true) }
+    ensures plain { All (λ s. IsPlain s.session) (seats_in seats.new.runs.items) }
+    ensures names { map (λ s. s.name) (seats_in seats.new.runs.items) ≡ map (λ s. s.name) (seats_in seats.old.runs.items) }
 {
-    deliver_each(alloc, shelf, seats.as_mut_slice(), places, out)
+    deliver_each(alloc, shelf, seats.runs.as_mut_slice(), places, out)
 }

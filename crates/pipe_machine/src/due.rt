@@ -1,11 +1,13 @@
 // Whom a turn may have something for.
-ghost use Rattle.std.specs.Prelude.{◌≡◌, ◌++◌, ◌∷◌, [], cond, false, IfOk, OnOk};
+ghost use Rattle.std.specs.Prelude.{◌≡◌, ◌+◌, ◌<◌, ◌^◌, ◌++◌, ◌∷◌, [], cond, length, false, IfOk, OnOk};
 ghost use Rattle.std.specs.Option.{option_map_or};
 ghost use Rattle.doc_items.specs.Maps.{Key, same_text};
 ghost use Rattle.session_core.specs.Access.{Shown};
-ghost use Rattle.pipe_machine.specs.Due.{is_open, is_due, IsDueAlone, AreTheDue};
+ghost use Rattle.pipe_machine.specs.Due.{is_open, is_due, due_among, IsDueAlone, AreTheDue};
+ghost use Rattle.pipe_machine.specs.Runs.{seats_in};
 ghost use Rattle.pipe_machine.specs.Keeping.{submits};
 
+use crate::runs::Seats;
 use crate::seats::Seat;
 use doc_items::Memory;
 use std::alloc::Global;
@@ -78,31 +80,46 @@ fn push_if(list: &mut Vec<usize>, place: usize, due: bool) -> Result<(), Memory>
     Ok(())
 }
 
+// Appends the places of the due among these seats, of which the first has this place.
+fn push_due(seats: &[Seat], first: usize, due: &Due, places: &mut Vec<usize>) -> Result<(), Memory>
+    requires within { first + length seats.now < 2 ^ 64 }
+    ensures { OnOk result (places.new.items ≡ places.old.items ++ due_among due.now first seats.now) }
+{
+    for index in 0..seats.len() {
+        let seat = &seats[index];
+        push_if(places, first + index, is_due(due, first + index, seat))?;
+    }
+    Ok(())
+}
+
 // The places of the due among all seats.
-fn places_among(alloc: Global, seats: &[Seat], due: &Due) -> Result<Vec<usize>, Memory>
-    ensures { IfOk result (λ places. (c : Shown) → IsDueAlone c due.now seats.now → AreTheDue c 0 places.items seats.now) }
+fn places_among(alloc: Global, seats: &Seats, due: &Due) -> Result<Vec<usize>, Memory>
+    ensures { IfOk result (λ places. (c : Shown) → IsDueAlone c due.now (seats_in seats.now.runs.items) → AreTheDue c 0 places.items (seats_in seats.now.runs.items)) }
 {
     let mut places = Vec::new(alloc);
-    for place in 0..seats.len() {
-        push_if(&mut places, place, is_due(due, place, &seats[place]))?;
+    let mut first = 0usize;
+    for run in seats.runs.as_slice() {
+        let count = run.seats.len();
+        push_due(run.seats.as_slice(), first, due, &mut places)?;
+        first += count;
     }
     Ok(places)
 }
 
 // The place alone, where there is a seat.
-fn place_alone(alloc: Global, seats: &[Seat], place: usize) -> Result<Vec<usize>, Memory>
-    ensures { IfOk result (λ places. (c : Shown) → IsDueAlone c (Due.Seat place) seats.now → AreTheDue c 0 places.items seats.now) }
+fn place_alone(alloc: Global, seats: &Seats, place: usize) -> Result<Vec<usize>, Memory>
+    ensures { IfOk result (λ places. (c : Shown) → IsDueAlone c (Due.Seat place) (seats_in seats.now.runs.items) → AreTheDue c 0 places.items (seats_in seats.now.runs.items)) }
 {
     let mut places = Vec::new(alloc);
-    if place < seats.len() {
+    if place < seats.count {
         places.push(place)?;
     }
     Ok(places)
 }
 
 /// The places of the seats that are due, ascending.
-pub fn places_due(alloc: Global, seats: &[Seat], due: &Due) -> Result<Vec<usize>, Memory>
-    ensures { IfOk result (λ places. (c : Shown) → IsDueAlone c due.now seats.now → AreTheDue c 0 places.items seats.now) }
+pub fn places_due(alloc: Global, seats: &Seats, due: &Due) -> Result<Vec<usize>, Memory>
+    ensures { IfOk result (λ places. (c : Shown) → IsDueAlone c due.now (seats_in seats.now.runs.items) → AreTheDue c 0 places.items (seats_in seats.now.runs.items)) }
 {
     match due {
         Due::Nobody => Ok(Vec::new(alloc)),

@@ -9,6 +9,7 @@ mod lines;
 mod machine;
 mod pipe;
 mod reply;
+mod runs;
 mod seats;
 
 pub use laws::{sent_is_held, sent_is_meant};

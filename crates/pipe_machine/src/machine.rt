@@ -8,13 +8,14 @@ ghost use Rattle.pipe_machine.specs.Lines.{lines_of};
 ghost use Rattle.hosted_copies.specs.Shown.{shown_in};
 ghost use Rattle.pipe_machine.specs.Machine.{start, served, refusal, answered, delivered, turn};
 ghost use Rattle.pipe_machine.specs.Pipes.{pipe_of};
+ghost use Rattle.pipe_machine.specs.Runs.{seats_in};
 
 use crate::deliver::deliver;
 use crate::due::{Due, changed_by, places_due};
 use crate::lines::{push_line, push_reply, push_unnamed};
 use crate::pipe::PipeMachine;
-use crate::reply::reply;
-use crate::seats::seat_of;
+use crate::reply::reply_at;
+use crate::runs::{Seats, seat_at};
 use doc_items::Memory;
 use line_loop::{LineMachine, TurnFault};
 use session_core::reason_of;
@@ -65,7 +66,7 @@ impl<F: Folder + Drop> PipeMachine<F> {
     {
         PipeMachine {
             shelf,
-            seats: Vec::new(alloc),
+            seats: Seats::new(alloc),
             behind: false,
         }
     }
@@ -83,13 +84,20 @@ impl<F: Folder + Drop> PipeMachine<F> {
         ensures sent { OnOk result (out.new.items ≡ out.old.items ++ lines_of (served (pipe_of self.old) time name message).sent) }
         ensures moved { IsMoved (submits message) self.old.shelf self.new.shelf }
         ensures ended { IsEnded self.old.shelf self.new.shelf (served (pipe_of self.old) time name message).pipe.hosted result }
-        ensures due { IfOk result (λ due. are_told (shown_in (hosted_of self.old.shelf)) self.old.seats.items ≡ true → IsDueAlone (shown_in (hosted_of self.new.shelf)) due self.new.seats.items) }
+        ensures due { IfOk result (λ due. are_told (shown_in (hosted_of self.old.shelf)) (seats_in self.old.seats.runs.items) ≡ true → IsDueAlone (shown_in (hosted_of self.new.shelf)) due (seats_in self.new.seats.runs.items)) }
     {
         let changed = changed_by(alloc, &message)?;
         self.behind = true;
-        let place = seat_of(alloc, &mut self.seats, name)?;
-        let seat = &mut self.seats[place];
-        let reply = reply(alloc, &mut self.shelf, &mut seat.session, message, time)?;
+        let place = self.seats.seat_of(alloc, name)?;
+        let reply = reply_at(
+            alloc,
+            &mut self.shelf,
+            &mut self.seats,
+            place,
+            message,
+            time,
+        )?;
+        let seat = seat_at(self.seats.runs.as_slice(), place);
         push_reply(alloc, &seat.name, &reply, out)?;
         Ok(due_at(place, changed))
     }
@@ -106,7 +114,7 @@ impl<F: Folder + Drop> PipeMachine<F> {
         ensures sent { OnOk result (out.new.items ≡ out.old.items ++ lines_of (answered (pipe_of self.old) time line.now).sent) }
         ensures moved { IsMoved (submits_to line.now) self.old.shelf self.new.shelf }
         ensures ended { IsEnded self.old.shelf self.new.shelf (answered (pipe_of self.old) time line.now).pipe.hosted result }
-        ensures due { IfOk result (λ due. are_told (shown_in (hosted_of self.old.shelf)) self.old.seats.items ≡ true → IsDueAlone (shown_in (hosted_of self.new.shelf)) due self.new.seats.items) }
+        ensures due { IfOk result (λ due. are_told (shown_in (hosted_of self.old.shelf)) (seats_in self.old.seats.runs.items) ≡ true → IsDueAlone (shown_in (hosted_of self.new.shelf)) due (seats_in self.new.seats.runs.items)) }
     {
         match read_line(alloc, line) {
             Ok(line) => {
@@ -123,13 +131,13 @@ impl<F: Folder + Drop> PipeMachine<F> {
 
     // Appends what is new to each session. Only the due may lack something.
     fn deliver(&mut self, alloc: Global, due: &Due, out: &mut Vec<u8>) -> Result<(), Memory>
-        requires { IsDueAlone (shown_in (hosted_of self.old.shelf)) due.now self.old.seats.items }
+        requires { IsDueAlone (shown_in (hosted_of self.old.shelf)) due.now (seats_in self.old.seats.runs.items) }
         ensures pipe { OnOk result (pipe_of self.new ≡ (delivered (pipe_of self.old)).pipe) }
         ensures sent { OnOk result (out.new.items ≡ out.old.items ++ lines_of (delivered (pipe_of self.old)).sent) }
         ensures shelf { self.new.shelf ≡ self.old.shelf }
     {
         self.behind = true;
-        let places = places_due(alloc, self.seats.as_slice(), due)?;
+        let places = places_due(alloc, &self.seats, due)?;
         deliver(alloc, &self.shelf, &mut self.seats, places.as_slice(), out)?;
         self.behind = false;
         Ok(())

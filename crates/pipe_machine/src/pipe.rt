@@ -4,21 +4,22 @@ ghost use Rattle.std.specs.List.{AllByRecursion, AllByRecursion-prop};
 ghost use Rattle.wavelet_shelf.specs.Shelves.{hosted_of};
 ghost use Rattle.pipe_machine.specs.Due.{are_told};
 ghost use Rattle.hosted_copies.specs.Shown.{shown_in};
+ghost use Rattle.pipe_machine.specs.Runs.{seats_in};
 ghost use Rattle.pipe_machine.specs.Seats.{are_ordered, IsPlainSeat, IsPlainSeat-prop};
 
-use crate::seats::Seat;
+use crate::runs::Seats;
 use wave_outside::Folder;
 use wavelet_shelf::Shelf;
 
 /// Many sessions over the histories of a shelf, each of which is hosted here.
 pub struct PipeMachine<F: Folder> {
     pub(crate) shelf: Shelf<F>,
-    pub(crate) seats: Vec<Seat>,
+    pub(crate) seats: Seats,
     // Whether a turn failed, after which sessions may lack what they were to be sent.
     pub(crate) behind: bool,
-    ghost plain: { AllByRecursion IsPlainSeat seats.items } by { AllByRecursion-prop IsPlainSeat IsPlainSeat-prop seats.items },
-    ghost ordered: { are_ordered seats.items ≡ true } by { Coded-set coded_bool (are_ordered seats.items) true },
-    ghost told: { behind || are_told (shown_in (hosted_of shelf)) seats.items ≡ true } by { Coded-set coded_bool (behind || are_told (shown_in (hosted_of shelf)) seats.items) true },
+    ghost plain: { AllByRecursion IsPlainSeat (seats_in seats.runs.items) } by { AllByRecursion-prop IsPlainSeat IsPlainSeat-prop (seats_in seats.runs.items) },
+    ghost ordered: { are_ordered (seats_in seats.runs.items) ≡ true } by { Coded-set coded_bool (are_ordered (seats_in seats.runs.items)) true },
+    ghost told: { behind || are_told (shown_in (hosted_of shelf)) (seats_in seats.runs.items) ≡ true } by { Coded-set coded_bool (behind || are_told (shown_in (hosted_of shelf)) (seats_in seats.runs.items)) true },
 }
 
 impl<F: Folder + Drop> Drop for PipeMachine<F> {

@@ -1,5 +1,5 @@
 // The reply to a session's message.
-ghost use Rattle.std.specs.Prelude.{◌≡◌, true, IfOk, OnOk, OnErr, option_copied};
+ghost use Rattle.std.specs.Prelude.{◌≡◌, ◌<◌, length, true, IfOk, OnOk, OnErr, option_copied};
 ghost use Rattle.message_json.specs.Write.{IsShort};
 ghost use Rattle.session_core.specs.Answers.{attached, answered};
 ghost use Rattle.session_core.specs.News.{reply_message};
@@ -11,8 +11,10 @@ ghost use Rattle.doc_items.specs.Maps.{same_text};
 ghost use Rattle.pipe_machine.specs.Keeping.{IsMoved, IsEnded, submits, asks_for};
 ghost use Rattle.hosted_copies.specs.Shown.{shown_in};
 ghost use Rattle.pipe_machine.specs.Machine.{reply_of, asked, replied};
-ghost use Rattle.pipe_machine.specs.Seats.{IsPlain, AsksAsUser};
+ghost use Rattle.pipe_machine.specs.Runs.{seats_in};
+ghost use Rattle.pipe_machine.specs.Seats.{IsPlain, AsksAsUser, seat_in, with_session};
 
+use crate::runs::{Run, Seats};
 use doc_items::Memory;
 use line_loop::TurnFault;
 use session_core::{Reply, Request, Session, SubmitAnswer};
@@ -91,8 +93,8 @@ fn answer<F: Folder + Drop>(
     }
 }
 
-/// The reply to a message of a session, at the time, in milliseconds. `Store` where the folder or a disk failed.
-pub fn reply<F: Folder + Drop>(
+// The reply to a message of a session, at the time, in milliseconds. `Store` where the folder or a disk failed.
+fn reply<F: Folder + Drop>(
     alloc: Global,
     shelf: &mut Shelf<F>,
     session: &mut Session,
@@ -108,4 +110,63 @@ pub fn reply<F: Folder + Drop>(
 {
     let request = session.take(alloc, message)?;
     answer(alloc, shelf, session, request, time)
+}
+
+// The same for the session of the seat at a place of runs.
+fn reply_among<F: Folder + Drop>(
+    alloc: Global,
+    shelf: &mut Shelf<F>,
+    runs: &mut [Run],
+    place: usize,
+    message: Message,
+    time: u64,
+) -> Result<Reply, TurnFault>
+    requires inside { place < length (seats_in runs.old) }
+    requires plain { IsPlain (seat_in place (seats_in runs.old)).session }
+    ensures reply { IfOk result (λ r. reply_of (hosted_of shelf.new) ((seat_in place (seats_in runs.new)).session, reply_message r) ≡ replied (hosted_of shelf.old) (seat_in place (seats_in runs.old)).session message time) }
+    ensures changed { seats_in runs.new ≡ with_session place (seat_in place (seats_in runs.new)).session (seats_in runs.old) }
+    ensures named { (seat_in place (seats_in runs.new)).name ≡ (seat_in place (seats_in runs.old)).name }
+    ensures plain { IsPlain (seat_in place (seats_in runs.new)).session }
+    ensures short { IfOk result (λ r. IsShort (reply_message r)) }
+    ensures moved { IsMoved (submits message) shelf.old shelf.new }
+    ensures ended { IsEnded shelf.old shelf.new (replied (hosted_of shelf.old) (seat_in place (seats_in runs.old)).session message time).hosted result }
+{
+    let Some((first, rest)) = runs.split_first_mut() else {
+        unreachable!()
+    };
+    let count = first.seats.len();
+    if place < count {
+        reply(alloc, shelf, &mut first.seats[place].session, message, time)
+    } else {
+        reply_among(alloc, shelf, rest, place - count, message, time)
+    }
+}
+
+/// The same for the session of the seat at a place.
+pub fn reply_at<F: Folder + Drop>(
+    alloc: Global,
+    shelf: &mut Shelf<F>,
+    seats: &mut Seats,
+    place: usize,
+    message: Message,
+    time: u64,
+) -> Result<Reply, TurnFault>
+    requires inside { place < length (seats_in seats.old.runs.items) }
+    requires plain { IsPlain (seat_in place (seats_in seats.old.runs.items)).session }
+    ensures reply { IfOk result (λ r. reply_of (hosted_of shelf.new) ((seat_in place (seats_in seats.new.runs.items)).session, reply_message r) ≡ replied (hosted_of shelf.old) (seat_in place (seats_in seats.old.runs.items)).session message time) }
+    ensures changed { seats_in seats.new.runs.items ≡ with_session place (seat_in place (seats_in seats.new.runs.items)).session (seats_in seats.old.runs.items) }
+    ensures named { (seat_in place (seats_in seats.new.runs.items)).name ≡ (seat_in place (seats_in seats.old.runs.items)).name }
+    ensures plain { IsPlain (seat_in place (seats_in seats.new.runs.items)).session }
+    ensures short { IfOk result (λ r. IsShort (reply_message r)) }
+    ensures moved { IsMoved (submits message) shelf.old shelf.new }
+    ensures ended { IsEnded shelf.old shelf.new (replied (hosted_of shelf.old) (seat_in place (seats_in seats.old.runs.items)).session message time).hosted result }
+{
+    reply_among(
+        alloc,
+        shelf,
+        seats.runs.as_mut_slice(),
+        place,
+        message,
+        time,
+    )
 }

@@ -8,9 +8,13 @@ mod laws;
 mod outcomes;
 mod queued;
 mod replica;
+mod replicas;
+mod sought;
 mod waiting;
 
 pub use laws::{claims_hold, copies_absorb};
 pub use peer_turns::Absorbed;
 pub use queued::Queued;
 pub use replica::Replica;
+pub use replicas::Replicas;
+pub use sought::Sought;

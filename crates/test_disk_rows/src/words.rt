@@ -56,12 +56,14 @@ fn shown(alloc: Global, words: &[String]) -> Result<String, Fault> {
                 listen,
                 sessions,
                 store,
+                echo,
             },
         ) => {
+            let echo = if echo { " with echo" } else { "" };
             let sessions = count_of(alloc, sessions)?;
             let store = place_of(alloc, store)?;
             let domain = domain.text();
-            format!(in alloc; "serve {domain} at {listen}{sessions}{store}")?
+            format!(in alloc; "serve {domain} at {listen}{sessions}{store}{echo}")?
         }
         Ok(
             Command::Edit {

@@ -6,8 +6,8 @@ use denote.Param.SendFields.{declared_send, as_row_send}
 use Rattle.std.proofs.Crossing.{send}
 use Rattle.disk_model.specs.contracts.memory.MemoryDisk as disk
 use Rattle.wave_outside.specs.contracts.memory_folder.MemoryFolder as folder
-use Rattle.wave_outside.specs.contracts.gate.HoldingGate as gate
 use Rattle.thread_safety.proofs.Jobs.{job_send}
+use Rattle.test_serve.specs.contracts.gate.StagedGate as gate
 use Rattle.test_serve.specs.contracts.link.StagedLink as link
 use Rattle.test_serve.specs.contracts.stage.StagedClock as clock
 use Rattle.test_serve.specs.contracts.spawner.StagedThread as session

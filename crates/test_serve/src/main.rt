@@ -7,8 +7,10 @@
 
 ghost use denote.Param.Send.{IsSend};
 
+mod gate;
 mod link;
 mod net;
+mod robots;
 mod script;
 mod sent;
 mod spawner;

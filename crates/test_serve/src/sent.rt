@@ -1,4 +1,5 @@
 //! What was sent, as rows show it.
+use crate::gate::StagedGate;
 use crate::link::StagedLink;
 use crate::net::StagedNet;
 use crate::spawner::StagedSpawner;
@@ -6,11 +7,11 @@ use doc_items::Memory;
 use session_steps::EndCause;
 use std::alloc::Global;
 use test_disk_rows::{Fault, text_of};
-use wave_outside::{HoldingGate, Kept, MemoryFolder};
+use wave_outside::{Kept, MemoryFolder};
 use wave_server::{Ended, Server};
 
 /// What a server meets in a talk.
-pub type StagedServer = Server<StagedNet, MemoryFolder, StagedSpawner, HoldingGate>;
+pub type StagedServer = Server<StagedNet, MemoryFolder, StagedSpawner, StagedGate>;
 
 /// The shortest run of one letter that is shown by its length.
 const LONG_RUN: usize = 100;

@@ -8,10 +8,11 @@ ghost use Rattle.session_hub.specs.Hubs.{AreOfHub};
 ghost use Rattle.session_steps.specs.declared.end.EndCause.TheVariants.{Closed, Failed};
 ghost use Rattle.disk_model.specs.contracts.memory.MemoryDisk as disk;
 ghost use Rattle.wave_outside.specs.contracts.memory_folder.MemoryFolder as folder;
-ghost use Rattle.wave_outside.specs.contracts.gate.HoldingGate as gate;
+ghost use Rattle.test_serve.specs.contracts.gate.StagedGate as gate;
 ghost use Rattle.test_serve.specs.contracts.link.StagedLink as link;
 ghost use Rattle.test_serve.specs.contracts.stage.StagedClock as clock;
 
+use crate::gate::StagedGate;
 use crate::link::StagedLink;
 use crate::stage::StagedClock;
 use disk_model::MemoryDisk;
@@ -19,11 +20,11 @@ use session_link::{LinkEnd, LinkJob};
 use std::alloc::Global;
 use std::sync::Wait;
 use std::thread::Threads;
-use wave_outside::{HoldingGate, Job, MemoryFolder, Refused, Spawner};
+use wave_outside::{Job, MemoryFolder, Refused, Spawner};
 use wave_threads::{Child, ThreadStarter, Work};
 
 /// The sessions of a talk.
-pub type StagedJob = LinkJob<StagedLink, MemoryFolder, StagedClock, HoldingGate>;
+pub type StagedJob = LinkJob<StagedLink, MemoryFolder, StagedClock, StagedGate>;
 
 /// What a session of a talk ends with.
 type StagedEnd = LinkEnd<StagedLink, MemoryFolder>;
@@ -83,7 +84,7 @@ fn parts_are_sent()
     sent::<MemoryDisk>();
     shared::<MemoryDisk>();
     sent::<StagedClock>();
-    sent::<HoldingGate>();
+    sent::<StagedGate>();
 }
 
 /// What starts a thread for each session, or refuses each start.

@@ -14,6 +14,10 @@ pub struct Stage {
     reading: AtomicU64,
     // The place of the link of each turn.
     owners: Vec<usize>,
+    // How many edits of robots each turn waits for; 0 for a turn of a link.
+    awaited: Vec<u64>,
+    // How many edits of robots were accepted until now.
+    edits: AtomicU64,
     // Of each link whether its session has ended. The turns that such a link still has are passed over.
     gone: Vec<AtomicBool>,
 }
@@ -24,6 +28,8 @@ impl Drop for Stage {
             turn: _turn,
             reading: _reading,
             owners: _owners,
+            awaited: _awaited,
+            edits: _edits,
             gone: _gone,
         } = self;
     }
@@ -45,11 +51,12 @@ fn none_gone(alloc: Global, links: usize) -> Result<Vec<AtomicBool>, AllocError>
 }
 
 impl Stage {
-    /// A talk of so many links before its first turn, which has number 0. `owners` has the place of the link of each turn, and `reading`
-    /// is what the clock reads where no turn is on.
+    /// A talk of so many links before its first turn, which has number 0. `owners` has the place of the link of each turn, `awaited` how many
+    /// edits of robots it waits for, and `reading` is what the clock reads where no turn is on.
     pub fn new(
         alloc: Global,
         owners: &[usize],
+        awaited: &[u64],
         links: usize,
         reading: u64,
     ) -> Result<Stage, AllocError> {
@@ -57,8 +64,19 @@ impl Stage {
             turn: AtomicU64::new(0),
             reading: AtomicU64::new(reading),
             owners: Vec::from_slice(alloc, owners)?,
+            awaited: Vec::from_slice(alloc, awaited)?,
+            edits: AtomicU64::new(0),
             gone: none_gone(alloc, links)?,
         })
+    }
+
+    // Whether a turn needs no link to end it: enough edits of robots were accepted, or its link has gone.
+    fn is_over(&self, number: u64) -> bool {
+        match self.awaited.get(number as usize) {
+            Some(0) => self.has_gone(number),
+            Some(count) => self.edits.load(Ordering::SeqCst) >= *count,
+            None => false,
+        }
     }
 
     // Whether the link of a turn has gone.
@@ -79,7 +97,7 @@ impl Stage {
             if on == turn.number {
                 break;
             }
-            if self.has_gone(on) {
+            if self.is_over(on) {
                 self.end(on);
             }
             thread::yield_now();
@@ -93,6 +111,13 @@ impl Stage {
         let _before = self
             .turn
             .compare_exchange(number, next, Ordering::SeqCst, Ordering::SeqCst);
+    }
+
+    /// There is news by this session, or by the robots, which have no session's number.
+    pub fn note_news(&self, session: u64) {
+        if session as usize >= self.gone.len() {
+            let _before = self.edits.fetch_add(1, Ordering::SeqCst);
+        }
     }
 
     /// The session of the link at this place has ended.

@@ -1,21 +1,38 @@
 //! The verbs.
 ghost use Rattle.std.specs.Prelude.{◌≡◌, vec_len, is_some, false, IfOk};
 ghost use denote.Param.Send.{IsSend};
+ghost use Rattle.robot_host.specs.Hosts.{host_as, IsNew};
 
+use crate::gate::StagedGate;
 use crate::net::StagedNet;
+use crate::robots::{Manner, StagedRobot, manner_of};
 use crate::script::Script;
 use crate::sent::{StagedServer, put_ends};
 use crate::spawner::StagedSpawner;
 use crate::stage::{Stage, StagedClock, Turn};
+use robot_host::{Robot, RobotHost};
 use std::alloc::{AllocError, Global};
+use std::sync::atomic::{AtomicU64, Ordering};
 use std::sync::{Arc, Wait};
 use std::thread::Threads;
 use test_disk_rows::{Fault, bytes_of, calls, filled, first_word, number, put, words_of};
+use wave_base::{Address, BaseFault, Domain};
 use wave_outside::{HoldingGate, MemoryFolder, MemorySink, MemorySource, Polled};
 use wave_program::{Outside, run};
 use wave_server::Server;
 use wave_threads::ThreadStarter;
 use ws_link::Bells;
+
+/// What a run of the server meets in a talk.
+type StagedOutside = Outside<
+    MemorySource,
+    MemorySink,
+    MemoryFolder,
+    StagedClock,
+    StagedNet,
+    StagedSpawner,
+    StagedGate,
+>;
 
 /// What the clock reads in turns that no row gives a reading.
 const READING: u64 = 1000;
@@ -25,6 +42,9 @@ pub struct Talk {
     scripts: Vec<Script>,
     // The place of the link of each turn.
     owners: Vec<usize>,
+    // How many edits of robots each turn waits for; 0 for a turn of a link.
+    awaited: Vec<u64>,
+    robots: Vec<Invited>,
     // The numbers of the folder's calls that fail.
     failing: Vec<u64>,
     // Whether each start of a session is refused, and whether the door can't be opened.
@@ -40,6 +60,8 @@ impl Drop for Talk {
         let Talk {
             scripts: _scripts,
             owners: _owners,
+            awaited: _awaited,
+            robots: _robots,
             failing: _failing,
             refuses: _refuses,
             is_shut: _is_shut,
@@ -47,6 +69,62 @@ impl Drop for Talk {
             until: _until,
         } = self;
     }
+}
+
+/// A robot that takes part in a talk.
+struct Invited {
+    address: Address,
+    manner: Manner,
+}
+
+impl Drop for Invited {
+    fn drop(self) {
+        let Invited {
+            address: _address,
+            manner: _manner,
+        } = self;
+    }
+}
+
+impl Invited {
+    // The robot, which counts here what it is shown.
+    fn robot(
+        &self,
+        alloc: Global,
+        shown: Arc<AtomicU64, Global>,
+    ) -> Result<Box<StagedRobot>, Fault> {
+        let domain = Domain::parse(alloc, self.address.domain()).map_err(fault_of)?;
+        let address = self.address.copy(alloc)?;
+        let robot = StagedRobot::new(alloc, address, &domain, self.manner, shown)?;
+        Ok(Box::new(alloc, robot)?)
+    }
+}
+
+fn fault_of(fault: BaseFault) -> Fault {
+    match fault {
+        BaseFault::Memory => Fault::Memory,
+        _ => Fault::BadRow,
+    }
+}
+
+// These robots come to the host, of which no turn was taken yet.
+fn add_all(alloc: Global, robots: &mut RobotHost, made: Vec<Box<dyn Robot>>) -> Result<(), Fault>
+    requires new { IsNew (host_as ⟦<dyn Robot as Robot>⟧ robots.old) }
+    ensures new { IsNew (host_as ⟦<dyn Robot as Robot>⟧ robots.new) }
+{
+    for robot in made {
+        robots.add(alloc, robot)?;
+    }
+    Ok(())
+}
+
+// So many counts of nothing.
+fn counts(alloc: Global, count: usize) -> Result<Vec<Arc<AtomicU64, Global>>, AllocError> {
+    let mut counts = Vec::new(alloc);
+    for _ in 0..count {
+        counts.push(Arc::new(alloc, AtomicU64::new(0))?)?;
+    }
+    Ok(counts)
 }
 
 // A message of a row: the digits after `Hex`, or a text.
@@ -69,6 +147,8 @@ impl Talk {
         Talk {
             scripts: Vec::new(alloc),
             owners: Vec::new(alloc),
+            awaited: Vec::new(alloc),
+            robots: Vec::new(alloc),
             failing: Vec::new(alloc),
             refuses: false,
             is_shut: false,
@@ -109,6 +189,8 @@ impl Talk {
                 Ok(())
             }
             "holds" => self.holds(rest),
+            "robot" => self.invite(alloc, rest),
+            "robots" => self.wait(rest),
             "serve" => self.serve(rt, alloc, row, out),
             _ => Err(Fault::BadRow),
         }
@@ -145,6 +227,7 @@ impl Talk {
         }
         if !script.is_free {
             self.owners.push(place)?;
+            self.awaited.push(0)?;
         }
         Ok(script.add(polled, Turn { number, reading })?)
     }
@@ -223,6 +306,20 @@ impl Talk {
         Ok(())
     }
 
+    /// `robot ADDRESS MANNER`: a robot takes part, in this manner.
+    fn invite(&mut self, alloc: Global, rest: &str) -> Result<(), Fault> {
+        let (address, manner) = first_word(rest);
+        let address = Address::parse(alloc, address).map_err(fault_of)?;
+        let manner = manner_of(manner)?;
+        Ok(self.robots.push(Invited { address, manner })?)
+    }
+
+    /// `robots N`: a turn that lasts until so many edits of robots were accepted in all.
+    fn wait(&mut self, count: &str) -> Result<(), Fault> {
+        self.owners.push(usize::MAX)?;
+        Ok(self.awaited.push(number(count)?)?)
+    }
+
     // Links that are still open are closed, in order.
     fn close_all(&mut self) -> Result<(), Fault> {
         for place in 0..self.scripts.len() {
@@ -246,16 +343,39 @@ impl Talk {
         ensures { IfOk result (λ s. (vec_len s.ended ≡ 0) × (is_some s.spent ≡ false) × (is_some s.passes ≡ false)) }
     {
         let bells = Arc::new(alloc, Bells::new(alloc, 0)?)?;
+        let on = Arc::try_clone(&stage)?;
         Ok(Server {
             net: StagedNet::new(alloc, stage, self.scripts(alloc)?, self.is_shut),
             spawner: StagedSpawner {
                 starter: ThreadStarter::new(bells),
                 refuses: self.refuses,
             },
-            gate: HoldingGate::new(alloc, self.held, self.until)?,
+            gate: StagedGate::new(HoldingGate::new(alloc, self.held, self.until)?, on),
             ended: Vec::new(alloc),
             passes: None,
             spent: None,
+        })
+    }
+
+    // What a run meets in the talk.
+    fn outside(&self, alloc: Global) -> Result<StagedOutside, Fault>
+        ensures { IfOk result (λ o. (vec_len o.server.ended ≡ 0) × (is_some o.server.spent ≡ false) × (is_some o.server.passes ≡ false)) }
+    {
+        let stage = Stage::new(
+            alloc,
+            self.owners.as_slice(),
+            self.awaited.as_slice(),
+            self.scripts.len(),
+            READING,
+        )?;
+        let stage = Arc::new(alloc, stage)?;
+        let failing = Vec::from_slice(alloc, self.failing.as_slice())?;
+        Ok(Outside {
+            source: MemorySource::new(Vec::new(alloc), Vec::new(alloc)),
+            sink: MemorySink::new(alloc, Vec::new(alloc)),
+            folder: MemoryFolder::new(alloc, Vec::new(alloc), failing),
+            clock: StagedClock::new(Arc::try_clone(&stage)?),
+            server: self.server(alloc, stage)?,
         })
     }
 
@@ -271,22 +391,34 @@ impl Talk {
         requires sends { IsSend R.row }
     {
         self.close_all()?;
-        let count = self.scripts.len();
-        let stage = Arc::new(
-            alloc,
-            Stage::new(alloc, self.owners.as_slice(), count, READING)?,
-        )?;
-        let clock = StagedClock::new(Arc::try_clone(&stage)?);
-        let failing = Vec::from_slice(alloc, self.failing.as_slice())?;
-        let mut outside = Outside {
-            source: MemorySource::new(Vec::new(alloc), Vec::new(alloc)),
-            sink: MemorySink::new(alloc, Vec::new(alloc)),
-            folder: MemoryFolder::new(alloc, Vec::new(alloc), failing),
-            clock,
-            server: self.server(alloc, stage)?,
-        };
-        let status = run(rt, alloc, &words_of(alloc, row)?, &mut outside);
+        let mut outside = self.outside(alloc)?;
+        let words = words_of(alloc, row)?;
+        let shown = counts(alloc, self.robots.len())?;
+        // The robots are made where they are used: a function that gave them out could hide what they do.
+        let mut made: Vec<Box<dyn Robot>> = Vec::new(alloc);
+        for (invited, count) in self.robots.iter().zip(shown.iter()) {
+            made.push(invited.robot(alloc, Arc::try_clone(count)?)?)?;
+        }
+        let mut robots = RobotHost::new(alloc);
+        add_all(alloc, &mut robots, made)?;
+        let status = run(rt, alloc, &words, &mut outside, &mut robots);
         put(out, format!(in alloc; "{status}")?.as_str())?;
-        put_ends(alloc, out, count, &outside.server)
+        put_ends(alloc, out, self.scripts.len(), &outside.server)?;
+        self.put_shown(alloc, out, shown.as_slice())
+    }
+
+    // Appends how many deltas each robot was shown.
+    fn put_shown(
+        &self,
+        alloc: Global,
+        out: &mut String,
+        shown: &[Arc<AtomicU64, Global>],
+    ) -> Result<(), Fault> {
+        for (invited, count) in self.robots.iter().zip(shown.iter()) {
+            let (address, count) = (invited.address.text(), count.load(Ordering::SeqCst));
+            let line = format!(in alloc; "\n= {address} was shown {count}")?;
+            out.push_str(line.as_str())?;
+        }
+        Ok(())
     }
 }

@@ -1,42 +1,16 @@
 // A folder of the operating system: a shelf writes a history there, another reads it, and so do shelves over the file cut at every byte.
+use crate::first_delta::{is_submitted, name};
 use delta_history::Copies;
 use std::alloc::Global;
 use std::fs;
 use std::test::Fail;
-use test_wavelet_words::submission;
-use wave_base::{HashedVersion, WaveletName};
 use wave_files::FileFolder;
-use wave_hash::zero_hash;
 use wave_outside::{Folder, FolderFault, MemoryFolder};
-use wavelet_op::{Submission, Verdict};
 use wavelet_shelf::{Shelf, ShelfFault, file_name};
 
 const TOP: &str = "shelf_tests_folder";
 
 const FOLDER: &str = "shelf_tests_folder/below/it";
-
-fn name(alloc: Global) -> Result<WaveletName, Fail> {
-    Ok(WaveletName::parse(alloc, "a.com/w1/a.com/conv+root")?)
-}
-
-// Alice's first delta of the wavelet.
-fn first(alloc: Global, name: &WaveletName) -> Result<Submission, Fail> {
-    let at = HashedVersion {
-        version: 0,
-        hash: zero_hash(name),
-    };
-    Ok(submission(alloc, "alice@a.com", 1, at, "add alice@a.com; b+1: +hi")?)
-}
-
-// Whether the first delta is acknowledged.
-fn is_submitted<F: Folder + Drop>(alloc: Global, shelf: &mut Shelf<F>) -> Result<bool, Fail> {
-    let name = name(alloc)?;
-    let made = first(alloc, &name)?;
-    Ok(match shelf.submit(alloc, &name, &made, 1000)? {
-        Verdict::Ack { at, to } => at == 0 && to.version == 2,
-        _ => false,
-    })
-}
 
 // The bytes of the file of a history with the first delta.
 fn stored(alloc: Global) -> Result<Vec<u8>, Fail> {

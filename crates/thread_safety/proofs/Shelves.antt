@@ -37,11 +37,11 @@ module _ (K : RattleType) (g : disk.Ghosts K.Denot) where
 
   containers_send : IsSend K → IsSend (containers.the_row K g)
   containers_send k = declared_send (containers.the_type K g)
-      (index_field_send name.the_row (filed.the_row K g) hashing fold.the_row _ _ _ _ name_send (filed_send k) hashing_send, tt)
+      (index_field_send name.the_row (filed.the_row K g) hashing fold.the_row _ _ _ _ name_send (filed_send k) hashing_send, (search (sendable, as_row_send), tt))
 
   containers_sync : IsSync K → IsSync (containers.the_row K g)
   containers_sync k = declared_sync (containers.the_type K g)
-      (index_field_sync name.the_row (filed.the_row K g) hashing fold.the_row _ _ _ _ name_sync (filed_sync k) hashing_sync, tt)
+      (index_field_sync name.the_row (filed.the_row K g) hashing fold.the_row _ _ _ _ name_sync (filed_sync k) hashing_sync, (search (sendable, as_row_sync), tt))
 
 module _ (F K : RattleType) (f : folder.Ghosts F.Denot K.Denot) (g : disk.Ghosts K.Denot) where
   pub shelf_send : IsSend F → IsSend K → IsSend (shelf.the_row F K f g)

@@ -6,6 +6,9 @@ mod spawner;
 
 use crate::net::TellingNet;
 use crate::spawner::SessionSpawner;
+use command_words::{Command, WordsFault, read_words};
+use robot_echo::Echo;
+use robot_host::RobotHost;
 use std::alloc::{AllocError, Global};
 use std::process::ExitCode;
 use std::sync::Arc;
@@ -60,11 +63,38 @@ fn main(rt: HostRuntime) -> ExitCode {
             spent: None,
         },
     };
-    let status = match words(&rt, alloc) {
-        Ok(words) => run(&rt, alloc, &words, &mut outside),
-        Err(_) => OUT_OF_MEMORY,
+    let Ok(words) = words(&rt, alloc) else {
+        return ExitCode::from(OUT_OF_MEMORY);
+    };
+    let Ok(echo) = echo_of(alloc, &words) else {
+        return ExitCode::from(OUT_OF_MEMORY);
+    };
+    let mut robots = RobotHost::new(alloc);
+    let status = match echo {
+        Some(robot) => match robots.add(alloc, robot) {
+            Ok(()) => run(&rt, alloc, &words, &mut outside, &mut robots),
+            Err(_) => OUT_OF_MEMORY,
+        },
+        None => run(&rt, alloc, &words, &mut outside, &mut robots),
     };
     ExitCode::from(status)
+}
+
+// The robot `echo` of the server that the words name, where they ask for it.
+fn echo_of(alloc: Global, words: &Vec<String>) -> Result<Option<Box<Echo>>, AllocError> {
+    match read_words(alloc, words.as_slice()) {
+        Ok(Command::Serve { domain, echo, .. }) => {
+            if echo {
+                let robot = Echo::new(alloc, &domain)?;
+                Ok(Some(Box::new(alloc, robot)?))
+            } else {
+                Ok(None)
+            }
+        }
+        Ok(_) => Ok(None),
+        Err(WordsFault::Usage) => Ok(None),
+        Err(WordsFault::Memory) => Err(AllocError),
+    }
 }
 
 // The arguments after the program's own name. Where one of them isn't text there are none, which names no command.

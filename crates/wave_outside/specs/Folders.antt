@@ -4,6 +4,9 @@
 --     IsEmptyFile d         the disk reads as empty, and a crash leaves it empty
 --     IsHanded view o d     d is the disk of a file as it is handed out: the file's, or an empty one where there was none
 --     IsPutBack view d o    the disk d stands in the folder
+--     IsImage view o c      a crash may leave these bytes of the file, if it is there
+--     IsEmptied view o p    the file reads as empty, and a crash leaves it empty, or as it might have left the one before
+--     IsUnmade view o p     the file is the one before, or emptied
 --     IsElsewhere n f g     all names but one are as before
 --     IsSame f g            all names are
 --     AreNames f names      the names of all files
@@ -43,6 +46,17 @@ IsHanded view (Some f) d = IsSameFile (view f) d
 abbrev pub IsPutBack : {D : Type 0} → (D → DiskView) → DiskView → Option D → Type 0
 IsPutBack view d None = ⊥
 IsPutBack view d (Some f) = IsSameFile d (view f)
+
+abbrev pub IsImage : {D : Type 0} → (D → DiskView) → Option D → List ℕ → Type 0
+IsImage view None c = ⊥
+IsImage view (Some f) c = (view f).may_leave c
+
+abbrev pub IsEmptied : {D : Type 0} → (D → DiskView) → Option D → Option D → Type 0
+IsEmptied view o None = ⊥
+IsEmptied view o (Some g) = ((view g).seen ≡ []) × ((c : List ℕ) → (view g).may_leave c → (c ≡ []) ⊎ IsImage view o c)
+
+abbrev pub IsUnmade : {D : Type 0} → (D → DiskView) → Option D → Option D → Type 0
+IsUnmade view o p = (p ≡ o) ⊎ IsEmptied view o p
 
 abbrev pub IsElsewhere : {X : Type 0} → List ℕ → (List ℕ → X) → (List ℕ → X) → Type 0
 IsElsewhere n f g = (m : List ℕ) → m ≢ n → g m ≡ f m

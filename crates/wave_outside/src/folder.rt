@@ -1,6 +1,6 @@
 ghost use Rattle.std.specs.Prelude.{◌≡◌, ◌≢◌, ◌≤◌, ◌+◌, ◌-◌, ◌^◌, ℕ, min, Bool, true, List, Option, string_bytes, map, IsTrue, IfOk, IfErr, OnOk, OnErr};
 ghost use Rattle.wave_outside.specs.Counts.{Rose};
-ghost use Rattle.wave_outside.specs.Folders.{IsEmptyFile, IsHanded, IsPutBack, IsElsewhere, IsSame, IsReadAlike, AreNames, FolderLog, entered, used_log};
+ghost use Rattle.wave_outside.specs.Folders.{IsEmptyFile, IsUnmade, IsHanded, IsPutBack, IsElsewhere, IsSame, IsReadAlike, AreNames, FolderLog, entered, used_log};
 ghost use Rattle.wave_outside.specs.declared.folder.FolderFault.TheVariants.{Failed};
 
 use disk_model::Disk;
@@ -90,7 +90,8 @@ pub trait Folder {
         ensures later { faults self.old ≤ faults self.new }
         ensures failed { IfErr result (λ e. e ≡ Failed → Rose (faults self.old) (faults self.new)) };
 
-    /// The disk of the file of this name, which reads as empty, and which a crash leaves empty, whatever stood there.
+    /// The disk of the file of this name, which reads as empty, and which a crash leaves empty, whatever stood there. After an error the
+    /// file is as it was, or emptied.
     fn fresh(&mut self, alloc: Global, name: &str) -> Result<Self::Disk, FolderFault>
         ensures told { IsTrue Self.Disk.tells → IsTrue tells }
         ensures log { IsTrue tells → log self.new ≡ used_log (log self.old) }
@@ -100,6 +101,7 @@ pub trait Folder {
         ensures others { IsTrue tells → IsElsewhere name.now (files self.old) (files self.new) }
         ensures other_room { IsElsewhere name.now (room self.old) (room self.new) }
         ensures room_stays { room self.old name.now ≡ true → room self.new name.now ≡ true }
+        ensures unmade { OnErr result (IsTrue tells → IsUnmade Self.Disk.view (files self.old name.now) (files self.new name.now)) }
         ensures later { faults self.old ≤ faults self.new }
         ensures failed { IfErr result (λ e. e ≡ Failed → Rose (faults self.old) (faults self.new)) };
 

@@ -27,7 +27,7 @@ module _ (P : (domain listen : List ℕ) → Option ℕ → Option (List ℕ) �
   all_served (Some (Load n)) h = tt
   all_served (Some (Play folder wavelet)) h = tt
   all_served (Some (Inbox folder user)) h = tt
-  all_served (Some (Serve domain listen sessions folder)) h = h domain listen sessions folder
+  all_served (Some (Serve domain listen sessions folder echo)) h = h domain listen sessions folder
   all_served (Some (Edit user client connect)) h = tt
 
 module _ (P : (user : List ℕ) → ℕ → (connect : List ℕ) → Type 0) where
@@ -37,7 +37,7 @@ module _ (P : (user : List ℕ) → ℕ → (connect : List ℕ) → Type 0) whe
   all_edited (Some (Load n)) h = tt
   all_edited (Some (Play folder wavelet)) h = tt
   all_edited (Some (Inbox folder user)) h = tt
-  all_edited (Some (Serve domain listen sessions folder)) h = tt
+  all_edited (Some (Serve domain listen sessions folder echo)) h = tt
   all_edited (Some (Edit user client connect)) h = h user client connect
 
 each_there : {X : Type 0} (o : Option X) (P : X → Type 0) → ((x : X) → P x) → IfSome o P

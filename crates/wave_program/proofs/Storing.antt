@@ -1,5 +1,5 @@
 -- What a run over a folder leaves there.
-use Rattle.std.proofs.Common.{◌≡◌, ◌≢◌, ◌⊎◌, inl, inr, ℕ, ◌+◌, ◌-◌, ◌^◌, min, List, [], ◌∷◌, ◌++◌, Bool, true, false, cond, Option, Some, None, is_some, IsSome, IfSome, IsTrue, refl, sym, ap, subst, ◌∙◌, arith, append_assoc, append-nil, true≢false}
+use Rattle.std.proofs.Common.{◌≡◌, ◌≢◌, ◌⊎◌, inl, inr, ⊎_elim, ℕ, ◌+◌, ◌-◌, ◌^◌, min, List, [], ◌∷◌, ◌++◌, Bool, true, false, cond, Option, Some, None, is_some, IsSome, IfSome, IsTrue, refl, sym, ap, subst, ◌∙◌, arith, append_assoc, append-nil, true≢false}
 use Rattle.std.specs.List.{All, AllByRecursion}
 use Rattle.std.specs.Cmp.Lexicographic.{bytes_decides}
 use Rattle.std.specs.Map.{lookup}
@@ -17,7 +17,7 @@ use Rattle.delta_journal.specs.Journal.{on_disk, left_over}
 use Rattle.delta_journal.specs.declared.journal.Journal.{Journal}
 use Rattle.delta_journal.proofs.Stages.{journal_stands}
 use Rattle.wave_outside.specs.Counts.{Rose}
-use Rattle.wave_outside.specs.Folders.{Entry, IsPutBack, IsAsBefore}
+use Rattle.wave_outside.specs.Folders.{Entry, IsImage, IsUnmade, IsPutBack, IsAsBefore}
 use Rattle.wave_outside.specs.declared.clock.Clock as clock_of
 use Rattle.wave_outside.specs.declared.folder.Folder as folder_of
 use Rattle.wavelet_container.specs.Containers.{history_of, journal_of, IsHeld}
@@ -29,7 +29,7 @@ use Rattle.line_loop.specs.Turns.{Turn}
 use Rattle.wavelet_shelf.specs.Entries.{IsWrittenOn, found, hosting, histories, faults_in, AreInOrder}
 use Rattle.wavelet_shelf.specs.FileNames.{file_name_of}
 use Rattle.wavelet_shelf.specs.Hosting.{Hosted, deltas_in}
-use Rattle.wavelet_shelf.specs.Folders.{IsStill, IsStillIn, IsUsedIn}
+use Rattle.wavelet_shelf.specs.Folders.{IsStill, IsStillIn, IsUsedIn, IsUnmadeIn}
 use Rattle.wavelet_shelf.specs.Loads.{IsReadFrom, IsRefusedFile, IsSound}
 use Rattle.wavelet_shelf.specs.Shelves.{in_folder, entries_of, container_in, hosted_of, folder_faults, fault_count, IsKept, IsSettled, AreApart, HasFile}
 use Rattle.wavelet_shelf.specs.declared.filed.Filed.{Filed}
@@ -43,14 +43,15 @@ use Rattle.wavelet_shelf.proofs.Sharing.{found_named}
 use Rattle.wavelet_shelf.proofs.Shelving.{deltas_of}
 use Rattle.wavelet_shelf.proofs.Still.{still_in_on, still_on, used_still}
 use Rattle.pipe_machine.specs.Held as Held
-use Rattle.pipe_machine.specs.Keeping.{Begins, submitted_in, IsFileAmong, IsFileOfEither, IsMoved}
+use Rattle.pipe_machine.specs.Keeping.{Begins, submitted_in, IsFileAmong, IsFileOfEither, IsFileWith, AreWrittenOn, AreBegun, IsMoved}
 use Rattle.pipe_machine.specs.Machine.{start, sent}
 use Rattle.pipe_machine.specs.Pipes.{StandsAlong}
+use Rattle.pipe_machine.proofs.Moving.{nothing_before}
 use Rattle.wave_program.specs.Asks.{IsPlayed, IsListed}
 use Rattle.wave_program.specs.Pipe.{hosted_after, IsOver}
 use Rattle.wave_program.specs.declared.service.Service.{Service}
 use Rattle.wave_program.specs.declared.service.Service.TheVariants.{Lines, Play, Inbox}
-use Rattle.wave_program.specs.Store.{GoesOn, IsFileOf, IsFileEither, IsStoredFrom, IsFileSince, IsFileBegun, AreStored, AreStoredFrom, AreApartIn, IsLoaded, IsClosed, IsShelfRun, IsShelfUnloaded, AreStanding, IsStoredRun, IsReadRun, IsStoredAs, IsUnloaded}
+use Rattle.wave_program.specs.Store.{GoesOn, IsFileOf, IsFileEither, IsOldOf, IsEmptiedSince, IsFileTried, IsStoredFrom, IsFileSince, IsFileBegun, IsThere, AreStored, AreStoredFrom, AreApartIn, IsLoaded, IsClosed, IsShelfRun, IsShelfUnloaded, AreStanding, IsStoredRun, IsReadRun, IsStoredAs, IsUnloaded}
 use Rattle.wave_program.proofs.Moments.{file_begun, files_since}
 
 pub damage_told : (o : Option (List ℕ × ℕ)) (P Q : List ℕ → ℕ → Type 0) → IsSome o → IfSome o (λ d. P d.0 d.1) → IfSome o (λ d. Q d.0 d.1) → (file : List ℕ) × (offset : ℕ) × P file offset × Q file offset
@@ -86,6 +87,18 @@ put_back_from view n ds v (Some f) k back = record { seen = rw (back.seen) k.now
 put_back_either : {D : Type 0} (view : D → DiskView) (o : Option D) (n : Key) (ds es : List DeltaOf) (v : DiskView) → Kept v (λ bytes. StandsForHistory n ds bytes ⊎ StandsForHistory n es bytes) → IsPutBack view v o → IsFileEither view o n ds es
 put_back_either view None n ds es v k back = absurd back
 put_back_either view (Some f) n ds es v k back = record { now = rw (back.seen) k.now; left = λ c left. k.left c (back.crash c left) }
+
+-- ---- a file that is as it was, or emptied
+
+old_image : {D : Type 0} (view : D → DiskView) (o h : Option D) (bytes : List ℕ) → IsAsBefore view o h → IsImage view h bytes → IsOldOf view o bytes
+old_image view o None bytes before image = absurd image
+old_image view None (Some h) bytes before image = absurd before
+old_image view (Some f) (Some h) bytes before image = before.images bytes image
+
+unmade_since : {D : Type 0} (view : D → DiskView) (o h k : Option D) → IsAsBefore view o h → IsUnmade view h k → IsAsBefore view o k ⊎ IsEmptiedSince view o k
+unmade_since view o h k before (inl same) = inl (subst (IsAsBefore view o) (sym same) before)
+unmade_since view o h None before (inr emptied) = absurd emptied
+unmade_since view o h (Some k) before (inr emptied) = inr (emptied.0, λ bytes left. ⊎_elim (λ none. inl none) (λ image. inr (old_image view o h bytes before image)) (emptied.1 bytes left))
 
 module _ {D : Type 0} {disk : disk_of.Ghosts D} where
   stored_goes_on : (h : HistoryOf) (j : Journal D disk) → IsStored h j → Kept (on_disk j) (GoesOn h.name h.deltas)
@@ -131,6 +144,11 @@ module _ {D : Type 0} {disk : disk_of.Ghosts D} where
       go None e s = absurd (cc)
       go (Some f) e s = (f, e)
 
+  container_there : (es : List (Key × Filed D disk)) (n : Key) → AreInOrder es → is_some (found es n) ≡ true → HasContainer es n
+  container_there es n order some =
+      let x = there es n some in
+      record { filed = x.0; is = x.1; deltas = sym (deltas_there es n x.0 order x.1); named = found_named es n x.0 order x.1 }
+
 none_at : {X : Type 0} (o : Option X) → is_some o ≡ false → o ≡ None
 none_at None e = refl
 none_at (Some x) e = absurd (true≢false e)
@@ -141,10 +159,6 @@ if_some_at {X} P o x e h = subst (λ (p : Option X). IfSome p P) e h
 file_of : {D : Type 0} {disk : disk_of.Ghosts D} (o : Option D) (c : Container D disk) (n : Key) (ds : List DeltaOf) → (history_of c).name ≡ n → (history_of c).deltas ≡ ds → IsReadFrom o c → IsFileOf disk.view o n ds
 file_of None c n ds named same h = absurd h
 file_of (Some f) c n ds named same h = rw (← named, ← same) h.stands
-
-nothing_before : (ds es : List DeltaOf) → Begins ds es → es ≡ [] → ds ≡ []
-nothing_before [] es p e = refl
-nothing_before (d ∷ ds) es p e = absurd (let w : d ∷ (ds ++ p.0) ≡ [] = p.1 ∙ e in cc)
 
 -- ---- a run
 
@@ -160,19 +174,19 @@ module _ {F D K : Type 0} (folder : folder_of.Ghosts F D) (disk : disk_of.Ghosts
   apart_at_end : (m b : Shelf F D folder disk) (ts : List Turn) → IsMoved (submitted_in ts) m b → AreApartIn (λ n. (is_some (container_in m n) ≡ true) ⊎ (submitted_in ts n ≡ true)) → AreApart b
   apart_at_end m b ts moved apart n k p q e = apart n k (from_either m b ts moved n p) (from_either m b ts moved k q) e
 
-  -- the files of other names, from the folder f from which the shelf m was loaded to the folder g into which b was closed
-  others_at_end : (m b : Shelf F D folder disk) (f g : F) (ts : List Turn) → IsTrue folder.tells → IsSome (in_folder m) → IsMoved (submitted_in ts) m b
+  -- all other files, from the folder f from which the shelf m was loaded to the folder g into which b was closed
+  others_at_end : (m b : Shelf F D folder disk) (f g : F) (hs : List Hosted) → IsTrue folder.tells → IsSome (in_folder m) → AreBegun m b hs
       → IfSome (in_folder m) (λ h. (l : List ℕ) → ((n : Key) → IsSome (container_in m n) → l ≢ file_name_of n) → IsAsBefore disk.view (folder.files f l) (folder.files h l))
       → IfSome (in_folder b) (λ k. (l : List ℕ) → (HasFile b l → ⊥) → folder.files g l ≡ folder.files k l)
-      → (l : List ℕ) → ((n : Key) → (is_some (container_in m n) ≡ true) ⊎ (submitted_in ts n ≡ true) → l ≢ file_name_of n) → IsAsBefore disk.view (folder.files f l) (folder.files g l)
-  others_at_end m b f g ts tells some moved before after l none = go (in_folder m) (in_folder b) some before after moved.used
+      → (l : List ℕ) → ((n : Key) → IsThere (λ n. is_some (container_in m n)) hs n → l ≢ file_name_of n) → IsAsBefore disk.view (folder.files f l) (folder.files g l)
+  others_at_end m b f g hs tells some begun before after l none = go (in_folder m) (in_folder b) some before after begun.files
     where
       go : (o p : Option F) → IsSome o → IfSome o (λ h. (l : List ℕ) → ((n : Key) → IsSome (container_in m n) → l ≢ file_name_of n) → IsAsBefore disk.view (folder.files f l) (folder.files h l))
-          → IfSome p (λ k. (l : List ℕ) → (HasFile b l → ⊥) → folder.files g l ≡ folder.files k l) → IsUsedIn folder (IsFileAmong (submitted_in ts)) o p → IsAsBefore disk.view (folder.files f l) (folder.files g l)
+          → IfSome p (λ k. (l : List ℕ) → (HasFile b l → ⊥) → folder.files g l ≡ folder.files k l) → IsUsedIn folder (IsFileWith hs) o p → IsAsBefore disk.view (folder.files f l) (folder.files g l)
       go None p there one two used = absurd (true≢false (sym there))
       go (Some h) None there one two used = absurd used
       go (Some h) (Some k) there one two used = subst (IsAsBefore disk.view (folder.files f l)) (sym (
-          two l (λ file. none file.0 (from_either m b ts moved file.0 file.1) (sym file.2))
+          two l (λ file. none file.0 (begun.names file.0 file.1) (sym file.2))
           ∙ used.others tells l (λ file. none file.0 (inr file.1) file.2)
           )) (one l (λ n some. none n (inl some)))
 
@@ -195,10 +209,9 @@ module _ {F D K : Type 0} (folder : folder_of.Ghosts F D) (disk : disk_of.Ghosts
       back
 
   -- a file that stands for the one history or the other before it is put back
-  left_either : (b : Shelf F D folder disk) (g : F) (n : Key) (ds es : List DeltaOf) → IsTrue disk.tells → IsKept b → AreApart b → IsClosed b g → deltas_in (hosted_of b) n ≢ [] → IfSome (container_in b n) (IsFileOfEither n ds es)
+  left_either : (b : Shelf F D folder disk) (g : F) (n : Key) (ds es : List DeltaOf) → IsTrue disk.tells → IsKept b → AreApart b → IsClosed b g → HasContainer (entries_of b) n → IfSome (container_in b n) (IsFileOfEither n ds es)
       → IsFileEither disk.view (folder.files g (file_name_of n)) n ds es
-  left_either b g n ds es tells kept apart closed some either =
-      let x = has_container (entries_of b) n b.containers.in_order some in
+  left_either b g n ds es tells kept apart closed x either =
       let here = found_is (entries_of b) n x.filed x.is in
       let held : IsHeld x.filed.container = all_found deltas_of (λ e. IsHeld e.1.container) (entries_of b) n x.filed kept.held x.is in
       let back = if_some_at _ _ held.0 held.1 (if_some_at _ _ x.filed.container here (closed.back tells apart n)) in
@@ -214,9 +227,9 @@ module _ {F D K : Type 0} (folder : folder_of.Ghosts F D) (disk : disk_of.Ghosts
       let back = if_some_at _ _ held.0 held.1 (if_some_at _ _ x.filed.container here (closed.back tells apart n)) in
       file_begun P (folder.files g (file_name_of n)) x.filed.container held.0 held.1 (subst (λ (o : Option (Container D disk)). IsWrittenOn o (Some x.filed.container) P) (none_at (container_in m n) new) (subst (λ (o : Option (Container D disk)). IsWrittenOn (container_in m n) o P) here written)) back
 
-  stored_whole : (b : Shelf F D folder disk) (g : F) (hs : List Hosted) → IsKept b → IsSettled b → AreApart b → IsClosed b g → hosted_of b ≡ hs → AreStored disk.view (folder.files g) hs
-  stored_whole b g hs kept settled apart closed is n some =
-      let x = has_container (entries_of b) n b.containers.in_order (rw (is) some) in
+  stored_whole : (b : Shelf F D folder disk) (g : F) (P : Key → Type 0) (hs : List Hosted) → IsKept b → IsSettled b → AreApart b → IsClosed b g → hosted_of b ≡ hs → ((n : Key) → P n → HasContainer (entries_of b) n) → AreStored disk.view (folder.files g) P hs
+  stored_whole b g P hs kept settled apart closed is has n some =
+      let x = has n some in
       rw (← is, ← x.deltas) (if_some_at _ _ x.filed.container (found_is (entries_of b) n x.filed x.is) (closed.stored kept settled apart n))
 
   stand_for : (a m : Shelf F D folder disk) (f : F) → IsTrue disk.tells → in_folder a ≡ Some f → IsLoaded a m → (n : Key) → is_some (container_in m n) ≡ true → IsFileOf disk.view (folder.files f (file_name_of n)) n (deltas_in (hosted_of m) n)
@@ -230,6 +243,34 @@ module _ {F D K : Type 0} (folder : folder_of.Ghosts F D) (disk : disk_of.Ghosts
   are_loaded m n some =
       let x = has_container (entries_of m) n m.containers.in_order some in
       ap is_some (found_is (entries_of m) n x.filed x.is)
+
+  -- a container that was there stays, and one whose history begins comes
+  stays_there : (o p : Option (Container D disk)) (P : List ℕ → Type 0) → is_some o ≡ true → IsWrittenOn o p P → is_some p ≡ true
+  stays_there None p P some written = absurd (true≢false (sym some))
+  stays_there (Some c) None P some written = absurd written
+  stays_there (Some c) (Some d) P some written = refl
+
+  is_there : (m b : Shelf F D folder disk) (hs : List Hosted) (P : Key → List ℕ → Type 0) → AreWrittenOn m b P → ((n : Key) → Begins (deltas_in hs n) (deltas_in (hosted_of b) n)) → (n : Key) → IsThere (λ n. is_some (container_in m n)) hs n
+      → HasContainer (entries_of b) n
+  is_there m b hs P written grown n (inl some) = container_there (entries_of b) n b.containers.in_order (stays_there (container_in m n) (container_in b n) (P n) some (written n))
+  is_there m b hs P written grown n (inr some) = has_container (entries_of b) n b.containers.in_order (λ none. some (nothing_before (deltas_in hs n) (deltas_in (hosted_of b) n) (grown n) none))
+
+  -- the file of a name that has no container, from the folder f from which the shelf m was loaded to the folder g into which b was closed
+  unmade_at_end : (m b : Shelf F D folder disk) (f g : F) (l : List ℕ) → IsTrue folder.tells → IsSome (in_folder m)
+      → IfSome (in_folder m) (λ h. (l : List ℕ) → ((n : Key) → IsSome (container_in m n) → l ≢ file_name_of n) → IsAsBefore disk.view (folder.files f l) (folder.files h l))
+      → IfSome (in_folder b) (λ k. (l : List ℕ) → (HasFile b l → ⊥) → folder.files g l ≡ folder.files k l)
+      → IsUnmadeIn folder disk l (in_folder m) (in_folder b) → ((n : Key) → IsSome (container_in m n) → l ≢ file_name_of n) → (HasFile b l → ⊥)
+      → IsAsBefore disk.view (folder.files f l) (folder.files g l) ⊎ IsEmptiedSince disk.view (folder.files f l) (folder.files g l)
+  unmade_at_end m b f g l tells some before after unmade unloaded unfiled = go (in_folder m) (in_folder b) some before after unmade
+    where
+      go : (o p : Option F) → IsSome o → IfSome o (λ h. (l : List ℕ) → ((n : Key) → IsSome (container_in m n) → l ≢ file_name_of n) → IsAsBefore disk.view (folder.files f l) (folder.files h l))
+          → IfSome p (λ k. (l : List ℕ) → (HasFile b l → ⊥) → folder.files g l ≡ folder.files k l) → IsUnmadeIn folder disk l o p
+          → IsAsBefore disk.view (folder.files f l) (folder.files g l) ⊎ IsEmptiedSince disk.view (folder.files f l) (folder.files g l)
+      go None p there one two unmade = absurd (true≢false (sym there))
+      go (Some h) None there one two unmade = absurd unmade
+      go (Some h) (Some k) there one two unmade =
+          subst (λ (o : Option D). IsAsBefore disk.view (folder.files f l) o ⊎ IsEmptiedSince disk.view (folder.files f l) o) (sym (two l unfiled))
+          (unmade_since disk.view (folder.files f l) (folder.files h l) (folder.files k l) (one l unloaded) (unmade tells))
 
   -- from the first shelf to the folder into which the disks of the last were put back
   pub still_closed : (a b : Shelf F D folder disk) (f g : F) → in_folder a ≡ Some f → IsStillIn folder (in_folder a) (in_folder b) → IfSome (in_folder b) (λ h. IsStill folder h g) → IsStill folder f g
@@ -267,17 +308,40 @@ module _ {F D K : Type 0} (folder : folder_of.Ghosts F D) (disk : disk_of.Ghosts
         held = held m o.run.turns;
         stored = λ apart. stored_from b g (hosted_after (hosted_of m) o.run.turns) tells (o.moved.kept kept.0) (apart_at_end m b (o.run.turns ++ o.tried) o.moved apart) closed o.grown;
         whole = λ s apart.
-            stored_whole b g (hosted_after (hosted_of m) o.run.turns) (o.moved.kept kept.0) ((o.whole s).1 kept.0 kept.1) (apart_at_end m b (o.run.turns ++ o.tried) o.moved apart) closed (o.whole s).0;
+            stored_whole b g (IsThere (λ n. is_some (container_in m n)) (hosted_after (hosted_of m) o.run.turns)) (hosted_after (hosted_of m) o.run.turns) (o.moved.kept kept.0) ((o.whole s).1 kept.0 kept.1) (apart_at_end m b (o.run.turns ++ o.tried) o.moved apart) closed (o.whole s).0
+            (is_there m b (hosted_after (hosted_of m) o.run.turns) (λ n. StandsAlong (start (hosted_of m)) n (o.run.turns ++ o.tried)) (o.left.moments kept.0 kept.1) o.grown);
         one = o.left.one;
         left = λ apart n some.
             left_either b g n (deltas_in (hosted_after (hosted_of m) o.run.turns) n) (deltas_in (hosted_after (hosted_of m) (o.run.turns ++ o.tried)) n) tells (o.moved.kept kept.0) (apart_at_end m b (o.run.turns ++ o.tried) o.moved apart) closed
-            (λ none. some (nothing_before (deltas_in (hosted_after (hosted_of m) o.run.turns) n) (deltas_in (hosted_of b) n) (o.grown n) none)) (o.left.files kept.0 kept.1 n);
+            (is_there m b (hosted_after (hosted_of m) o.run.turns) (λ n. StandsAlong (start (hosted_of m)) n (o.run.turns ++ o.tried)) (o.left.moments kept.0 kept.1) o.grown n some) (o.left.files kept.0 kept.1 n);
         moments = λ apart. files_since folder m b f g (λ n. StandsAlong (start (hosted_of m)) n (o.run.turns ++ o.tried)) tells (if_some_at _ _ f is (loaded.read tells)) (o.left.moments kept.0 kept.1) (apart_at_end m b (o.run.turns ++ o.tried) o.moved apart) closed;
         begun = λ apart n new some.
             begun_file m b g n (StandsAlong (start (hosted_of m)) n (o.run.turns ++ o.tried)) tells (o.moved.kept kept.0) (apart_at_end m b (o.run.turns ++ o.tried) o.moved apart) closed new
             (λ none. some (nothing_before (deltas_in (hosted_after (hosted_of m) o.run.turns) n) (deltas_in (hosted_of b) n) (o.grown n) none)) (o.left.moments kept.0 kept.1 n);
-        others = λ l none. others_at_end m b f g (o.run.turns ++ o.tried) folder_tells kept.0.filed o.moved (if_some_at _ _ f is (loaded.as_before tells)) (closed.others tells) l none;
+        first = λ apart n new sent none. first_file apart n new sent none (container_in b n) refl;
+        others = λ l none. others_at_end m b f g (hosted_after (hosted_of m) (o.run.turns ++ o.tried)) folder_tells kept.0.filed o.left.begun (if_some_at _ _ f is (loaded.as_before tells)) (closed.others tells) l none;
       }
+    where
+      first_file : AreApartIn (λ n. (is_some (container_in m n) ≡ true) ⊎ (submitted_in (o.run.turns ++ o.tried) n ≡ true)) → (n : Key) → is_some (container_in m n) ≡ false → submitted_in (o.run.turns ++ o.tried) n ≡ true
+          → deltas_in (hosted_after (hosted_of m) o.run.turns) n ≡ [] → (c : Option (Container D disk)) → container_in b n ≡ c
+          → IsFileTried disk.view (folder.files f (file_name_of n)) (folder.files g (file_name_of n)) n (deltas_in (hosted_after (hosted_of m) (o.run.turns ++ o.tried)) n)
+      first_file apart n new sent none (Some c) here =
+          let kept = loaded.kept tells in
+          let es = deltas_in (hosted_after (hosted_of m) (o.run.turns ++ o.tried)) n in
+          inl (left_either b g n [] es tells (o.moved.kept kept.0) (apart_at_end m b (o.run.turns ++ o.tried) o.moved apart) closed (container_there (entries_of b) n b.containers.in_order (ap is_some here))
+          (subst (λ (ds : List DeltaOf). IfSome (container_in b n) (IsFileOfEither n ds es)) none (o.left.files kept.0 kept.1 n)))
+      first_file apart n new sent none None here =
+          let kept = loaded.kept tells in
+          let alone : (k : Key) → IsSome (container_in b k) → file_name_of k ≢ file_name_of n = λ k some same.
+          true≢false (sym some ∙ ap (λ (j : Key). is_some (container_in b j)) (apart k n (from_either m b (o.run.turns ++ o.tried) o.moved k some) (inr sent) same) ∙ ap is_some here) in
+          inr (unmade_at_end m b f g (file_name_of n) folder_tells kept.0.filed (if_some_at _ _ f is (loaded.as_before tells)) (closed.others tells)
+          (o.left.unmade (file_name_of n) (λ file. alone file.0 file.1 file.2)
+          (λ file. alone file.0 (ap is_some (found_is (entries_of b) file.0 (has_delta file.0 file.1).filed (has_delta file.0 file.1).is)) (sym file.2)))
+          (λ k some same. true≢false (sym some ∙ ap (λ (j : Key). is_some (container_in m j)) (apart k n (inl some) (inr sent) (sym same)) ∙ new))
+          (λ file. alone file.0 file.1 file.2))
+        where
+          has_delta : (k : Key) → deltas_in (hosted_after (hosted_of m) o.run.turns) k ≢ [] → HasContainer (entries_of b) k
+          has_delta k some = has_container (entries_of b) k b.containers.in_order (λ gone. some (nothing_before (deltas_in (hosted_after (hosted_of m) o.run.turns) k) (deltas_in (hosted_of b) k) (o.grown k) gone))
 
   -- a file is one of the containers', or it isn't
   has_file : (es : List (Key × Filed D disk)) (l : List ℕ) → ((n : Key) × IsSome (found es n) × (file_name_of n ≡ l)) ⊎ ((n : Key) → IsSome (found es n) → file_name_of n ≢ l)
@@ -427,6 +491,7 @@ module _ {F D K : Type 0} (folder : folder_of.Ghosts F D) (disk : disk_of.Ghosts
     left = r.left;
     moments = λ apart n is. subst (λ (o : Option D). IsFileSince disk.view o (folder.files g (file_name_of n)) (StandsAlong (start r.hosted) n (r.run.turns ++ r.tried))) (same (file_name_of n)) (r.moments apart n is);
     begun = r.begun;
+    first = λ apart n new sent none. subst (λ (o : Option D). IsFileTried disk.view o (folder.files g (file_name_of n)) n (deltas_in (hosted_after r.hosted (r.run.turns ++ r.tried)) n)) (same (file_name_of n)) (r.first apart n new sent none);
     others = λ m none. subst (λ (o : Option D). IsAsBefore disk.view o (folder.files g m)) (same m) (r.others m none);
   }
 

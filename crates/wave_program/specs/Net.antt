@@ -1,5 +1,6 @@
 -- Runs of a server.
 --     IfServe c P            P of the words of a command that is one of a server
+--     IsServer c             it is such a command
 --     IsEntered ..           nothing more was entered; for want of memory, maybe nothing at all
 --     AreLeft f g            each file of one folder is in the other, where a read gives the same and a crash leaves no more
 --     IsServedFrom .. marks  the folder was entered, and the marks of each shard begin with the histories for which its files stood
@@ -20,8 +21,17 @@ IfServe (Some (Pipe folder)) P = Unit {0}
 IfServe (Some (Load n)) P = Unit {0}
 IfServe (Some (Play folder wavelet)) P = Unit {0}
 IfServe (Some (Inbox folder user)) P = Unit {0}
-IfServe (Some (Serve domain listen sessions folder)) P = P domain listen sessions folder
+IfServe (Some (Serve domain listen sessions folder echo)) P = P domain listen sessions folder
 IfServe (Some (Edit user client connect)) P = Unit {0}
+
+abbrev pub IsServer : Option CommandOf → Type 0
+IsServer None = ⊥
+IsServer (Some (Pipe folder)) = ⊥
+IsServer (Some (Load n)) = ⊥
+IsServer (Some (Play folder wavelet)) = ⊥
+IsServer (Some (Inbox folder user)) = ⊥
+IsServer (Some (Serve domain listen sessions folder echo)) = Unit {0}
+IsServer (Some (Edit user client connect)) = ⊥
 
 -- the folder before and after it
 abbrev pub IsEntered : {F D : Type 0} → folder_of.Ghosts F D → List Entry → F → F → ℕ → Type 0

@@ -3,7 +3,8 @@
 --     hosted_after hs ts      its histories then
 --     IsOneAtMost ts          there is one turn at most
 --     IsLeftOf a b ts us      a run over the shelf a answered the turns ts, and tried us: the histories are those of before that or those
---                             it leads to, and each file stands for one of the two
+--                             it leads to, each file stands for one of the two, files and containers came for names alone that have
+--                             a delta, and the file of a name that has none yet is as it was, or emptied, where it is no container's
 --     IsOver                  a run over a shelf: what it read and wrote, and the shelf before and behind it
 use Rattle.std.specs.Prelude.{◌≡◌, ◌⊎◌, ℕ, List, [], ◌∷◌, ◌++◌, Option, IfSome, true}
 use Rattle.doc_items.specs.Maps.{Key}
@@ -14,9 +15,10 @@ use Rattle.line_loop.specs.Lines.{turned, IsPrefix}
 use Rattle.line_loop.specs.Told.{IsRun}
 use Rattle.line_loop.specs.Turns.{Turn, lines_in}
 use Rattle.wavelet_shelf.specs.Hosting.{Hosted, deltas_in}
-use Rattle.wavelet_shelf.specs.Shelves.{hosted_of, container_in, IsKept, IsSettled}
+use Rattle.wavelet_shelf.specs.Folders.{IsUnmadeIn}
+use Rattle.wavelet_shelf.specs.Shelves.{in_folder, hosted_of, container_in, IsKept, IsSettled, HasFile}
 use Rattle.wavelet_shelf.specs.declared.shelf.Shelf.{Shelf}
-use Rattle.pipe_machine.specs.Keeping.{Begins, IsFileOfEither, AreWrittenOn, IsMoved, submitted_in}
+use Rattle.pipe_machine.specs.Keeping.{Begins, IsFileOfEither, IsFileWith, AreWrittenOn, AreBegun, IsMoved, submitted_in}
 use Rattle.pipe_machine.specs.Lines.{lines_of}
 use Rattle.pipe_machine.specs.Machine.{start, sent, after}
 use Rattle.pipe_machine.specs.Pipes.{StandsAlong}
@@ -37,6 +39,8 @@ module _ {F D : Type 0} {folder : folder_of.Ghosts F D} {disk : disk_of.Ghosts D
     pub hosted : (hosted_of b ≡ hosted_after (hosted_of a) turns) ⊎ (hosted_of b ≡ hosted_after (hosted_of a) (turns ++ tried))
     -- and whenever the run was cut off, a crash left a history on the way
     pub moments : IsKept a → IsSettled a → AreWrittenOn a b (λ n. StandsAlong (start (hosted_of a)) n (turns ++ tried))
+    pub begun : AreBegun a b (hosted_after (hosted_of a) (turns ++ tried))
+    pub unmade : (m : List ℕ) → (HasFile b m → ⊥) → (IsFileWith (hosted_after (hosted_of a) turns) m → ⊥) → IsUnmadeIn folder disk m (in_folder a) (in_folder b)
     pub files : IsKept a → IsSettled a → (n : Key) → IfSome (container_in b n) (IsFileOfEither n (deltas_in (hosted_after (hosted_of a) turns) n) (deltas_in (hosted_after (hosted_of a) (turns ++ tried)) n))
 
 module _ {F D K : Type 0} {folder : folder_of.Ghosts F D} {disk : disk_of.Ghosts D} (clock : clock_of.Ghosts K) where

@@ -2,9 +2,12 @@
 --     IsFileOf o n ds           the file stands for this history of the name, as it reads
 --     GoesOn n ds bytes         bytes stand for a history of the name that begins with these deltas
 --     IsStoredFrom o n ds       so does the file, as it reads and in each image
---     AreStored files hs        the file of each name that has a delta stands for its history, as it reads and in each image
---     AreStoredFrom files hs    so it does for a history that begins with that
+--     IsThere loaded hs n       the file of the name was loaded, or the name has a delta
+--     AreStored files P hs      the file of each name with P stands for its history, as it reads and in each image
+--     AreStoredFrom files hs    that of each name that has a delta stands for a history that begins with its own
 --     IsFileEither o n ds es    as it reads, and in each image, the file stands for the one history of the name or the other
+--     IsEmptiedSince o p        the file reads as empty, and a crash leaves it empty, or as it was before
+--     IsFileTried o p n es      the file stands for the empty history of the name or for this one, or is as it was, or emptied
 --     IsFileSince o p P         the file stands at both ends of a run, and a crash since the first left what it might have left before, or what
 --                               has P
 --     IsFileBegun p P           it was made in the run, empty, and a crash since then left it so, or with what has P
@@ -83,15 +86,30 @@ module _ {D : Type 0} (view : D → DiskView) where
   IsFileBegun None P = ⊥
   IsFileBegun (Some g) P = BeganEmpty view (view g) P
 
-  abbrev pub AreStored : (List ℕ → Option D) → List Hosted → Type 0
-  AreStored files hs = (n : Key) → deltas_in hs n ≢ [] → IsStoredFile view (files (file_name_of n)) n (deltas_in hs n)
+  abbrev pub AreStored : (List ℕ → Option D) → (Key → Type 0) → List Hosted → Type 0
+  AreStored files P hs = (n : Key) → P n → IsStoredFile view (files (file_name_of n)) n (deltas_in hs n)
 
   abbrev pub AreStoredFrom : (List ℕ → Option D) → List Hosted → Type 0
   AreStoredFrom files hs = (n : Key) → deltas_in hs n ≢ [] → IsStoredFrom (files (file_name_of n)) n (deltas_in hs n)
 
+abbrev pub IsThere : (Key → Bool) → List Hosted → Key → Type 0
+IsThere loaded hs n = (loaded n ≡ true) ⊎ (deltas_in hs n ≢ [])
+
 abbrev pub IsFileEither : {D : Type 0} → (D → DiskView) → Option D → Key → List DeltaOf → List DeltaOf → Type 0
 IsFileEither view None n ds es = ⊥
 IsFileEither view (Some f) n ds es = Kept (view f) (λ bytes. StandsForHistory n ds bytes ⊎ StandsForHistory n es bytes)
+
+-- an image of the file of before, or what a read of it gave
+abbrev pub IsOldOf : {D : Type 0} → (D → DiskView) → Option D → List ℕ → Type 0
+IsOldOf view None c = ⊥
+IsOldOf view (Some f) c = IsOld (view f) c
+
+abbrev pub IsEmptiedSince : {D : Type 0} → (D → DiskView) → Option D → Option D → Type 0
+IsEmptiedSince view o None = ⊥
+IsEmptiedSince view o (Some g) = ((view g).seen ≡ []) × ((c : List ℕ) → (view g).may_leave c → (c ≡ []) ⊎ IsOldOf view o c)
+
+abbrev pub IsFileTried : {D : Type 0} → (D → DiskView) → Option D → Option D → Key → List DeltaOf → Type 0
+IsFileTried view o p n es = IsFileEither view p n [] es ⊎ (IsAsBefore view o p ⊎ IsEmptiedSince view o p)
 
 abbrev pub AreApartIn : (Key → Type 0) → Type 0
 AreApartIn P = (n m : Key) → P n → P m → file_name_of n ≡ file_name_of m → n ≡ m
@@ -175,10 +193,10 @@ module _ {F D : Type 0} (folder : folder_of.Ghosts F D) (disk : disk_of.Ghosts D
     -- whatever was sent stands in the histories, and these in the files: just these, where no turn failed
     pub held : All (λ s. IsHeld (hosted_after hosted run.turns) s.message) (sent (start hosted) run.turns)
     pub stored : AreApartIn (λ n. (loaded n ≡ true) ⊎ (submitted_in (run.turns ++ tried) n ≡ true)) → AreStoredFrom disk.view (folder.files g) (hosted_after hosted run.turns)
-    pub whole : IsWhole status → AreApartIn (λ n. (loaded n ≡ true) ⊎ (submitted_in (run.turns ++ tried) n ≡ true)) → AreStored disk.view (folder.files g) (hosted_after hosted run.turns)
+    pub whole : IsWhole status → AreApartIn (λ n. (loaded n ≡ true) ⊎ (submitted_in (run.turns ++ tried) n ≡ true)) → AreStored disk.view (folder.files g) (IsThere loaded (hosted_after hosted run.turns)) (hosted_after hosted run.turns)
     -- one turn at most was tried; each file stands for its history before that, or for the one that it leads to
     pub one : IsOneAtMost tried
-    pub left : AreApartIn (λ n. (loaded n ≡ true) ⊎ (submitted_in (run.turns ++ tried) n ≡ true)) → (n : Key) → deltas_in (hosted_after hosted run.turns) n ≢ []
+    pub left : AreApartIn (λ n. (loaded n ≡ true) ⊎ (submitted_in (run.turns ++ tried) n ≡ true)) → (n : Key) → IsThere loaded (hosted_after hosted run.turns) n
         → IsFileEither disk.view (folder.files g (file_name_of n)) n (deltas_in (hosted_after hosted run.turns) n) (deltas_in (hosted_after hosted (run.turns ++ tried)) n)
     -- at whatever moment the run is cut off, a crash leaves each file as it was found, or as a journal of its history after some of the turns
     pub moments : AreApartIn (λ n. (loaded n ≡ true) ⊎ (submitted_in (run.turns ++ tried) n ≡ true)) → (n : Key) → loaded n ≡ true
@@ -186,8 +204,11 @@ module _ {F D : Type 0} (folder : folder_of.Ghosts F D) (disk : disk_of.Ghosts D
     -- and so it leaves one that was made, from then on
     pub begun : AreApartIn (λ n. (loaded n ≡ true) ⊎ (submitted_in (run.turns ++ tried) n ≡ true)) → (n : Key) → loaded n ≡ false → deltas_in (hosted_after hosted run.turns) n ≢ []
         → IsFileBegun disk.view (folder.files g (file_name_of n)) (StandsAlong (start hosted) n (run.turns ++ tried))
-    -- the files of other names are as they were, but for what a sync settles
-    pub others : (m : List ℕ) → ((n : Key) → (loaded n ≡ true) ⊎ (submitted_in (run.turns ++ tried) n ≡ true) → m ≢ file_name_of n) → IsAsBefore disk.view (folder.files f m) (folder.files g m)
+    -- the file of a name of which no delta was acknowledged stands for none, or for the one that was tried, or is as it was, or emptied
+    pub first : AreApartIn (λ n. (loaded n ≡ true) ⊎ (submitted_in (run.turns ++ tried) n ≡ true)) → (n : Key) → loaded n ≡ false → submitted_in (run.turns ++ tried) n ≡ true → deltas_in (hosted_after hosted run.turns) n ≡ []
+        → IsFileTried disk.view (folder.files f (file_name_of n)) (folder.files g (file_name_of n)) n (deltas_in (hosted_after hosted (run.turns ++ tried)) n)
+    -- all other files are as they were, but for what a sync settles: also that of a name to which no delta was accepted
+    pub others : (m : List ℕ) → ((n : Key) → IsThere loaded (hosted_after hosted (run.turns ++ tried)) n → m ≢ file_name_of n) → IsAsBefore disk.view (folder.files f m) (folder.files g m)
 
   -- the folder before and after it
   pub record IsReadRun (P : List Hosted → Type 0) (entries : List Entry) (f g : F) : Type 0 where

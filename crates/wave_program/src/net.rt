@@ -6,10 +6,12 @@ ghost use Rattle.command_words.specs.Shown.{shown};
 ghost use Rattle.doc_items.specs.Limits.{max_count};
 ghost use Rattle.wave_outside.specs.Counts.{Rose};
 ghost use Rattle.shard_marks.specs.Passes.{marks_of};
+ghost use Rattle.robot_host.specs.Hosts.{host_as, IsNew};
+ghost use Rattle.wave_server.specs.Robots.{WereServed};
 ghost use Rattle.wave_server.specs.Running.{BeginWith, HasServed};
 ghost use Rattle.wave_server.specs.Statuses.{IsServerStatus};
 ghost use Rattle.wave_program.specs.Edit.{IfEdit, IsClient, HasNetCause, IsEditRun};
-ghost use Rattle.wave_program.specs.Net.{IfServe, IsServedFrom, IsEntered, AreLeft};
+ghost use Rattle.wave_program.specs.Net.{IfServe, IsServer, IsServedFrom, IsEntered, AreLeft};
 ghost use Rattle.wave_program.specs.Run.{IsStatus};
 ghost use Rattle.wave_program.specs.Store.{entered_at, IsUnloaded};
 ghost use Rattle.wave_program.specs.Words.{IsStoring};
@@ -18,6 +20,7 @@ use crate::edit::edit_over;
 use crate::outside::Outside;
 use crate::store::{put_back, tell};
 use command_words::Command;
+use robot_host::{Robot, RobotHost};
 use session_link::LinkJob;
 use std::alloc::Global;
 use std::mem::replace;
@@ -38,8 +41,15 @@ pub fn net_command<
     N: Net,
     P: Spawner<LinkJob<N::Link, F, C, G>, R>,
     G: Gate + Drop,
->(rt: &R, alloc: Global, command: Command<'_>, outside: &mut Outside<S, W, F, C, N, P, G>) -> u8
+>(
+    rt: &R,
+    alloc: Global,
+    command: Command<'_>,
+    outside: &mut Outside<S, W, F, C, N, P, G>,
+    robots: &mut RobotHost,
+) -> u8
     requires sends { IsSend R.row }
+    requires new { IsNew (host_as ⟦<dyn Robot as Robot>⟧ robots.old) }
     requires net { needs_net (shown command) ≡ true }
     requires key { (user connect : List ℕ) (k : ℕ) → shown command ≡ Edit user k connect → k ≤ max_count }
     requires empty { (vec_len outside.old.server.ended ≡ 0) × (is_some outside.old.server.spent ≡ false) × (is_some outside.old.server.passes ≡ false) }
@@ -48,6 +58,9 @@ pub fn net_command<
     ensures done { IfServe (Some (shown command.entry)) (λ domain listen sessions store.
         result ≡ 0 → (n : ℕ) × (sessions ≡ Some n) × (vec_len outside.new.server.ended ≡ n) × (is_some outside.new.server.passes ≡ true)
         × (N.accepted outside.old.server.net < 2 ^ 64 → N.accepted outside.new.server.net ≡ min (N.accepted outside.old.server.net + n) (2 ^ 64 - 1))) }
+    ensures robots { IfServe (Some (shown command.entry)) (λ domain listen sessions store.
+        result ≡ 0 → IfSome outside.new.server.passes (λ p. WereServed domain (marks_of p) (host_as ⟦<dyn Robot as Robot>⟧ robots.new))) }
+    ensures robots_left { (IsServer (Some (shown command.entry)) → ⊥) → robots.new ≡ robots.old }
     ensures plain { IfServe (Some (shown command.entry)) (λ domain listen sessions store. store ≡ None → IfSome outside.new.server.passes (λ p. BeginWith domain [] (marks_of p))) }
     ensures alone { (IsStoring (Some (shown command.entry)) → ⊥) → outside.new.folder ≡ outside.old.folder }
     ensures silent { IfServe (Some (shown command.entry)) (λ domain listen sessions store. (result ≡ 6 → ⊥) → outside.new.sink ≡ outside.old.sink) }
@@ -82,7 +95,8 @@ pub fn net_command<
             listen,
             sessions,
             store,
-        } => serve_net(rt, alloc, domain, listen, sessions, store, outside),
+            echo: _echo,
+        } => serve_net(rt, alloc, domain, listen, sessions, store, outside, robots),
         Command::Edit {
             user,
             client,
@@ -117,12 +131,15 @@ fn serve_net<
     sessions: Option<u64>,
     store: Option<&str>,
     outside: &mut Outside<S, W, F, C, N, P, G>,
+    robots: &mut RobotHost,
 ) -> u8
     requires sends { IsSend R.row }
+    requires new { IsNew (host_as ⟦<dyn Robot as Robot>⟧ robots.old) }
     requires empty { (vec_len outside.old.server.ended ≡ 0) × (is_some outside.old.server.spent ≡ false) × (is_some outside.old.server.passes ≡ false) }
     ensures served { IfSome outside.new.server.passes (λ p. HasServed N.Link.tells N.Link.events N.Link.faults N.Link.closed domain (marks_of p) (is_some sessions) (is_some outside.new.server.spent) (N.back outside.old.server.net) (N.back outside.new.server.net) outside.new.server.ended.items) }
     ensures done { result ≡ 0 → (n : ℕ) × (sessions ≡ Some n) × (vec_len outside.new.server.ended ≡ n) × (is_some outside.new.server.passes ≡ true)
         × (N.accepted outside.old.server.net < 2 ^ 64 → N.accepted outside.new.server.net ≡ min (N.accepted outside.old.server.net + n) (2 ^ 64 - 1)) }
+    ensures robots { result ≡ 0 → IfSome outside.new.server.passes (λ p. WereServed domain (marks_of p) (host_as ⟦<dyn Robot as Robot>⟧ robots.new)) }
     ensures door { result ≡ 7 → Rose (N.door outside.old.server.net) (N.door outside.new.server.net) }
     ensures refused { result ≡ 9 → Rose (P.refused outside.old.server.spawner) (P.refused outside.new.server.spawner) }
     ensures spent { (result ≡ 12 → is_some outside.new.server.spent ≡ true) × (is_some outside.new.server.spent ≡ true → result ≡ 12) }
@@ -152,10 +169,11 @@ fn serve_net<
                 sessions,
                 Shelf::new(alloc),
                 clock,
+                robots,
                 server,
             )
         }
-        Some(path) => serve_path(rt, alloc, domain, listen, sessions, path, outside),
+        Some(path) => serve_path(rt, alloc, domain, listen, sessions, path, outside, robots),
     }
 }
 
@@ -177,12 +195,15 @@ fn serve_path<
     sessions: Option<u64>,
     path: &str,
     outside: &mut Outside<S, W, F, C, N, P, G>,
+    robots: &mut RobotHost,
 ) -> u8
     requires sends { IsSend R.row }
+    requires new { IsNew (host_as ⟦<dyn Robot as Robot>⟧ robots.old) }
     requires empty { (vec_len outside.old.server.ended ≡ 0) × (is_some outside.old.server.spent ≡ false) × (is_some outside.old.server.passes ≡ false) }
     ensures served { IfSome outside.new.server.passes (λ p. HasServed N.Link.tells N.Link.events N.Link.faults N.Link.closed domain (marks_of p) (is_some sessions) (is_some outside.new.server.spent) (N.back outside.old.server.net) (N.back outside.new.server.net) outside.new.server.ended.items) }
     ensures done { result ≡ 0 → (n : ℕ) × (sessions ≡ Some n) × (vec_len outside.new.server.ended ≡ n) × (is_some outside.new.server.passes ≡ true)
         × (N.accepted outside.old.server.net < 2 ^ 64 → N.accepted outside.new.server.net ≡ min (N.accepted outside.old.server.net + n) (2 ^ 64 - 1)) }
+    ensures robots { result ≡ 0 → IfSome outside.new.server.passes (λ p. WereServed domain (marks_of p) (host_as ⟦<dyn Robot as Robot>⟧ robots.new)) }
     ensures door { result ≡ 7 → Rose (N.door outside.old.server.net) (N.door outside.new.server.net) }
     ensures refused { result ≡ 9 → Rose (P.refused outside.old.server.spawner) (P.refused outside.new.server.spawner) }
     ensures spent { (result ≡ 12 → is_some outside.new.server.spent ≡ true) × (is_some outside.new.server.spent ≡ true → result ≡ 12) }
@@ -197,7 +218,7 @@ fn serve_path<
     ensures known { IsServerStatus result ⊎ ((result ≡ 5) ⊎ (result ≡ 6)) }
 {
     match outside.folder.enter(alloc, path) {
-        Ok(()) => serve_folder(rt, alloc, domain, listen, sessions, outside),
+        Ok(()) => serve_folder(rt, alloc, domain, listen, sessions, outside, robots),
         Err(FolderFault::Failed) => 5,
         Err(FolderFault::Memory) => 8,
     }
@@ -220,12 +241,15 @@ fn serve_folder<
     listen: &str,
     sessions: Option<u64>,
     outside: &mut Outside<S, W, F, C, N, P, G>,
+    robots: &mut RobotHost,
 ) -> u8
     requires sends { IsSend R.row }
+    requires new { IsNew (host_as ⟦<dyn Robot as Robot>⟧ robots.old) }
     requires empty { (vec_len outside.old.server.ended ≡ 0) × (is_some outside.old.server.spent ≡ false) × (is_some outside.old.server.passes ≡ false) }
     ensures served { IfSome outside.new.server.passes (λ p. HasServed N.Link.tells N.Link.events N.Link.faults N.Link.closed domain (marks_of p) (is_some sessions) (is_some outside.new.server.spent) (N.back outside.old.server.net) (N.back outside.new.server.net) outside.new.server.ended.items) }
     ensures done { result ≡ 0 → (n : ℕ) × (sessions ≡ Some n) × (vec_len outside.new.server.ended ≡ n) × (is_some outside.new.server.passes ≡ true)
         × (N.accepted outside.old.server.net < 2 ^ 64 → N.accepted outside.new.server.net ≡ min (N.accepted outside.old.server.net + n) (2 ^ 64 - 1)) }
+    ensures robots { result ≡ 0 → IfSome outside.new.server.passes (λ p. WereServed domain (marks_of p) (host_as ⟦<dyn Robot as Robot>⟧ robots.new)) }
     ensures door { result ≡ 7 → Rose (N.door outside.old.server.net) (N.door outside.new.server.net) }
     ensures refused { result ≡ 9 → Rose (P.refused outside.old.server.spawner) (P.refused outside.new.server.spawner) }
     ensures spent { (result ≡ 12 → is_some outside.new.server.spent ≡ true) × (is_some outside.new.server.spent ≡ true → result ≡ 12) }
@@ -246,7 +270,9 @@ fn serve_folder<
     match shelf.load(alloc) {
         Ok(()) => {
             let Outside { clock, server, .. } = outside;
-            serve(rt, alloc, domain, listen, sessions, shelf, clock, server)
+            serve(
+                rt, alloc, domain, listen, sessions, shelf, clock, robots, server,
+            )
         }
         Err(fault) => {
             let status = tell(alloc, &mut outside.sink, &fault);

@@ -8,11 +8,13 @@ ghost use Rattle.line_loop.specs.Run.{byte_limit};
 ghost use Rattle.line_loop.specs.Told.{WhereTold, IsRun};
 ghost use Rattle.wavelet_shelf.specs.Loads.{IsSound};
 ghost use Rattle.shard_marks.specs.Passes.{marks_of};
+ghost use Rattle.robot_host.specs.Hosts.{host_as, IsNew};
+ghost use Rattle.wave_server.specs.Robots.{WereServed};
 ghost use Rattle.wave_server.specs.Running.{BeginWith, HasServed};
 ghost use Rattle.wave_server.specs.Statuses.{IsServerStatus};
 ghost use Rattle.wave_program.specs.Edit.{IfEdit, IsClient, HasNetCause, IsEditRun};
 ghost use Rattle.wave_program.specs.Load.{IsLoaded};
-ghost use Rattle.wave_program.specs.Net.{IfServe, IsServedFrom, IsEntered, AreLeft};
+ghost use Rattle.wave_program.specs.Net.{IfServe, IsServer, IsServedFrom, IsEntered, AreLeft};
 ghost use Rattle.wave_program.specs.Pipe.{answers_over};
 ghost use Rattle.wave_program.specs.Run.{IsStatus};
 ghost use Rattle.wave_program.specs.Services.{service_of};
@@ -25,6 +27,7 @@ use crate::net::net_command;
 use crate::outside::Outside;
 use crate::words::write_usage;
 use command_words::{WordsFault, read_words};
+use robot_host::{Robot, RobotHost};
 use session_link::LinkJob;
 use std::alloc::Global;
 use std::sync::Wait;
@@ -41,7 +44,8 @@ use wave_outside::{Clock, Folder, Gate, Net, Sink, Source, Spawner};
 /// workload and writes its summary as a line: 0, 4 where the sink failed, 8 out of memory. On `serve --domain D --listen A` it serves the
 /// wavelets of D over the net, each session in a job of its own, with those of a folder DIR where `--store DIR` names one: 0 once the
 /// number of sessions that `--sessions N` gives have ended, and without one it doesn't end; 5, 6 and 8 as before, 7 where the door failed,
-/// 9 where a session couldn't be started, and 12 where a shard has no turn left. On `edit --user U --client K --connect A` it is the
+/// 9 where a session couldn't be started, and 12 where a shard has no turn left. The robots take part in the server's wavelets; over them no
+/// turn was taken yet. `--echo` asks for a robot that whoever calls has among them. On `edit --user U --client K --connect A` it is the
 /// terminal client of U with the key K, over a link with the server at A: 0 at the end of the input or at the line `quit`, 3, 4, 8 and 10
 /// as before, 7 where the dialling or the link failed, and 11 where the server closed the link. With other words it writes the usage
 /// text and gives 2, or 8 out of memory.
@@ -54,8 +58,15 @@ pub fn run<
     N: Net,
     P: Spawner<LinkJob<N::Link, F, C, G>, R>,
     G: Gate + Drop,
->(rt: &R, alloc: Global, words: &Vec<String>, outside: &mut Outside<S, W, F, C, N, P, G>) -> u8
+>(
+    rt: &R,
+    alloc: Global,
+    words: &Vec<String>,
+    outside: &mut Outside<S, W, F, C, N, P, G>,
+    robots: &mut RobotHost,
+) -> u8
     requires sends { IsSend R.row }
+    requires new { IsNew (host_as ⟦<dyn Robot as Robot>⟧ robots.old) }
     requires empty { (vec_len outside.old.server.ended ≡ 0) × (is_some outside.old.server.spent ≡ false) × (is_some outside.old.server.passes ≡ false) }
     // Lines: they are answered, over no history.
     ensures served { command_of (map string_bytes words.now.items) ≡ Some (Pipe None)
@@ -91,13 +102,16 @@ pub fn run<
     ensures load_complete { (n : ℕ) → command_of (map string_bytes words.now.items) ≡ Some (Load n)
         → (Rose (W.faults outside.old.sink) (W.faults outside.new.sink) → ⊥) → (result ≡ 0) ⊎ (result ≡ 8) }
 
-    // A server: each session that ended was served from the marks that were seen, and these begin with those of the stored histories. Where
+    // A server: each session that ended was served from the marks that were seen, and these begin with those of the stored histories. With 0
+    // the robots were shown all of their views of the histories that these marks give, and something came of each of their edits. Where
     // nothing was served the folder's files read as before.
     ensures net_served { IfServe (command_of (map string_bytes words.now.items)) (λ domain listen sessions store.
         IfSome outside.new.server.passes (λ p. HasServed N.Link.tells N.Link.events N.Link.faults N.Link.closed domain (marks_of p) (is_some sessions) (is_some outside.new.server.spent) (N.back outside.old.server.net) (N.back outside.new.server.net) outside.new.server.ended.items)) }
     ensures net_done { IfServe (command_of (map string_bytes words.now.items)) (λ domain listen sessions store.
         result ≡ 0 → (n : ℕ) × (sessions ≡ Some n) × (vec_len outside.new.server.ended ≡ n) × (is_some outside.new.server.passes ≡ true)
         × (N.accepted outside.old.server.net < 2 ^ 64 → N.accepted outside.new.server.net ≡ min (N.accepted outside.old.server.net + n) (2 ^ 64 - 1))) }
+    ensures net_robots { IfServe (command_of (map string_bytes words.now.items)) (λ domain listen sessions store.
+        result ≡ 0 → IfSome outside.new.server.passes (λ p. WereServed domain (marks_of p) (host_as ⟦<dyn Robot as Robot>⟧ robots.new))) }
     ensures net_plain { IfServe (command_of (map string_bytes words.now.items)) (λ domain listen sessions store. store ≡ None → IfSome outside.new.server.passes (λ p. BeginWith domain [] (marks_of p))) }
     ensures net_stored { IfServe (command_of (map string_bytes words.now.items)) (λ domain listen sessions store. IfSome store (λ path. IsTrue F.tells → IsTrue F.Disk.tells
         → IfSome outside.new.server.passes (λ p. IsServedFrom F.Folder F.Disk.Disk domain (marks_of p) (entered_at F.Folder path outside.old.folder) outside.old.folder outside.new.folder))) }
@@ -126,6 +140,9 @@ pub fn run<
         (outside.new.server.ended ≡ outside.old.server.ended) × (outside.new.server.spent ≡ outside.old.server.spent) × (outside.new.server.passes ≡ outside.old.server.passes)) }
     ensures closed { result ≡ 11 → IsClient (command_of (map string_bytes words.now.items)) }
 
+    // Only a server uses the robots.
+    ensures robots_left { (IsServer (command_of (map string_bytes words.now.items)) → ⊥) → robots.new ≡ robots.old }
+
     // A command without a net leaves the server's parts as they are.
     ensures no_net { ((c : CommandOf) → command_of (map string_bytes words.now.items) ≡ Some c → needs_net c ≡ false) → outside.new.server ≡ outside.old.server }
 
@@ -146,7 +163,7 @@ pub fn run<
     match read_words(alloc, words.as_slice()) {
         Ok(command) => {
             if command.needs_net() {
-                net_command(rt, alloc, command, outside)
+                net_command(rt, alloc, command, outside, robots)
             } else {
                 let (source, sink) = (&mut outside.source, &mut outside.sink);
                 let (folder, clock) = (&mut outside.folder, &mut outside.clock);

@@ -8,13 +8,16 @@
 --     served_more      the one or the other
 --     served_none      nothing has ended yet
 --     served_same      what was served stays so for later marks, where nothing else changed
+--     served_calm      so where a shard may have been seen since to have no turn left
 --     same_begins      passes that have seen the same begin each other
 --     begins_self      passes begin themselves
 --     if_none          nothing is promised of what isn't there
 --     if_more          what follows from a promise is promised as well
 --     ours_none        no job runs
+--     ok_both          what follows from two promises of a result
+--     ended_well       with the status 0 nothing stopped the server
 --     begins_on        what begins the beginning of others begins them
-use Rattle.std.proofs.Common.{arith, refl, sym, ap, subst, ◌∙◌, ◌≡◌, ◌<◌, ℕ, zero, suc, Bool, true, false, MatchBool, true≢false, IsTrue, List, [], ◌∷◌, ◌++◌, All, length, get_or, Option, Some, None, IfSome, is_some, slice_get, append_assoc, append-nil, length-append}
+use Rattle.std.proofs.Common.{arith, refl, sym, ap, subst, ◌∙◌, ◌≡◌, ◌<◌, ℕ, zero, suc, Bool, true, false, MatchBool, true≢false, IsTrue, List, [], ◌∷◌, ◌++◌, All, length, get_or, Option, Some, None, IfSome, is_some, slice_get, Result, Ok, Err, OnOk, IfErr, append_assoc, append-nil, length-append}
 use Rattle.std.proofs.lemmas.List.Elements.{All-append}
 use Rattle.std.proofs.lemmas.Option.{none-some, cond_some}
 use mathlib.Core.List.{IsPrefix}
@@ -30,6 +33,9 @@ use Rattle.session_steps.specs.Served.{IsOver}
 use Rattle.session_steps.specs.Jobs.{IsEnded}
 use Rattle.session_steps.specs.declared.end.EndCause.{EndCause}
 use Rattle.session_steps.specs.declared.end.EndCause.TheVariants.{Closed, Failed}
+use Rattle.wave_server.specs.Statuses.{IsStatus}
+use Rattle.wave_server.specs.declared.stop.Stop.{Stop}
+use Rattle.wave_server.specs.declared.stop.Stop.TheVariants.{Door, Memory, Refused, Spent as SpentStop}
 use Rattle.wave_server.specs.Running.{AreOurs, IsServed, IsEntry, IsCalm, HasServed}
 use Rattle.wave_server.specs.declared.server.Ended.{Ended}
 
@@ -172,6 +178,14 @@ module _ {L : Type 0} (tells : Bool) (events : L → List LinkEvent) (faults : L
       (subst (λ ls. HasServed tells events faults closed d marks' keeps (is_some spent) before ls ended') (sym n)
       (subst (λ es. HasServed tells events faults closed d marks' keeps (is_some spent) before now es) (sym e) (served_stays keeps (is_some spent) before now ended h)))
 
+module _ {L : Type 0} (tells : Bool) (events : L → List LinkEvent) (faults : L → ℕ) (closed : L → Bool) (d : Key) (marks marks' : ℕ → List Mark)
+    (later : (k : ℕ) → k < 16 → IsPrefix (marks k) (marks' k)) where
+  -- where no shard was seen to have no turn left, and nothing changed but that now one may have been
+  pub served_calm : (keeps spent spent' : Bool) (before now : List L) (ended : List Ended) → spent ≡ false → HasServed tells events faults closed d marks keeps spent before now ended → HasServed tells events faults closed d marks' keeps spent' before now ended
+  served_calm keeps spent spent' before now ended calm h =
+      let stays = served_stays tells events faults closed d marks marks' later keeps spent before now ended h in
+      record { back = stays.back; split = stays.split; count = stays.count; each = stays.each; placed = stays.placed; unspent = λ none. stays.unspent calm }
+
 pub same_begins : {T : Type 0} (ps qs : Passes T Mark) → AreSame ps qs → Begins ps qs
 same_begins ps qs same k low = ([], append-nil (seen_at ps k) ∙ sym (same k low).seen)
 
@@ -205,3 +219,15 @@ module _ {X : Type 0} (P : X → Type 0) where
   pub if_more : (Q : X → Type 0) → ((x : X) → P x → Q x) → (o : Option X) → IfSome o P → IfSome o Q
   if_more Q f None h = tt
   if_more Q f (Some x) h = f x h
+
+pub ok_both : {A E P Q S : Type 0} (r : Result A E) → (P → Q → S) → OnOk r P → OnOk r Q → OnOk r S
+ok_both (Ok a) f p q = f p q
+ok_both (Err e) f p q = tt
+
+-- the status 0 is that of an end without a stop
+pub ended_well : {A P : Type 0} (r : Result A Stop) (n : ℕ) → IfErr r (λ s. IsStatus s n) → n ≡ 0 → OnOk r P → P
+ended_well (Ok a) n err none p = p
+ended_well (Err Door) n err none p = absurd (let is : n ≡ 7 = err in omega (arith, is, none))
+ended_well (Err Memory) n err none p = absurd (let is : n ≡ 8 = err in omega (arith, is, none))
+ended_well (Err Refused) n err none p = absurd (let is : n ≡ 9 = err in omega (arith, is, none))
+ended_well (Err SpentStop) n err none p = absurd (let is : n ≡ 12 = err in omega (arith, is, none))

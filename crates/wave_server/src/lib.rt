@@ -1,6 +1,8 @@
 //! A server: it accepts links, and serves each in a job of its own, from the wavelets of one hub.
 #![tactic(auto)]
 
+mod attendant;
+mod robots;
 mod server;
 mod serving;
 mod starting;

@@ -6,13 +6,18 @@ ghost use Rattle.wave_outside.specs.Counts.{Rose, raised};
 ghost use Rattle.turn_cells.specs.Cells.{Begins};
 ghost use Rattle.shard_marks.specs.Passes.{marks_of};
 ghost use Rattle.session_hub.specs.Hubs.{AreOfHub};
+ghost use Rattle.robot_host.specs.Hosts.{host_as};
+ghost use Rattle.wave_server.specs.Robots.{AreReady, WereServed};
 ghost use Rattle.wave_server.specs.Running.{AreOurs, HasServed};
 ghost use Rattle.wave_server.specs.declared.stop.Stop.TheVariants.{Refused, Door, Spent};
 
+use crate::attendant::Attendant;
+use crate::robots::{attend, settle};
 use crate::server::Server;
 use crate::starting::start_job;
 use crate::stop::Stop;
 use crate::taking::take_end;
+use robot_host::{Robot, RobotHost};
 use session_hub::{Hub, Passes};
 use session_link::LinkJob;
 use std::alloc::Global;
@@ -303,6 +308,7 @@ fn turn<
 }
 
 /// Accepts links, serves each, and takes the ends of all jobs, until so many sessions have ended; where ends aren't kept, until it stops.
+/// The robots take turns between, and then until nothing is left for them.
 pub(crate) fn serve_all<
     R: Wait,
     N: Net,
@@ -317,14 +323,17 @@ pub(crate) fn serve_all<
     clock: &C,
     hub: &Arc<Hub<F>, Global>,
     passes: &mut Passes<F>,
+    robots: &mut RobotHost,
     most: u64,
     keeps: bool,
 ) -> Result<(), Stop>
     requires sends { IsSend R.row }
     requires own { AreOfHub (arc_value hub.now) passes.old }
     requires empty { (vec_len server.old.ended ≡ 0) × (is_some server.old.spent ≡ false) }
+    requires ready { AreReady (arc_value hub.now).domain (marks_of passes.old) (host_as ⟦<dyn Robot as Robot>⟧ robots.old) }
     ensures own { AreOfHub (arc_value hub.now) passes.new }
     ensures later { Begins passes.old passes.new }
+    ensures robots { OnOk result (WereServed (arc_value hub.now).domain (marks_of passes.new) (host_as ⟦<dyn Robot as Robot>⟧ robots.new)) }
     ensures all { OnOk result ((keeps ≡ true) × (vec_len server.new.ended ≡ most)) }
     ensures accepted { N.accepted server.old.net < 2 ^ 64 → OnOk result (N.accepted server.new.net ≡ min (N.accepted server.old.net + most) (2 ^ 64 - 1)) }
     ensures spent { MatchResult result (λ _. is_some server.new.spent ≡ false) (λ s. MatchBool (is_some server.new.spent) (s ≡ Spent) (s ≢ Spent)) }
@@ -335,6 +344,7 @@ pub(crate) fn serve_all<
 {
     let mut jobs = Vec::new(alloc);
     let mut started = 0u64;
+    let mut attendant = Attendant::new(clock, &server.gate);
     for _ in rt.forever() {
         match turn::<R, N, F, C, P, G>(
             rt,
@@ -348,8 +358,26 @@ pub(crate) fn serve_all<
             most,
             keeps,
         ) {
-            Ok(true) => return Ok(()),
-            Ok(false) => {}
+            Ok(true) => {
+                return settle::<R, F, C, G>(
+                    rt,
+                    alloc,
+                    hub,
+                    passes,
+                    robots,
+                    &mut attendant,
+                    &mut server.spent,
+                );
+            }
+            Ok(false) => attend::<R, F, C, G>(
+                rt,
+                alloc,
+                hub,
+                passes,
+                robots,
+                &mut attendant,
+                &mut server.spent,
+            )?,
             Err(stop) => return Err(stop),
         }
     }

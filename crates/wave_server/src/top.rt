@@ -7,12 +7,15 @@ ghost use Rattle.wave_outside.specs.Counts.{Rose};
 ghost use Rattle.wavelet_shelf.specs.Shelves.{hosted_of};
 ghost use Rattle.shard_marks.specs.Passes.{marks_of};
 ghost use Rattle.session_hub.specs.Hubs.{AreOfHub};
+ghost use Rattle.robot_host.specs.Hosts.{host_as, IsNew};
+ghost use Rattle.wave_server.specs.Robots.{WereServed};
 ghost use Rattle.wave_server.specs.Running.{BeginWith, HasServed};
 ghost use Rattle.wave_server.specs.Statuses.{IsStatus, IsServerStatus};
 
 use crate::server::Server;
 use crate::serving::serve_all;
 use crate::stop::Stop;
+use robot_host::{Robot, RobotHost};
 use session_hub::{Hub, Passes};
 use session_link::LinkJob;
 use std::alloc::Global;
@@ -52,7 +55,9 @@ fn status_of(end: Result<(), Stop>) -> u8
 /// Serves the wavelets of a shelf that the domain hosts, at an address, and gives the exit status: 0 once so many sessions have ended,
 /// and where no number is given it doesn't end; 7 where the door failed, 8 out of memory, 9 where a session could not be started, 12
 /// where a shard has no turn left. Each link that is accepted gets a session of its own. What the sessions saw of the shards is left in
-/// `passes`, and begins with a mark for each delta of the shelf's histories; where nothing is there, nobody was served.
+/// `passes`, and begins with a mark for each delta of the shelf's histories; where nothing is there, nobody was served. The robots, over
+/// which no turn was taken yet, are shown what is written while the server runs, and their edits are submitted; with 0 nothing is left
+/// for them.
 pub fn serve<
     R: Wait,
     N: Net,
@@ -68,9 +73,11 @@ pub fn serve<
     sessions: Option<u64>,
     shelf: Shelf<F>,
     clock: &C,
+    robots: &mut RobotHost,
     server: &mut Server<N, F, P, G>,
 ) -> u8
     requires sends { IsSend R.row }
+    requires new { IsNew (host_as ⟦<dyn Robot as Robot>⟧ robots.old) }
     requires empty { (vec_len server.old.ended ≡ 0) × (is_some server.old.spent ≡ false) × (is_some server.old.passes ≡ false) }
     ensures done { result ≡ 0 → (n : ℕ) × (sessions ≡ Some n) × (vec_len server.new.ended ≡ n) × (is_some server.new.passes ≡ true)
         × (N.accepted server.old.net < 2 ^ 64 → N.accepted server.new.net ≡ min (N.accepted server.old.net + n) (2 ^ 64 - 1)) }
@@ -79,6 +86,7 @@ pub fn serve<
     ensures spent { (result ≡ 12 → is_some server.new.spent ≡ true) × (is_some server.new.spent ≡ true → result ≡ 12) }
     ensures known { IsServerStatus result }
     ensures served { IfSome server.new.passes (λ p. HasServed N.Link.tells N.Link.events N.Link.faults N.Link.closed domain (marks_of p) (is_some sessions) (is_some server.new.spent) (N.back server.old.net) (N.back server.new.net) server.new.ended.items) }
+    ensures robots { result ≡ 0 → IfSome server.new.passes (λ p. WereServed domain (marks_of p) (host_as ⟦<dyn Robot as Robot>⟧ robots.new)) }
     ensures begun { IfSome server.new.passes (λ p. BeginWith domain (hosted_of shelf) (marks_of p)) }
     ensures unserved { is_some server.new.passes ≡ false → (N.back server.new.net ≡ N.back server.old.net) × (N.accepted server.new.net ≡ N.accepted server.old.net)
         × (server.new.ended.items ≡ server.old.ended.items) }
@@ -90,7 +98,9 @@ pub fn serve<
         return MEMORY;
     };
     match server.net.listen(alloc, address) {
-        Ok(()) => serve_from::<R, N, F, C, P, G>(rt, alloc, server, clock, &hub, passes, sessions),
+        Ok(()) => serve_from::<R, N, F, C, P, G>(
+            rt, alloc, server, clock, &hub, passes, robots, sessions,
+        ),
         Err(NetFault::Failed) => DOOR,
         Err(NetFault::Memory) => MEMORY,
     }
@@ -111,9 +121,11 @@ fn serve_from<
     clock: &C,
     hub: &Arc<Hub<F>, Global>,
     mut passes: Passes<F>,
+    robots: &mut RobotHost,
     sessions: Option<u64>,
 ) -> u8
     requires sends { IsSend R.row }
+    requires new { IsNew (host_as ⟦<dyn Robot as Robot>⟧ robots.old) }
     requires own { AreOfHub (arc_value hub.now) passes }
     requires empty { (vec_len server.old.ended ≡ 0) × (is_some server.old.spent ≡ false) }
     ensures done { result ≡ 0 → (n : ℕ) × (sessions ≡ Some n) × (vec_len server.new.ended ≡ n) × (is_some server.new.passes ≡ true)
@@ -123,6 +135,7 @@ fn serve_from<
     ensures spent { (result ≡ 12 → is_some server.new.spent ≡ true) × (is_some server.new.spent ≡ true → result ≡ 12) }
     ensures known { IsServerStatus result }
     ensures served { IfSome server.new.passes (λ p. HasServed N.Link.tells N.Link.events N.Link.faults N.Link.closed (arc_value hub.now).domain (marks_of p) (is_some sessions) (is_some server.new.spent) (N.back server.old.net) (N.back server.new.net) server.new.ended.items) }
+    ensures robots { result ≡ 0 → IfSome server.new.passes (λ p. WereServed (arc_value hub.now).domain (marks_of p) (host_as ⟦<dyn Robot as Robot>⟧ robots.new)) }
     ensures later { IfSome server.new.passes (λ p. (k : ℕ) → k < 16 → IsPrefix (marks_of passes k) (marks_of p k)) }
     ensures left { is_some server.new.passes ≡ true }
 {
@@ -137,6 +150,7 @@ fn serve_from<
         clock,
         hub,
         &mut passes,
+        robots,
         most,
         keeps,
     );

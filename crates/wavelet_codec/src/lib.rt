@@ -10,6 +10,6 @@ mod reading;
 mod writing;
 
 pub use laws::deltas_differ;
-pub use measure::{applied_len, ops_len};
+pub use measure::{applied_len, normal_ops_len, ops_len};
 pub use reading::read_applied;
 pub use writing::write_applied;

@@ -8,7 +8,7 @@ ghost use Rattle.wavelet_codec.specs.Spelling.{role_byte, op_bytes, ops_bytes, n
 
 use crate::format::format;
 use doc_items::Memory;
-use op_codec::write;
+use op_codec::write_normal;
 use std::alloc::Global;
 use wave_base::DeltaId;
 use wavelet_op::{AppliedDelta, Role, WaveletOp};
@@ -51,7 +51,7 @@ fn role_byte(role: Role) -> u8
 }
 
 // After want of memory a part of it may be there.
-fn write_op(alloc: Global, op: &WaveletOp, out: &mut Vec<u8>) -> Result<(), Memory>
+fn write_op(op: &WaveletOp, out: &mut Vec<u8>) -> Result<(), Memory>
     requires short { length (op_bytes op.now) < limit }
     requires normal { IsNormal op.now }
     ensures appended { OnOk result (out.new.items ≡ out.old.items ++ op_bytes op.now) }
@@ -73,7 +73,7 @@ fn write_op(alloc: Global, op: &WaveletOp, out: &mut Vec<u8>) -> Result<(), Memo
         WaveletOp::Mutate { document, op } => {
             out.push(3)?;
             write_string(document.text(), out)?;
-            write(alloc, op, out)
+            write_normal(op, out)
         }
         WaveletOp::SetRole { address, old, new } => {
             out.push(4)?;
@@ -86,7 +86,7 @@ fn write_op(alloc: Global, op: &WaveletOp, out: &mut Vec<u8>) -> Result<(), Memo
 }
 
 #[tactic(auto, unfolding(crate::specs::Spelling::ops_bytes))]
-fn write_ops(alloc: Global, ops: &[WaveletOp], out: &mut Vec<u8>) -> Result<(), Memory>
+fn write_ops(ops: &[WaveletOp], out: &mut Vec<u8>) -> Result<(), Memory>
     requires short { length (ops_bytes ops.now) < limit }
     requires normal { AreNormal ops.now }
     ensures appended { OnOk result (out.new.items ≡ out.old.items ++ ops_bytes ops.now) }
@@ -94,7 +94,7 @@ fn write_ops(alloc: Global, ops: &[WaveletOp], out: &mut Vec<u8>) -> Result<(), 
 {
     write_length(ops.len(), out)?;
     for op in ops {
-        write_op(alloc, op, out)?;
+        write_op(op, out)?;
     }
     Ok(())
 }
@@ -111,7 +111,7 @@ fn write_id(id: &DeltaId, out: &mut Vec<u8>) -> Result<(), Memory>
 /// Appends the bytes of a delta, which are fewer than 4,294,967,296. After want of memory a part of them may stand behind what
 /// was there.
 #[tactic(auto, unfolding(crate::specs::Spelling::delta_bytes))]
-pub fn write_applied(alloc: Global, delta: &AppliedDelta, out: &mut Vec<u8>) -> Result<(), Memory>
+pub fn write_applied(_alloc: Global, delta: &AppliedDelta, out: &mut Vec<u8>) -> Result<(), Memory>
     requires { length (delta_bytes delta.now) < limit }
     ensures appended { OnOk result (out.new.items ≡ out.old.items ++ delta_bytes delta.now) }
     ensures is { OnOk result (IsDelta delta.now) }
@@ -121,5 +121,5 @@ pub fn write_applied(alloc: Global, delta: &AppliedDelta, out: &mut Vec<u8>) -> 
     write_id(&delta.id, out)?;
     write_number(delta.from.version, out)?;
     write_number(delta.time, out)?;
-    write_ops(alloc, ops, out)
+    write_ops(ops, out)
 }

@@ -1,19 +1,16 @@
 -- What a submission is answered, and how its history grows.
 --     told               the verdict before the submission becomes a delta
---     too_long           a delta of too many bytes
 --     acknowledged       the delta is behind the others
 --     turned_down        it can't be next
 --     near_moved         in the same state of a history, but for the room
-use Rattle.std.proofs.Common.{◌≡◌, ℕ, ◌<◌, MatchOption, arith, length, [], ◌∷◌, ◌++◌, Option, Some, None, refl, sym, ap, subst, ◌∙◌, unwrap_or}
-use Rattle.doc_op.proofs.Applying.{no_value}
+use Rattle.std.proofs.Common.{◌≡◌, ℕ, [], ◌∷◌, ◌++◌, Option, Some, None, refl, sym, ap, subst, ◌∙◌, unwrap_or}
 use Rattle.wave_base.specs.Versions.{VersionAt}
 use Rattle.wavelet_op.specs.Deltas.{DeltaOf}
 use Rattle.wavelet_op.specs.declared.delta.Submission.{Submission}
 use Rattle.wavelet_op.specs.declared.verdict.Verdict.{Verdict}
 use Rattle.wavelet_op.specs.declared.verdict.Verdict.TheVariants.{Ack}
 use Rattle.delta_history.specs.Histories.{HistoryOf, head_of, IsSameHistory, IsGrown}
-use Rattle.wavelet_codec.specs.Spelling.{delta_bytes}
-use Rattle.delta_history.specs.Legal.{max_delta, IsNext, IsLegal}
+use Rattle.delta_history.specs.Legal.{IsNext, IsLegal}
 use Rattle.delta_history.specs.Points.{start, end_of}
 use Rattle.delta_history.specs.Verdicts.{Judged}
 use Rattle.delta_history.proofs.Chains.{legal_behind}
@@ -35,13 +32,6 @@ pub next_of : (g h : HistoryOf) (d : DeltaOf) → IsGrown g d h → IsLegal h.na
 next_of g h d grown legal =
     let l : IsLegal g.name (g.deltas ++ d ∷ []) = subst (λ n. IsLegal n (g.deltas ++ d ∷ [])) grown.name (subst (λ ds. IsLegal h.name ds) grown.deltas legal) in
     (legal_behind g.name [] g.deltas (d ∷ []) l).0
-
-pub too_long : (g : HistoryOf) (d : DeltaOf) → max_delta < length (delta_bytes d) → IsLegal g.name (g.deltas ++ d ∷ []) → ⊥
-too_long g d h legal = let n = (legal_behind g.name [] g.deltas (d ∷ []) legal).0 in let s = n.short in omega (arith, h, s)
-
-pub none_says : {A : Type 0} (P : Type 0) (Q : A → Type 0) (o : Option A) → o ≡ None → MatchOption o P Q → P
-none_says P Q None e m = m
-none_says P Q (Some x) e m = no_value (sym e)
 
 head_after : (g h : HistoryOf) (d : DeltaOf) → IsGrown g d h → (n : IsNext g.name g.deltas d) → head_of h ≡ n.after
 head_after g h d grown n =

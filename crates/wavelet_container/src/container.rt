@@ -9,9 +9,9 @@ ghost use Rattle.wavelet_container.specs.Records.{StandsForHistory};
 ghost use Rattle.wavelet_container.specs.Stores.{IsGrownBy, IsStored, IsLeftOver, IsWithin};
 ghost use Rattle.wavelet_container.specs.Containers.{history_of, journal_of, OfBoth, Moments, IsHeld};
 
-use crate::SubmitFault;
 use crate::cached::CachedHistory;
 use crate::stored::submit_stored;
+use crate::{SubmitFault, Unstored};
 use delta_history::History;
 use delta_journal::Journal;
 use disk_model::Disk;
@@ -48,8 +48,25 @@ impl<K: Disk> Container<K> {
         }
     }
 
-    /// The empty history over a new journal. The disk reads as empty, and a crash leaves it empty, where it tells that. The error
-    /// is want of memory.
+    /// The empty history over a new journal. The disk reads as empty, and a crash leaves it empty, where it tells that. No memory is
+    /// taken.
+    pub fn over(alloc: Global, unstored: Unstored, disk: K) -> Container<K>
+        requires empty { IsTrue K.tells → (K.view disk).seen ≡ [] }
+        requires synced { IsTrue K.tells → LeavesJust [] (K.view disk) }
+        ensures name { (history_of result).name ≡ unstored.name }
+        ensures empty { (history_of result).deltas ≡ [] }
+        ensures held { IsTrue K.tells → IsHeld result }
+        ensures whole { IfSome (journal_of result) (λ j. needs_repair j ≡ false) }
+        ensures disk { option_map disk_of (journal_of result) ≡ Some disk }
+    {
+        let (name, heading) = unstored.into_parts();
+        Container {
+            wavelet: CachedHistory::of(History::new(alloc, name)),
+            journal: Some(Journal::over(disk, heading)),
+        }
+    }
+
+    /// The same with what is made here. The error is want of memory; the disk is dropped then, and nothing was done to it.
     pub fn start(alloc: Global, name: WaveletName, disk: K) -> Result<Container<K>, Memory>
     where
         K: Drop,
@@ -61,11 +78,8 @@ impl<K: Disk> Container<K> {
         ensures whole { IfOk result (λ c. IfSome (journal_of c) (λ j. needs_repair j ≡ false)) }
         ensures disk { IfOk result (λ c. option_map disk_of (journal_of c) ≡ Some disk) }
     {
-        let journal = Journal::start(alloc, disk, name.text())?;
-        Ok(Container {
-            wavelet: CachedHistory::of(History::new(alloc, name)),
-            journal: Some(journal),
-        })
+        let unstored = Unstored::new(alloc, name)?;
+        Ok(Container::over(alloc, unstored, disk))
     }
 
     /// The history.

@@ -56,14 +56,3 @@ pub(crate) enum AddFault {
     /// Want of memory.
     Memory,
 }
-
-impl From<AllocError> for AddFault {
-    ghost use Rattle.std.specs.Prelude.{◌≡◌};
-    ghost use Rattle.wavelet_container.specs.declared.fault.AddFault.TheVariants.{Memory};
-
-    ghost from_gives = { λ _ e. e ≡ Memory };
-
-    fn from(_: AllocError) -> Self {
-        AddFault::Memory
-    }
-}

@@ -14,9 +14,11 @@ mod passing;
 mod plain;
 mod stored;
 mod trail;
+mod unstored;
 
 pub use container::Container;
 pub use fault::{LoadFault, SubmitFault};
 pub use first::first_verdict;
 pub use laws::stored_history_is_one;
 pub use load::LoadRefused;
+pub use unstored::Unstored;

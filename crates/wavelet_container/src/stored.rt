@@ -1,11 +1,10 @@
 // Submissions to a history that stands in a journal.
-ghost use Rattle.std.specs.Prelude.{◌≡◌, ◌⊎◌, ◌≤◌, ◌<◌, ℕ, [], ◌∷◌, ◌++◌, length, false, Option, Some, IfOk, IfErr, OnOk, OnErr, IsErrOf, MatchOption};
+ghost use Rattle.std.specs.Prelude.{◌≡◌, ◌⊎◌, ◌≤◌, ◌<◌, ℕ, [], ◌∷◌, ◌++◌, false, Option, Some, IfOk, IfErr, OnOk, OnErr, IsErrOf};
 ghost use Rattle.wavelet_op.specs.Deltas.{DeltaOf};
 ghost use Rattle.disk_model.specs.Disk.{LeavesOnly, Rose};
 ghost use Rattle.delta_journal.specs.File.{StandsForEither};
-ghost use Rattle.wavelet_codec.specs.Spelling.{delta_bytes, IsDelta};
 ghost use Rattle.delta_history.specs.Histories.{head_of, IsSameHistory, IsGrown};
-ghost use Rattle.delta_history.specs.Legal.{IsLegal, IsNext, max_delta};
+ghost use Rattle.delta_history.specs.Legal.{IsLegal, IsNext};
 ghost use Rattle.delta_history.specs.Pushes.{IsReady};
 ghost use Rattle.delta_journal.specs.Journal.{IsJournal, WhereHeld, on_disk, left_over, needs_repair};
 ghost use Rattle.wavelet_container.specs.Decisions.{judged, IsBase, IsNear, IsRefusal, LooksAtOps};
@@ -19,25 +18,8 @@ use crate::plain::version;
 use delta_history::{HistoryFault, Prepared};
 use delta_journal::{Journal, JournalFault};
 use disk_model::Disk;
-use doc_items::Memory;
 use std::alloc::Global;
-use wavelet_codec::{applied_len, write_applied};
 use wavelet_op::{AppliedDelta, Submission, Verdict};
-
-// The most bytes of a delta.
-const MAX_DELTA: u64 = 1 << 20;
-
-// The bytes of a delta; None where they are more than a delta may have. The error is want of memory.
-fn bytes_of(alloc: Global, delta: &AppliedDelta) -> Result<Option<Vec<u8>>, Memory>
-    ensures { IfOk result (λ o. MatchOption o (max_delta < length (delta_bytes delta.now)) (λ v. (v.items ≡ delta_bytes delta.now) × IsDelta delta.now)) }
-{
-    if applied_len(alloc, delta)? > MAX_DELTA {
-        return Ok(None);
-    }
-    let mut bytes = Vec::new(alloc);
-    write_applied(alloc, delta, &mut bytes)?;
-    Ok(Some(bytes))
-}
 
 // The delta with what it leads to, and room for it.
 fn prepared(
@@ -82,7 +64,7 @@ fn append<K: Disk>(alloc: Global, journal: &mut Journal<K>, bytes: &[u8]) -> Res
     }
 }
 
-// The delta is on the disk, and then behind the others.
+// The delta is on the disk, by the bytes that were hashed, and then behind the others.
 fn store<K: Disk>(
     alloc: Global,
     wavelet: &mut CachedHistory,
@@ -100,35 +82,8 @@ fn store<K: Disk>(
     ensures untouched { IsErrOf result AddFault.Memory → needs_repair journal.new ≡ false }
     ensures failed { IsErrOf result AddFault.DiskFault → Rose (on_disk journal.old) (on_disk journal.new) }
 {
-    match bytes_of(alloc, &delta)? {
-        None => Err(AddFault::NotLegal),
-        Some(bytes) => store_as(alloc, wavelet, journal, delta, &bytes),
-    }
-}
-
-// So it is, where these are its bytes.
-fn store_as<K: Disk>(
-    alloc: Global,
-    wavelet: &mut CachedHistory,
-    journal: &mut Journal<K>,
-    delta: AppliedDelta,
-    bytes: &[u8],
-) -> Result<(), AddFault>
-    requires whole { needs_repair journal.old ≡ false }
-    requires starts { delta.from ≡ (head_of wavelet.old).at }
-    requires spells { bytes.now ≡ delta_bytes delta }
-    requires is { IsDelta delta }
-    ensures grown { OnOk result (IsGrown wavelet.old delta wavelet.new) }
-    ensures same { OnErr result (IsSameHistory wavelet.old wavelet.new) }
-    ensures refused { IsErrOf result AddFault.NotLegal → IsLegal wavelet.old.name (wavelet.old.deltas ++ delta ∷ []) → ⊥ }
-    ensures moved { (added : Option DeltaOf) → (IsNext wavelet.old.name wavelet.old.deltas delta → added ≡ Some delta) → IsMoved wavelet.old wavelet.new journal.old journal.new added }
-    ensures done { OnOk result (needs_repair journal.new ≡ false) }
-    ensures unwritten { IsErrOf result AddFault.NotLegal → needs_repair journal.new ≡ false }
-    ensures untouched { IsErrOf result AddFault.Memory → needs_repair journal.new ≡ false }
-    ensures failed { IsErrOf result AddFault.DiskFault → Rose (on_disk journal.old) (on_disk journal.new) }
-{
     let ready = prepared(alloc, wavelet, delta)?;
-    append(alloc, journal, bytes)?;
+    append(alloc, journal, ready.bytes())?;
     wavelet.commit(ready);
     Ok(())
 }

@@ -2,11 +2,12 @@
 --     copy_alike        the copy of a name is its hosted history
 --     have_deltas       what is shown has deltas
 --     named_deltas      a name that is there has a delta
+--     all_hosted        where each has a delta, all names are there
 use Rattle.std.proofs.Common.{Less, ◌≡◌, ◌≢◌, ◌==◌, ℕ, zero, suc, ◌-◌, length, true≢false, arith, true, false, cond, List, [], ◌∷◌, slice_get, Option, Some, None, IsSome, IfSome, option_copied, Bor, refl, sym, ap, subst, ◌∙◌}
 use Rattle.std.specs.Cmp.Lexicographic.{slice_cmp}
 use Rattle.std.specs.Ordering.{nat_cmp}
 use Rattle.std.proofs.lemmas.Cmp.{nat_list_cmp_total}
-use Rattle.std.specs.Map.{lookup}
+use Rattle.std.specs.Map.{lookup, keys_of}
 use Rattle.std.specs.Option.{option_map, option_map_or, option_and_then}
 use Rattle.doc_items.specs.Maps.{Key, same_text}
 use Rattle.wavelet_op.specs.Deltas.{DeltaOf}
@@ -14,7 +15,7 @@ use Rattle.delta_history.specs.Copying.{AscendFrom, AreAscending}
 use Rattle.delta_history.specs.Histories.{HistoryOf}
 use Rattle.disk_model.specs.declared.disk.Disk.{Ghosts}
 use Rattle.wavelet_container.specs.Containers.{history_of}
-use Rattle.wavelet_shelf.specs.Entries.{found, shown, shown_by, hosting, AreInOrder, IsNamed}
+use Rattle.wavelet_shelf.specs.Entries.{found, shown, shown_by, hosting, AreInOrder, HaveADelta, IsNamed}
 use Rattle.wavelet_shelf.specs.Hosting.{Hosted, names_of, deltas_in, copy_of, copy_in, IsCopyOf, HaveDeltas}
 use Rattle.wavelet_shelf.specs.Shelves.{shown_of, shown_copy}
 use Rattle.wavelet_shelf.specs.declared.filed.Filed.{Filed}
@@ -94,6 +95,15 @@ lent_name P None h = tt
 lent_name P (Some n) h = h
 
 module _ {K : Type 0} {disk : Ghosts K} where
+  -- where each has a delta, all are
+  pub all_hosted : (es : List (Key × Filed K disk)) → HaveADelta es → names_of (hosting es) ≡ keys_of es
+  all_hosted [] begun = refl
+  all_hosted (e ∷ es) begun = go (all_hosted es begun.1) (deltas_of e.1) refl
+    where
+      go : names_of (hosting es) ≡ keys_of es → (ds : List DeltaOf) → deltas_of e.1 ≡ ds → names_of (shown_by (record { name = e.0; deltas = deltas_of e.1 }) ds (hosting es)) ≡ e.0 ∷ keys_of es
+      go rest [] is = absurd (true≢false (sym (ap (λ (l : List DeltaOf). length l == 0) is) ∙ begun.0))
+      go rest (d ∷ ds) is = ap (λ ns. e.0 ∷ ns) rest
+
   next_of : (es : List (Key × Filed K disk)) (n : Key) (f : Filed K disk) (left : ℕ) (x : Option Key) → (length (deltas_of f) == 0) ≡ false → (left ≡ 0 → ⊥) → slice_get (names_of (hosting ((n, f) ∷ es))) left ≡ x → slice_get (names_of (hosting es)) (left - 1) ≡ x
   next_of es n f zero x some not e = absurd (not refl)
   next_of es n f (suc i) x some not e =

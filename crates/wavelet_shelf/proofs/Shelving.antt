@@ -1,11 +1,13 @@
 -- Shelves from one submission to the next.
 --     after_answer        the container of the name answered
 --     after_first         the name's first container did, and came to the others
+--     accepted_first      a delta was, where the container has one
 --     after_nothing       nothing was accepted where the name isn't there
 --     looks_here          in the empty history the operations decide, and so at a shelf without the name
 --     after_first_tests   there the verdict was given before they were looked at
+--     begun_set, begun_put, begun_popped    each has a delta still
 --     apart_after         where no name has the file of the new one, no two names have one file
-use Rattle.std.proofs.Common.{◌≡◌, ◌≢◌, ◌==◌, ⊎_elim, ℕ, ◌+◌, ◌-◌, ◌^◌, ◌≤◌, min, Bool, true, false, List, [], ◌∷◌, ◌++◌, length, insert, Option, Some, None, Ok, Err, IsSome, IfSome, is_some, IfOk, Result, string_bytes, refl, sym, ap, subst, ◌∙◌, arith, le_refl, append-nil, true≢false}
+use Rattle.std.proofs.Common.{◌≡◌, ◌≢◌, ◌==◌, inl, inr, ⊎_elim, ℕ, ◌+◌, ◌-◌, ◌^◌, ◌≤◌, min, Bool, true, false, List, [], ◌∷◌, ◌++◌, length, insert, Option, Some, None, Ok, Err, IsSome, IfSome, is_some, IfOk, Result, string_bytes, refl, sym, ap, subst, ◌∙◌, arith, le_refl, append-nil, true≢false}
 use Rattle.std.specs.Result.{IsErrOf, IsOk}
 use Rattle.std.specs.List.{position_or_len}
 use Rattle.std.specs.Map.{lookup, keys_of, set_value}
@@ -22,6 +24,7 @@ use Rattle.wavelet_op.specs.Deltas.{DeltaOf}
 use Rattle.wavelet_op.specs.declared.delta.Submission.{Submission}
 use Rattle.wavelet_op.specs.declared.verdict.Verdict.{Verdict}
 use Rattle.delta_history.specs.Copying.{AreAscending}
+use Rattle.delta_history.specs.Histories.{HistoryOf}
 use Rattle.delta_history.specs.Verdicts.{Judged, judge}
 use Rattle.disk_model.specs.declared.disk.Disk as disk_of
 use Rattle.delta_journal.specs.Journal.{on_disk}
@@ -34,9 +37,9 @@ use Rattle.wavelet_container.specs.Stores.{IsGrownBy, StandsForOneMore}
 use Rattle.wavelet_container.specs.declared.container.Container.{Container}
 use Rattle.wavelet_container.specs.declared.fault.SubmitFault.{SubmitFault}
 use Rattle.wavelet_container.specs.declared.fault.SubmitFault.TheVariants.{DiskFault}
-use Rattle.wavelet_shelf.specs.Entries.{found, shown, hosting, IsNamed, AreInOrder, IsPut, faults_of, faults_in, AreHeld, AreSafe, IsFileWithin, IsWrittenOn, IsSafe, HaveRoom, FitsFolder, FitFolder}
+use Rattle.wavelet_shelf.specs.Entries.{found, shown, hosting, IsNamed, AreInOrder, HasDelta, HaveADelta, IsPut, faults_of, faults_in, AreHeld, AreSafe, IsFileWithin, IsWrittenOn, IsSafe, HaveRoom, FitsFolder, FitFolder}
 use Rattle.wavelet_shelf.specs.FileNames.{file_name_of}
-use Rattle.wavelet_shelf.specs.Folders.{IsUsedIn}
+use Rattle.wavelet_shelf.specs.Folders.{IsUsedIn, IsUnmadeIn}
 use Rattle.wavelet_shelf.specs.Hosting.{deltas_in, with_added, judged_in}
 use Rattle.wavelet_shelf.specs.Shelves.{entries_of, in_folder, container_in, hosted_of, folder_faults, fault_count, IsKept, AreApart, IsNewFile, IsOneMoreOf}
 use Rattle.wavelet_shelf.specs.Steps.{IsTaken, IsAnswered, IsHosted}
@@ -45,13 +48,13 @@ use Rattle.wavelet_shelf.specs.declared.shelf.Shelf.{Shelf}
 use Rattle.wavelet_shelf.proofs.Answering.{name_after, began_empty}
 use Rattle.wavelet_shelf.proofs.Names.{same_or_not}
 use Rattle.wavelet_shelf.proofs.Placing.{deltas_hosting, after_set, same_set, after_put, none_put, all_set, all_put, all_found, found_set, others_set, found_put, others_put, length_keys, keys_ascend, front_ascends, all_front, place, put_at}
-use Rattle.wavelet_shelf.proofs.Still.{used_as, used_more, used_there}
+use Rattle.wavelet_shelf.proofs.Still.{used_as, used_more, used_there, unmade_as}
 use Rattle.wavelet_shelf.proofs.Sums.{total, sum_set, sum_has, sum_put, sum_later, sum_rose}
 
 no_cons : {X T : Type 0} {x : X} {xs : List X} → [] ≡ x ∷ xs → T
 no_cons e = absurd (cc)
 
-no_more : {T : Type 0} (ds : List DeltaOf) (d : DeltaOf) → [] ≡ ds ++ d ∷ [] → T
+pub no_more : {T : Type 0} (ds : List DeltaOf) (d : DeltaOf) → [] ≡ ds ++ d ∷ [] → T
 no_more [] d e = no_cons e
 no_more (x ∷ ds) d e = no_cons e
 
@@ -172,6 +175,7 @@ module _ {F D : Type 0} {folder : folder_of.Ghosts F D} {disk : disk_of.Ghosts D
             x.taken.grown;
         same = on_err_weaker r (λ same. ap hosting x.is ∙ ap shown (same_set deltas_of es n x.old x.new x.was same.deltas)) x.taken.same;
         others = λ m other. ap (λ l. found l m) x.is ∙ ap (λ o. option_map (λ f. f.container) o) (others_set es n x.new m other);
+        begun = λ some. inl (ap is_some (ap (λ o. option_map (λ (f : Filed D disk). f.container) o) x.was));
         kept = λ k. record {
           told = k.told;
           filed = subst (λ o. IsSome o) (sym same) k.filed;
@@ -198,7 +202,8 @@ module _ {F D : Type 0} {folder : folder_of.Ghosts F D} {disk : disk_of.Ghosts D
             subst (λ o. IsWrittenOn (container_in a n) o (IsOneMoreOf a n s t)) (sym (ap (λ l. found l n) x.is ∙ ap (λ o. option_map (λ f. f.container) o) (found_set es n x.old x.new x.was)))
             (subst (λ o. IsWrittenOn o (Some x.new.container) (IsOneMoreOf a n s t)) (sym (ap (λ o. option_map (λ (f : Filed D disk). f.container) o) x.was))
             (written_as es n s t c (λ P. IsWrittenOn (Some c) (Some x.new.container) P) (old_name es n x.old x.new order x.was) (old_deltas es n x.old x.new order x.was) written));
-        used = subst (λ o. IsUsedIn folder (IsNewFile a n) (in_folder a) o) (sym same) (used_as folder (IsNewFile a n) (in_folder a));
+        used = subst (λ o. IsUsedIn folder (IsNewFile a n s t) (in_folder a) o) (sym same) (used_as folder (IsNewFile a n s t) (in_folder a));
+        unmade = λ none. subst (λ o. IsUnmadeIn folder disk (file_name_of n) (in_folder a) o) (sym same) (unmade_as folder disk (file_name_of n) (in_folder a));
       }
 
   -- what is known of the first container of a name
@@ -214,13 +219,14 @@ module _ {F D : Type 0} {folder : folder_of.Ghosts F D} {disk : disk_of.Ghosts D
   put_grown filed c order put empty None same = ap hosting put.is ∙ none_put deltas_of (entries_of a) n filed put.at order.0 put.absent put.place (same.deltas ∙ empty)
   put_grown filed c order put empty (Some d) grown = ap hosting put.is ∙ after_put deltas_of (entries_of a) n filed put.at d order.0 put.absent put.place (grown.deltas ∙ ap (λ ds. ds ++ d ∷ []) empty)
 
-  pub after_first : (r : Result Verdict SubmitFault) (c : Container D disk) (filed : Filed D disk) → AreInOrder (entries_of a) → (IsErrOf r DiskFault → IsSome (in_folder a)) → IsUsedIn folder (λ m. m ≡ file_name_of n) (in_folder a) (in_folder b) → folder_faults folder.faults (in_folder a) ≤ folder_faults folder.faults (in_folder b)
+  pub after_first : (r : Result Verdict SubmitFault) (c : Container D disk) (filed : Filed D disk) → AreInOrder (entries_of a) → IsSome (judged_in (hosted_of a) n s t).1 → (IsErrOf r DiskFault → IsSome (in_folder a)) → IsUsedIn folder (λ m. m ≡ file_name_of n) (in_folder a) (in_folder b) → folder_faults folder.faults (in_folder a) ≤ folder_faults folder.faults (in_folder b)
       → IsFirst c → IsTaken s t c filed.container r → IsPut n filed (entries_of a) (entries_of b) → IsHosted n s t a b r
-  after_first r c filed order there same counts first taken put =
+  after_first r c filed order accepted there same counts first taken put =
       let es = entries_of a in
       let inside = subst (λ k. put.at ≤ k) (length_keys es) put.place.inside in
       let none = deltas_hosting deltas_of es n order.0 ∙ ap (λ o. option_map_or deltas_of o []) put.absent in
       let judges = judged_same es n s t c first.name (none ∙ sym first.empty) in
+      let there_now : container_in b n ≡ Some filed.container = ap (λ l. found l n) put.is ∙ ap (λ o. option_map (λ f. f.container) o) (found_put es n filed put.at inside put.absent) in
       let not_there : container_in a n ≡ None = ap (λ o. option_map (λ (f : Filed D disk). f.container) o) put.absent in
       let sums : faults_in (entries_of b) ≡ faults_in es + faults_of filed.container = ap faults_in put.is ∙ faults_total (insert es put.at (n, filed)) ∙ sum_put count_of es put.at (n, filed) inside ∙ ap (λ m. m + faults_of filed.container) (sym (faults_total es)) in
       record {
@@ -230,13 +236,14 @@ module _ {F D : Type 0} {folder : folder_of.Ghosts F D} {disk : disk_of.Ghosts D
             taken.grown;
         same = on_err_weaker r (λ same. put_grown filed c order put first.empty None same) taken.same;
         others = λ m other. ap (λ l. found l m) put.is ∙ ap (λ o. option_map (λ f. f.container) o) (others_put es n filed put.at m other inside);
+        begun = λ some. inr accepted;
         kept = λ k. record {
           told = k.told;
           filed = (used_there folder (λ m. m ≡ file_name_of n) (in_folder a) (in_folder b) same).0 k.filed;
           held = subst AreHeld (sym put.is) (all_put deltas_of (λ e. IsHeld e.1.container) es put.at (n, filed) inside k.held (taken.held (first.held k)));
         };
         safe = on_ok_weaker r
-            (λ safe k. subst (λ o. IfSome o IsSafe) (sym (ap (λ l. found l n) put.is ∙ ap (λ o. option_map (λ f. f.container) o) (found_put es n filed put.at inside put.absent))) (safe (first.held k)))
+            (λ safe k. subst (λ o. IfSome o IsSafe) (sym there_now) (safe (first.held k)))
             taken.safe;
         settled = on_ok_weaker r
             (λ safe k settled. subst AreSafe (sym put.is) (all_put deltas_of (λ e. IsSafe e.1.container) es put.at (n, filed) inside settled (safe (first.held k))))
@@ -244,17 +251,18 @@ module _ {F D : Type 0} {folder : folder_of.Ghosts F D} {disk : disk_of.Ghosts D
         late = λ e. subst LooksAtOps judges (taken.late e);
         untouched = λ e k settled. subst AreSafe (sym put.is) (all_put deltas_of (λ e. IsSafe e.1.container) es put.at (n, filed) inside settled (taken.untouched e (first.held k)));
         within = λ k settled.
-            subst (λ o. IfSome o (IsFileWithin n (deltas_in (hosting es) n) (judged_in (hosting es) n s t).1)) (sym (ap (λ l. found l n) put.is ∙ ap (λ o. option_map (λ f. f.container) o) (found_put es n filed put.at inside put.absent)))
+            subst (λ o. IfSome o (IsFileWithin n (deltas_in (hosting es) n) (judged_in (hosting es) n s t).1)) (sym there_now)
             (within_as es n s t c filed.container first.name (none ∙ sym first.empty) (taken.within (first.held k) (first.safe k)));
         later = first_later (folder_faults folder.faults (in_folder a)) (folder_faults folder.faults (in_folder b)) (faults_of filed.container) (faults_in es) (faults_in (entries_of b)) (2 ^ 64 - 1) sums counts;
         failed = λ e. first_rose (folder_faults folder.faults (in_folder a)) (folder_faults folder.faults (in_folder b)) (faults_of c) (faults_of filed.container) (faults_in es) (faults_in (entries_of b)) (2 ^ 64 - 1) sums counts first.unfailed (taken.failed e);
         moments = λ k settled.
             let written = began_empty c filed.container (StandsForOneMore (history_of c).name (history_of c).deltas (λ d. (judged (history_of c) s t).1 ≡ Some d)) (taken.moments (first.held k) (first.safe k)) (first.fresh k) in
-            subst (λ o. IsWrittenOn (container_in a n) o (IsOneMoreOf a n s t)) (sym (ap (λ l. found l n) put.is ∙ ap (λ o. option_map (λ f. f.container) o) (found_put es n filed put.at inside put.absent)))
+            subst (λ o. IsWrittenOn (container_in a n) o (IsOneMoreOf a n s t)) (sym there_now)
             (subst (λ o. IsWrittenOn o (Some filed.container) (IsOneMoreOf a n s t)) (sym not_there)
             (written_as es n s t c (λ P. IsWrittenOn None (Some filed.container) P) first.name (none ∙ sym first.empty) written));
         disk_there = there;
-        used = used_more folder (λ m. m ≡ file_name_of n) (IsNewFile a n) (λ m is. (not_there, is)) (in_folder a) (in_folder b) same;
+        used = used_more folder (λ m. m ≡ file_name_of n) (IsNewFile a n s t) (λ m is. (not_there, accepted, is)) (in_folder a) (in_folder b) same;
+        unmade = λ none. absurd (true≢false (ap is_some (sym there_now ∙ none)));
       }
 
   abbrev NoneShares : Type 0
@@ -280,6 +288,19 @@ module _ {F D : Type 0} {folder : folder_of.Ghosts F D} {disk : disk_of.Ghosts D
   nothing_added c after None same none = refl
   nothing_added c after (Some d) grown none = no_more (history_of c).deltas d (sym none ∙ grown.deltas)
 
+  accepted_one : (c after : Container D disk) (added : Option DeltaOf) → IsGrownBy (history_of c) added (history_of after) → (history_of c).deltas ≡ [] → ((history_of after).deltas ≡ [] → ⊥) → IsSome added
+  accepted_one c after None same empty some = absurd (some (same.deltas ∙ empty))
+  accepted_one c after (Some d) grown empty some = refl
+
+  -- a delta was accepted, where the container has one then
+  pub accepted_first : (v : Verdict) (c after : Container D disk) → AreInOrder (entries_of a) → lookup (same_text n) (entries_of a) ≡ None → (history_of c).name ≡ n → (history_of c).deltas ≡ [] → IsTaken s t c after (Ok v) → ((history_of after).deltas ≡ [] → ⊥)
+      → IsSome (judged_in (hosted_of a) n s t).1
+  accepted_first v c after order absent name empty taken some =
+      let es = entries_of a in
+      let nowhere = deltas_hosting deltas_of es n order.0 ∙ ap (λ o. option_map_or deltas_of o []) absent in
+      let judges = judged_same es n s t c name (nowhere ∙ sym empty) in
+      subst (λ (j : Judged). IsSome j.1) judges (accepted_one c after (judged (history_of c) s t).1 taken.grown empty some)
+
   pub after_nothing : (v : Verdict) (c after : Container D disk) → AreInOrder (entries_of a) → lookup (same_text n) (entries_of a) ≡ None → (history_of c).name ≡ n → (history_of c).deltas ≡ [] → IsTaken s t c after (Ok v) → (history_of after).deltas ≡ [] → IsHosted n s t a a (Ok v)
   after_nothing v c after order absent name empty taken none =
       let es = entries_of a in
@@ -291,6 +312,7 @@ module _ {F D : Type 0} {folder : folder_of.Ghosts F D} {disk : disk_of.Ghosts D
         grown = ap (with_added (hosting es) n) (sym nothing) ∙ ap (λ (j : Judged). with_added (hosting es) n j.1) judges;
         same = tt;
         others = λ m other. refl;
+        begun = λ some. inl some;
         kept = λ k. k;
         safe = λ k. subst (λ o. IfSome o IsSafe) (sym (ap (λ o. option_map (λ (f : Filed D disk). f.container) o) absent)) tt;
         settled = λ k settled. settled;
@@ -301,7 +323,8 @@ module _ {F D : Type 0} {folder : folder_of.Ghosts F D} {disk : disk_of.Ghosts D
         later = le_refl _;
         failed = λ r. absurd (ok_err r);
         disk_there = λ r. absurd (ok_err r);
-        used = used_as folder (IsNewFile a n) (in_folder a);
+        used = used_as folder (IsNewFile a n s t) (in_folder a);
+        unmade = λ none. unmade_as folder disk (file_name_of n) (in_folder a);
       }
 
   nowhere : AreInOrder (entries_of a) → lookup (same_text n) (entries_of a) ≡ None → judge n [] s t ≡ judged_in (hosted_of a) n s t
@@ -320,6 +343,7 @@ module _ {F D : Type 0} {folder : folder_of.Ghosts F D} {disk : disk_of.Ghosts D
         grown = ap (λ (j : Judged). with_added (hosted_of a) n j.1) is;
         same = tt;
         others = λ m other. refl;
+        begun = λ some. inl some;
         kept = λ k. k;
         safe = λ k. subst (λ o. IfSome o IsSafe) (sym (ap (λ o. option_map (λ (f : Filed D disk). f.container) o) absent)) tt;
         settled = λ k settled. settled;
@@ -330,7 +354,8 @@ module _ {F D : Type 0} {folder : folder_of.Ghosts F D} {disk : disk_of.Ghosts D
         later = le_refl _;
         failed = λ r. absurd (ok_err r);
         disk_there = λ r. absurd (ok_err r);
-        used = used_as folder (IsNewFile a n) (in_folder a);
+        used = used_as folder (IsNewFile a n s t) (in_folder a);
+        unmade = λ none. unmade_as folder disk (file_name_of n) (in_folder a);
       }
 
 -- ---- their order
@@ -380,3 +405,32 @@ none_of (Some x) e = absurd (true≢false e)
 pub empty_list : {X : Type 0} (xs : List X) → (length xs == 0) ≡ true → xs ≡ []
 empty_list [] e = refl
 empty_list (x ∷ xs) e = let none = eqb-true (length (x ∷ xs)) 0 e in absurd (omega (arith, none))
+
+-- ---- whether each has a delta
+
+not_empty : {X : Type 0} (xs : List X) → (xs ≡ [] → ⊥) → (length xs == 0) ≡ false
+not_empty xs some = go (length xs == 0) refl
+  where
+    go : (b : Bool) → (length xs == 0) ≡ b → (length xs == 0) ≡ false
+    go true e = absurd (some (empty_list xs e))
+    go false e = e
+
+grown_begun : (g h : HistoryOf) (added : Option DeltaOf) → IsGrownBy g added h → (length g.deltas == 0) ≡ false → (length h.deltas == 0) ≡ false
+grown_begun g h None same some = ap (λ (ds : List DeltaOf). length ds == 0) same.deltas ∙ some
+grown_begun g h (Some d) grown some = ap (λ (ds : List DeltaOf). length ds == 0) grown.deltas ∙ not_empty (g.deltas ++ d ∷ []) (λ none. no_more g.deltas d (sym none))
+
+module _ {D : Type 0} {disk : disk_of.Ghosts D} where
+  taken_begun : (s : Submission) (t : ℕ) (c after : Container D disk) (r : Result Verdict SubmitFault) → IsTaken s t c after r → (length (history_of c).deltas == 0) ≡ false → (length (history_of after).deltas == 0) ≡ false
+  taken_begun s t c after (Ok v) taken some = grown_begun (history_of c) (history_of after) (judged (history_of c) s t).1 taken.grown some
+  taken_begun s t c after (Err e) taken some = ap (λ (ds : List DeltaOf). length ds == 0) taken.same.deltas ∙ some
+
+  pub begun_set : (s : Submission) (t : ℕ) (es es' : List (Key × Filed D disk)) (n : Key) (r : Result Verdict SubmitFault) → IsAnswered n s t es es' r → HaveADelta es → HaveADelta es'
+  begun_set s t es es' n r x begun =
+      subst HaveADelta (sym x.is) (all_set deltas_of HasDelta es n x.new begun (taken_begun s t x.old.container x.new.container r x.taken (all_found deltas_of HasDelta es n x.old begun x.was)))
+
+  pub begun_put : (es es' : List (Key × Filed D disk)) (n : Key) (filed : Filed D disk) → IsPut n filed es es' → HaveADelta es → HasDelta (n, filed) → HaveADelta es'
+  begun_put es es' n filed put begun some = subst HaveADelta (sym put.is) (all_put deltas_of HasDelta es put.at (n, filed) (subst (λ k. put.at ≤ k) (length_keys es) put.place.inside) begun some)
+
+  pub begun_popped : (es es' : List (Key × Filed D disk)) (o : Option (Key × Filed D disk)) → es ≡ es' ++ option_to_list o → HaveADelta es → HaveADelta es'
+  begun_popped es es' None is begun = subst HaveADelta (is ∙ append-nil es') begun
+  begun_popped es es' (Some e) is begun = all_front HasDelta es' e (subst HaveADelta is begun)

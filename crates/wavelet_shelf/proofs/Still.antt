@@ -4,10 +4,12 @@
 --     used_as, used_on, used_more          at most some files changed: where nothing was done; by one and another; or others, too
 --     used_there, used_still               where there was one, there is one; no path was entered
 --     used_by                              a call that may change one file
-use Rattle.std.proofs.Common.{◌≡◌, ◌↔◌, ℕ, List, Option, Some, None, IsSome, IsTrue, refl, ap, ◌∙◌}
+--     unmade_as                            a file stands as it was, where nothing was done
+use Rattle.std.proofs.Common.{◌≡◌, ◌↔◌, inl, ℕ, List, Option, Some, None, IsSome, IsTrue, refl, ap, ◌∙◌}
+use Rattle.disk_model.specs.declared.disk.Disk as disk_of
 use Rattle.wave_outside.specs.Folders.{FolderLog, IsElsewhere, used_log}
 use Rattle.wave_outside.specs.declared.folder.Folder as folder_of
-use Rattle.wavelet_shelf.specs.Folders.{IsStill, IsStillIn, IsUsed, IsUsedIn}
+use Rattle.wavelet_shelf.specs.Folders.{IsStill, IsStillIn, IsUsed, IsUsedIn, IsUnmadeIn}
 
 module _ {F D : Type 0} (folder : folder_of.Ghosts F D) where
   pub still_as : (f : F) → IsStill folder f f
@@ -62,3 +64,8 @@ module _ {F D : Type 0} (folder : folder_of.Ghosts F D) where
 
   pub used_by : (n : List ℕ) (f g : F) → (IsTrue folder.tells → folder.log g ≡ used_log (folder.log f)) → (IsTrue folder.tells → IsElsewhere n (folder.files f) (folder.files g)) → IsUsed folder (λ m. m ≡ n) f g
   used_by n f g call others = record { still = still_used f g call; others = λ told m not. others told m not }
+
+module _ {F D : Type 0} (folder : folder_of.Ghosts F D) (disk : disk_of.Ghosts D) where
+  pub unmade_as : (m : List ℕ) (o : Option F) → IsUnmadeIn folder disk m o o
+  unmade_as m None = tt
+  unmade_as m (Some f) = λ told. inl refl

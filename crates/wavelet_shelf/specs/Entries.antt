@@ -3,6 +3,7 @@
 --     AreInOrder es          the names ascend; each container's history has its name, and its file is that of the name
 --     IsPlace n names i      the name belongs there among the names
 --     IsPut n f es after     the entry came to the others
+--     HasDelta e, HaveADelta es    its history has a delta; so it is of each
 --     histories es           the deltas of each name
 --     hosting es             so, of those that have a delta
 --     faults_of c, faults_in es     how often disks have failed
@@ -84,6 +85,15 @@ module _ {K : Type 0} {disk : Ghosts K} where
 
   pub AreInOrder-prop : (es : List (Key × Filed K disk)) → IsProp (AreInOrder es)
   AreInOrder-prop es = ×_prop (AreAscending-prop (keys_of es)) (AllByRecursion-prop IsNamed (λ e. ×_prop (same_key _ _) (same_key _ _)) es)
+
+  abbrev pub HasDelta : Key × Filed K disk → Type 0
+  HasDelta e = (length (history_of e.1.container).deltas == 0) ≡ false
+
+  abbrev pub HaveADelta : List (Key × Filed K disk) → Type 0
+  HaveADelta es = AllByRecursion HasDelta es
+
+  pub HaveADelta-prop : (es : List (Key × Filed K disk)) → IsProp (HaveADelta es)
+  HaveADelta-prop es = AllByRecursion-prop HasDelta (λ e. Coded-set coded_bool _ _) es
 
   -- the entry came to the others
   pub record IsPut (n : Key) (filed : Filed K disk) (es after : List (Key × Filed K disk)) : Type 0 where

@@ -15,6 +15,7 @@
 --     IsStillIn o p              a folder before and after, and no path was entered; or none in both
 --     IsUsed may f g             no path was entered from f to g, and at most the files for which this holds changed
 --     IsUsedIn may o p           so it is of a folder before and after; or there is none in both
+--     IsUnmadeIn m o p           the file of this name stands in the folder as it was, or emptied; or there is no folder in both
 --     IsFirstAmong f names m k   of the files of these names this one is a journal's and refused, and none before it
 --     IsLooked f g es done       of the folder f these files were looked at, and those of the entries were read
 --     IsLoading f g es done      and the entries have each history for which one of these stands, and none of these is refused
@@ -30,7 +31,7 @@ use Rattle.disk_model.specs.declared.disk.Disk as disk_of
 use Rattle.delta_journal.specs.File.{HasName, HasNoHeader}
 use Rattle.delta_journal.specs.Journal.{on_disk}
 use Rattle.wave_outside.specs.Counts.{Rose}
-use Rattle.wave_outside.specs.Folders.{IsPutBack, IsElsewhere, IsSame, IsAsBefore}
+use Rattle.wave_outside.specs.Folders.{IsPutBack, IsUnmade, IsElsewhere, IsSame, IsAsBefore}
 use Rattle.wave_outside.specs.declared.folder.Folder as folder_of
 use Rattle.wavelet_container.specs.Containers.{journal_of, IsHeld}
 use Rattle.wavelet_container.specs.Records.{StandsForHistory}
@@ -69,6 +70,13 @@ module _ {F D : Type 0} (folder : folder_of.Ghosts F D) where
   IsUsedIn may None (Some g) = ⊥
   IsUsedIn may (Some f) None = ⊥
   IsUsedIn may (Some f) (Some g) = IsUsed may f g
+
+module _ {F D : Type 0} (folder : folder_of.Ghosts F D) (disk : disk_of.Ghosts D) where
+  abbrev pub IsUnmadeIn : List ℕ → Option F → Option F → Type 0
+  IsUnmadeIn m None None = Unit {0}
+  IsUnmadeIn m None (Some g) = ⊥
+  IsUnmadeIn m (Some f) None = ⊥
+  IsUnmadeIn m (Some f) (Some g) = IsTrue folder.tells → IsUnmade disk.view (folder.files f m) (folder.files g m)
 
 pub record IsFirstAmong {F D : Type 0} (folder : folder_of.Ghosts F D) (disk : disk_of.Ghosts D) (f : F) (names : List (List ℕ)) (m : List ℕ) (offset : ℕ) : Type 0 where
   pub named : is_file_name m ≡ true

@@ -9,7 +9,7 @@
 --     IsSettled s            so it does, in its file as that reads and in each image of it, and no repair is pending
 --     AreApart s             no two names have one file
 --     HasFile s m            this is the file of one of its names
---     IsNewFile s n m        this is the file of a name that isn't there
+--     IsNewFile s n x t m    this is the file of a name that isn't there, and the submission's delta is accepted as its first
 --     IsOneMoreOf s n x t f  the file stands for the history of the name, or for it and the delta of a submission that is accepted
 --     copies_of s n          the history of the name, where it has a delta
 --     outcome_of s n i       the acknowledgement that it keeps for the id
@@ -83,8 +83,8 @@ module _ {F D : Type 0} {folder : folder_of.Ghosts F D} {disk : disk_of.Ghosts D
   abbrev pub HasFile : Shelf F D folder disk → List ℕ → Type 0
   HasFile s m = (n : Key) × IsSome (container_in s n) × (file_name_of n ≡ m)
 
-  abbrev pub IsNewFile : Shelf F D folder disk → Key → List ℕ → Type 0
-  IsNewFile s n m = (container_in s n ≡ None) × (m ≡ file_name_of n)
+  abbrev pub IsNewFile : Shelf F D folder disk → Key → Submission → ℕ → List ℕ → Type 0
+  IsNewFile s n x t m = (container_in s n ≡ None) × IsSome (judged_in (hosted_of s) n x t).1 × (m ≡ file_name_of n)
 
   abbrev pub IsOneMoreOf : Shelf F D folder disk → Key → Submission → ℕ → List ℕ → Type 0
   IsOneMoreOf s n x t = StandsForOneMore n (deltas_in (hosted_of s) n) (λ d. (judged_in (hosted_of s) n x t).1 ≡ Some d)

@@ -4,7 +4,7 @@
 --     IsTakenFirst n s t c v    one without a journal answered
 --     IsAnswered n s t es es' r     the container of the name did
 --     IsHosted n s t a b r      the shelf did
-use Rattle.std.specs.Prelude.{◌≡◌, ◌≢◌, ◌==◌, ◌≤◌, ℕ, List, [], false, Result, Ok, Some, None, is_some, IsTrue, IsSome, IfOk, IfSome, OnOk, OnErr, IsErrOf}
+use Rattle.std.specs.Prelude.{◌≡◌, ◌≢◌, ◌⊎◌, ◌==◌, ◌≤◌, ℕ, List, [], false, Result, Ok, Some, None, is_some, IsTrue, IsSome, IfOk, IfSome, OnOk, OnErr, IsErrOf}
 use Rattle.std.specs.Cmp.Lexicographic.{pointwise}
 use Rattle.std.specs.Map.{lookup, set_value}
 use Rattle.doc_items.specs.Maps.{Key}
@@ -23,7 +23,8 @@ use Rattle.wavelet_container.specs.declared.container.Container.{Container}
 use Rattle.wavelet_container.specs.declared.fault.SubmitFault.{SubmitFault}
 use Rattle.wavelet_container.specs.declared.fault.SubmitFault.TheVariants.{DiskFault, Memory}
 use Rattle.wavelet_shelf.specs.Entries.{faults_of, IsFileWithin, IsWrittenOn, IsSafe}
-use Rattle.wavelet_shelf.specs.Folders.{IsUsedIn}
+use Rattle.wavelet_shelf.specs.FileNames.{file_name_of}
+use Rattle.wavelet_shelf.specs.Folders.{IsUsedIn, IsUnmadeIn}
 use Rattle.wavelet_shelf.specs.Hosting.{deltas_in, judged_in, after_submission}
 use Rattle.wavelet_shelf.specs.Shelves.{in_folder, hosted_of, container_in, fault_count, IsKept, IsSettled, IsNewFile, IsOneMoreOf}
 use Rattle.wavelet_shelf.specs.declared.filed.Filed.{Filed}
@@ -76,6 +77,7 @@ module _ {F D : Type 0} {folder : folder_of.Ghosts F D} {disk : disk_of.Ghosts D
     pub grown : OnOk r (hosted_of b ≡ after_submission (hosted_of a) n s t)
     pub same : OnErr r (hosted_of b ≡ hosted_of a)
     pub others : (m : Key) → m ≢ n → container_in b m ≡ container_in a m
+    pub begun : IsSome (container_in b n) → IsSome (container_in a n) ⊎ IsSome (judged_in (hosted_of a) n s t).1
     pub kept : IsKept a → IsKept b
     pub safe : OnOk r (IsKept a → IfSome (container_in b n) IsSafe)
     pub settled : OnOk r (IsKept a → IsSettled a → IsSettled b)
@@ -86,4 +88,5 @@ module _ {F D : Type 0} {folder : folder_of.Ghosts F D} {disk : disk_of.Ghosts D
     pub later : fault_count a ≤ fault_count b
     pub failed : IsErrOf r DiskFault → Rose (fault_count a) (fault_count b)
     pub disk_there : IsErrOf r DiskFault → IsSome (in_folder a)
-    pub used : IsUsedIn folder (IsNewFile a n) (in_folder a) (in_folder b)
+    pub used : IsUsedIn folder (IsNewFile a n s t) (in_folder a) (in_folder b)
+    pub unmade : container_in b n ≡ None → IsUnmadeIn folder disk (file_name_of n) (in_folder a) (in_folder b)

@@ -1,5 +1,7 @@
 // Containers by name.
-ghost use Rattle.wavelet_shelf.specs.Entries.{AreInOrder, AreInOrder-prop};
+ghost use Rattle.std.specs.Prelude.{◌≡◌, true};
+ghost use Rattle.std.specs.Coded.{→_prop};
+ghost use Rattle.wavelet_shelf.specs.Entries.{AreInOrder, AreInOrder-prop, HaveADelta, HaveADelta-prop};
 
 use crate::filed::Filed;
 use disk_model::Disk;
@@ -10,5 +12,8 @@ use wave_base::WaveletName;
 #[derive(Drop)]
 pub(crate) struct Containers<K: Disk> {
     pub map: IndexMap<WaveletName, Filed<K>>,
+    // Whether each surely has a delta.
+    pub begun: bool,
     ghost in_order: { AreInOrder map.entries } by { AreInOrder-prop map.entries },
+    ghost all_begun: { begun ≡ true → HaveADelta map.entries } by { →_prop (HaveADelta-prop map.entries) },
 }

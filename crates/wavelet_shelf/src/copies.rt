@@ -1,14 +1,17 @@
 // A shelf as the copies of the wavelets that are hosted here.
 ghost use Rattle.std.specs.Prelude.{◌≡◌, ◌≢◌, [], IfSome, IsSome, option_copied, slice_get};
+ghost use Rattle.std.specs.Map.{keys_of};
 ghost use Rattle.delta_history.specs.Copying.{AreAscending, IsKeptOutcome};
 ghost use Rattle.wavelet_shelf.specs.Entries.{hosting};
 ghost use Rattle.wavelet_shelf.specs.Hosting.{names_of};
 ghost use Rattle.wavelet_shelf.specs.Shelves.{hosted_of, copies_of, outcome_of};
 
 use crate::Shelf;
+use crate::containers::Containers;
 use crate::filed::Filed;
 use delta_history::{Copies, History};
 use disk_model::Disk;
+use indexmap::IndexMap;
 use indexmap::map::Slice;
 use wave_base::{DeltaId, WaveletName};
 use wave_outside::Folder;
@@ -35,6 +38,27 @@ fn host_at<'a, K: Disk>(
     None
 }
 
+// The name at a place among all.
+fn name_at<K: Disk>(map: &IndexMap<WaveletName, Filed<K>>, place: u64) -> Option<&WaveletName>
+    ensures { option_copied result ≡ slice_get (keys_of map.now.entries) place }
+{
+    let (name, _) = map.get_index(place as usize)?;
+    Some(name)
+}
+
+impl<K: Disk> Containers<K> {
+    /// The name at a place among those that have a delta. Where all have one it is found at once.
+    pub(crate) fn hosted(&self, place: u64) -> Option<&WaveletName>
+        ensures { option_copied result ≡ slice_get (names_of (hosting self.now.map.entries)) place }
+    {
+        if self.begun {
+            name_at(&self.map, place)
+        } else {
+            host_at(self.map.as_slice(), place)
+        }
+    }
+}
+
 impl<F: Folder> Copies for Shelf<F> {
     ghost use Rattle.std.specs.Prelude.{false};
     ghost use Rattle.wavelet_shelf.specs.Hosting.{names_of};
@@ -59,7 +83,7 @@ impl<F: Folder> Copies for Shelf<F> {
     }
 
     fn hosted(&self, place: u64) -> Option<&WaveletName> {
-        host_at(self.containers.map.as_slice(), place)
+        self.containers.hosted(place)
     }
 
     fn dropped(&self, _name: &WaveletName) -> bool {

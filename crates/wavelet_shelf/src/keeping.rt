@@ -1,9 +1,10 @@
 // What is done with containers by name.
-ghost use Rattle.std.specs.Prelude.{◌≡◌, ◌==◌, ◌<◌, ◌++◌, ◌∷◌, [], true, None, is_some, IfNone, IfSome, OnOk};
+ghost use Rattle.std.specs.Prelude.{◌≡◌, ◌==◌, ◌<◌, ◌++◌, ◌∷◌, [], true, false, length, None, is_some, IfNone, IfSome, OnOk};
 ghost use Rattle.std.specs.Cmp.Lexicographic.{pointwise};
 ghost use Rattle.std.specs.Map.{lookup};
 ghost use Rattle.doc_items.specs.Maps.{Key};
 ghost use Rattle.indexmap.specs.IndexMap.{spare};
+ghost use Rattle.wavelet_container.specs.Containers.{history_of};
 ghost use Rattle.wavelet_shelf.specs.Entries.{IsNamed, IsPut};
 ghost use Rattle.wavelet_shelf.specs.Steps.{IsAnswered};
 
@@ -18,6 +19,14 @@ use wave_base::WaveletName;
 use wavelet_container::SubmitFault;
 use wavelet_op::{Submission, Verdict};
 
+// Whether each surely has a delta, with one container more.
+fn is_begun_with<K: Disk>(begun: bool, filed: &Filed<K>) -> bool
+    ensures before { result ≡ true → begun ≡ true }
+    ensures this { result ≡ true → (length (history_of filed.now.container).deltas == 0) ≡ false }
+{
+    begun && !filed.container.history().deltas().is_empty()
+}
+
 impl<K: Disk + Drop> Containers<K> {
     /// None.
     pub fn new(alloc: Global) -> Containers<K>
@@ -25,6 +34,7 @@ impl<K: Disk + Drop> Containers<K> {
     {
         Containers {
             map: IndexMap::new(alloc),
+            begun: true,
         }
     }
 
@@ -67,7 +77,9 @@ impl<K: Disk + Drop> Containers<K> {
         requires room { 0 < spare self.old.map }
         ensures { IsPut name filed self.old.map.entries self.new.map.entries }
     {
+        let begun = is_begun_with(self.begun, &filed);
         let _before = self.map.insert_sorted(name, filed);
+        self.begun = begun;
     }
 
     /// Takes the last one away.

@@ -54,7 +54,7 @@ impl<F: Folder + Drop> Shelf<F> {
     }
 }
 
-// So it is, with the folder and the containers apart.
+// The same with the folder and the containers apart.
 fn load_from<F: Folder>(
     alloc: Global,
     folder: &mut F,

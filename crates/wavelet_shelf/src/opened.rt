@@ -44,7 +44,7 @@ pub(crate) fn open_file<K: Disk>(
     }
 }
 
-// So it is, where these bytes are the name in its header.
+// The same where these bytes are the name in its header.
 fn open_as<K: Disk>(
     alloc: Global,
     disk: K,
@@ -68,7 +68,7 @@ fn open_as<K: Disk>(
     }
 }
 
-// So it is, where this is its wavelet.
+// The same where this is its wavelet.
 fn read<K: Disk>(alloc: Global, disk: K, name: WaveletName) -> Result<Opened<K>, LoadRefused<K>>
     ensures ok { IfOk result (λ o. (m : List ℕ) → IsOwnName name m → (IsTrue K.tells → HasName (Some name) (K.view disk).seen) → IsOpened m (K.view disk) o) }
     ensures err { IfErr result (λ r. (m : List ℕ) → IsOwnName name m → (IsTrue K.tells → HasName (Some name) (K.view disk).seen) → IsUnopened K.Disk m (K.view disk) r) }

@@ -1,15 +1,16 @@
 // Submissions to a shelf.
-ghost use Rattle.std.specs.Prelude.{◌≡◌, ◌≢◌, ◌==◌, ◌≤◌, ◌<◌, ℕ, List, [], true, false, None, is_some, IsTrue, IsSome, IfOk, IfSome, OnOk, OnErr, IsErrOf, string_bytes};
+ghost use Rattle.std.specs.Prelude.{◌≡◌, ◌≢◌, ◌⊎◌, ◌==◌, ◌≤◌, ◌<◌, ℕ, List, [], true, false, None, is_some, IsTrue, IsSome, IfOk, IfSome, OnOk, OnErr, IsErrOf, string_bytes};
 ghost use Rattle.std.specs.Cmp.Lexicographic.{pointwise};
 ghost use Rattle.std.specs.Map.{lookup};
 ghost use Rattle.doc_items.specs.Maps.{Key};
 ghost use Rattle.indexmap.specs.IndexMap.{spare};
 ghost use Rattle.wave_outside.specs.Counts.{Rose};
+ghost use Rattle.wave_outside.specs.Folders.{IsUnmade};
 ghost use Rattle.wavelet_container.specs.Containers.{history_of, journal_of};
 ghost use Rattle.wavelet_container.specs.Decisions.{LooksAtOps};
 ghost use Rattle.wavelet_shelf.specs.Entries.{IsFileWithin, IsWrittenOn, IsSafe};
 ghost use Rattle.wavelet_shelf.specs.FileNames.{file_name_of};
-ghost use Rattle.wavelet_shelf.specs.Folders.{IsUsed, IsUsedIn};
+ghost use Rattle.wavelet_shelf.specs.Folders.{IsUsed, IsUsedIn, IsUnmadeIn};
 ghost use Rattle.wavelet_shelf.specs.Hosting.{deltas_in, judged_in, after_submission};
 ghost use Rattle.wavelet_shelf.specs.Shelves.{entries_of, in_folder, folder_faults, hosted_of, container_in, fault_count, IsKept, IsSettled, AreApart, IsNewFile, IsOneMoreOf};
 ghost use Rattle.wavelet_shelf.specs.Steps.{IsHosted, IsStarted, IsTakenFirst};
@@ -23,7 +24,7 @@ use doc_items::Memory;
 use std::alloc::Global;
 use wave_base::WaveletName;
 use wave_outside::{Folder, FolderFault};
-use wavelet_container::{Container, SubmitFault, first_verdict};
+use wavelet_container::{Container, SubmitFault, Unstored, first_verdict};
 use wavelet_op::{Submission, Verdict};
 
 impl<F: Folder + Drop> Shelf<F> {
@@ -31,7 +32,8 @@ impl<F: Folder + Drop> Shelf<F> {
     /// empty history. The history of the name grows by just the delta that is accepted, and that of every other name stays as it
     /// is. Over a folder the delta is in the wavelet's file before the history has it. `DiskFault` where the folder or the disk
     /// failed; the file then stands for the history, or for it and the delta that was accepted. No memory is taken before the operations
-    /// are looked at, and after `Memory` nothing new is left for a crash to add. The file of a name that is there is never made anew.
+    /// are looked at, and after `Memory` nothing new is left for a crash to add. A file is made only for the first delta of a name, and never
+    /// anew; where no container came to the shelf it is as it was, or emptied.
     pub fn submit(
         &mut self,
         alloc: Global,
@@ -43,6 +45,7 @@ impl<F: Folder + Drop> Shelf<F> {
         ensures grown { OnOk result (hosted_of self.new ≡ after_submission (hosted_of self.old) name.now submission.now time) }
         ensures same { OnErr result (hosted_of self.new ≡ hosted_of self.old) }
         ensures others { (m : Key) → m ≢ name.now → container_in self.new m ≡ container_in self.old m }
+        ensures begun { IsSome (container_in self.new name.now) → IsSome (container_in self.old name.now) ⊎ IsSome (judged_in (hosted_of self.old) name.now submission.now time).1 }
 
         ensures kept { IsKept self.old → IsKept self.new }
         ensures stored { OnOk result (IsKept self.old → IfSome (container_in self.new name.now) IsSafe) }
@@ -55,15 +58,16 @@ impl<F: Folder + Drop> Shelf<F> {
 
         ensures moments { IsKept self.old → IsSettled self.old
             → IsWrittenOn (container_in self.old name.now) (container_in self.new name.now) (IsOneMoreOf self.old name.now submission.now time) }
-        ensures folder { IsUsedIn F.Folder (IsNewFile self.old name.now) (in_folder self.old) (in_folder self.new) }
+        ensures folder { IsUsedIn F.Folder (IsNewFile self.old name.now submission.now time) (in_folder self.old) (in_folder self.new) }
         ensures later { fault_count self.old ≤ fault_count self.new }
         ensures failed { IsErrOf result SubmitFault.DiskFault → Rose (fault_count self.old) (fault_count self.new) }
+        ensures unmade { container_in self.new name.now ≡ None → IsUnmadeIn F.Folder F.Disk.Disk (file_name_of name.now) (in_folder self.old) (in_folder self.new) }
         ensures disk { IsErrOf result SubmitFault.DiskFault → IsSome (in_folder self.old) }
     {
         self.answer(alloc, name, submission, time)
     }
 
-    // So it is, in one fact.
+    // The same in one fact.
     fn answer(
         &mut self,
         alloc: Global,
@@ -80,7 +84,7 @@ impl<F: Folder + Drop> Shelf<F> {
         }
     }
 
-    // So it is, where the name isn't there.
+    // The same where the name isn't there.
     fn submit_first(
         &mut self,
         alloc: Global,
@@ -97,7 +101,7 @@ impl<F: Folder + Drop> Shelf<F> {
         }
     }
 
-    // So it is, where the operations decide.
+    // The same where the operations decide.
     fn submit_new(
         &mut self,
         alloc: Global,
@@ -116,7 +120,7 @@ impl<F: Folder + Drop> Shelf<F> {
         }
     }
 
-    // So it is, where a container without a journal answered.
+    // The same where a container without a journal answered.
     fn host(
         &mut self,
         alloc: Global,
@@ -140,7 +144,7 @@ impl<F: Folder + Drop> Shelf<F> {
         }
     }
 
-    // So it is, where there is no folder, and a delta is accepted.
+    // The same where there is no folder, and a delta is accepted.
     fn keep(
         &mut self,
         alloc: Global,
@@ -153,6 +157,7 @@ impl<F: Folder + Drop> Shelf<F> {
         requires absent { is_some (lookup (pointwise ◌==◌ name.now) (entries_of self.old)) ≡ false }
         requires plain { in_folder self.old ≡ None }
         requires taken { IsTakenFirst name.now submission.now time plain verdict }
+        requires accepted { IsSome (judged_in (hosted_of self.old) name.now submission.now time).1 }
         requires late { LooksAtOps (judged_in (hosted_of self.old) name.now submission.now time) }
         ensures { IsHosted name.now submission.now time self.old self.new result }
     {
@@ -167,7 +172,7 @@ impl<F: Folder + Drop> Shelf<F> {
         Ok(verdict)
     }
 
-    // So it is, where there is a folder.
+    // The same where there is a folder, and a delta is accepted.
     fn store(
         &mut self,
         alloc: Global,
@@ -177,6 +182,7 @@ impl<F: Folder + Drop> Shelf<F> {
     ) -> Result<Verdict, SubmitFault>
         requires absent { is_some (lookup (pointwise ◌==◌ name.now) (entries_of self.old)) ≡ false }
         requires filed { IsSome (in_folder self.old) }
+        requires accepted { IsSome (judged_in (hosted_of self.old) name.now submission.now time).1 }
         requires late { LooksAtOps (judged_in (hosted_of self.old) name.now submission.now time) }
         ensures { IsHosted name.now submission.now time self.old self.new result }
     {
@@ -215,6 +221,7 @@ impl<F: Folder + Drop> Shelf<F> {
         ensures map { self.new.containers.map ≡ self.old.containers.map }
         ensures filed { IsSome (in_folder self.new) }
         ensures used { IsUsedIn F.Folder (λ m. m ≡ file.now) (in_folder self.old) (in_folder self.new) }
+        ensures unmade { OnErr result (IsUnmadeIn F.Folder F.Disk.Disk file.now (in_folder self.old) (in_folder self.new)) }
         ensures later { folder_faults F.faults (in_folder self.old) ≤ folder_faults F.faults (in_folder self.new) }
         ensures failed { IsErrOf result SubmitFault.DiskFault → Rose (folder_faults F.faults (in_folder self.old)) (folder_faults F.faults (in_folder self.new)) }
     {
@@ -245,12 +252,14 @@ fn started<F: Folder>(
     ensures out { OnOk result (F.room folder.new file.now ≡ true) }
     ensures room { (m : List ℕ) → F.room folder.old m ≡ true → F.room folder.new m ≡ true }
     ensures used { IsUsed F.Folder (λ m. m ≡ file.now) folder.old folder.new }
+    ensures unmade { OnErr result (IsTrue F.tells → IsUnmade F.Disk.view (F.files folder.old file.now) (F.files folder.new file.now)) }
     ensures later { F.faults folder.old ≤ F.faults folder.new }
     ensures failed { IsErrOf result SubmitFault.DiskFault → Rose (F.faults folder.old) (F.faults folder.new) }
 {
     let name = name.copy(alloc)?;
+    let unstored = Unstored::new(alloc, name)?;
     match folder.fresh(alloc, file) {
-        Ok(disk) => Ok(Container::start(alloc, name, disk)?),
+        Ok(disk) => Ok(Container::over(alloc, unstored, disk)),
         Err(FolderFault::Failed) => Err(SubmitFault::DiskFault),
         Err(FolderFault::Memory) => Err(SubmitFault::Memory),
     }

@@ -1,19 +1,44 @@
-use Rattle.std.proofs.Common.{◌≡◌, ◌<◌, [], Some, refl, subst, arith, append-nil, length, slice_get}
+use Rattle.std.proofs.Common.{◌≡◌, ◌+◌, ◌<◌, ◌≤◌, ◌++◌, ℕ, List, Some, refl, sym, ap, subst, ◌∙◌, arith, append_assoc, append-nil, length, length-append, drop, slice_get}
 use Rattle.std.proofs.lemmas.Option.{slice_get_read}
-use Rattle.pipe_machine.specs.Due.{AreTheDue}
-use Rattle.pipe_machine.proofs.Placing.{due_more}
+use Rattle.pipe_machine.specs.declared.runs.Run.{Run}
+use Rattle.pipe_machine.specs.declared.seats.Seat.{Seat}
+use Rattle.pipe_machine.specs.Due.{due_among, AreTheDue}
+use Rattle.pipe_machine.specs.Runs.{seats_in}
+use Rattle.pipe_machine.proofs.Placing.{among_apart, due_all, next_at, none_left}
 use Rattle.pipe_machine.proofs.due.places_among.Goals as goal
 
-pub loop-place-preserved : goal.loop-place-preserved
-loop-place-preserved c shown alone =
-    let ss = c.args.seats.now in
-    let i = c.loop-place.place in
-    let s = c.index-seats-place.result in
-    let inside : i < length ss = omega (arith, c.loop-place-test.true, c.loop-place.auto.place-end) in
-    let got : slice_get ss i ≡ Some s = slice_get_read ss (length ss) i s refl inside c.index-seats-place.is in
-    due_more shown c.args.due.now i ss s c.loop-place.places.items c.push_if.new.list.items c.is_due.result alone got c.is_due.ensures c.in_ok-push_if.ensures (c.loop-place.invariant shown alone)
+pub loop-run-preserved : goal.loop-run-preserved
+loop-run-preserved c =
+    let d = c.args.due.now in
+    let rs = c.as_slice-run-items.result.now in
+    let k = c.loop-run.run-index in
+    let r = c.run-item.result in
+    let f = c.loop-run.first in
+    let items = c.loop-run.places.items in
+    let xs = r.seats.items in
+    let ys = seats_in (drop (k + 1) rs) in
+    let inside : k < length rs = omega (arith, c.loop-run-test.true, c.loop-run.auto.run-index-end) in
+    let got : slice_get rs k ≡ Some r = slice_get_read rs (length rs) k r refl inside c.run-item.is in
+    let next : seats_in (drop k rs) ≡ xs ++ ys = ap seats_in (next_at rs k r got) in
+    let counted : length (seats_in (drop k rs)) ≡ length xs + length ys = ap (λ (l : List Seat). length l) next ∙ length-append xs ys in
+    let many : c.len-count.result ≡ length xs = omega (arith, c.len-count.ensures) in
+    record {
+      whole = c.loop-run.invariant.whole ∙ ap (λ (l : List Seat). items ++ due_among d f l) next ∙ ap (λ (l : List ℕ). items ++ l) (among_apart d f xs ys)
+          ∙ sym (append_assoc items (due_among d f xs) (due_among d (f + length xs) ys))
+          ∙ ap (λ (l : List ℕ). l ++ due_among d (f + length xs) ys) (sym (c.in_ok-push_due.ensures ∙ ap (λ (l : List Seat). items ++ due_among d f l) c.as_slice.ensures.value))
+          ∙ ap (λ (n : ℕ). c.push_due.new.places.items ++ due_among d (f + n) ys) (sym many);
+      counted = omega (arith, c.loop-run.invariant.counted, counted, many);
+    }
 
 pub returns : goal.returns
 returns c shown alone =
-    subst (λ ps. AreTheDue shown 0 ps c.args.seats.now) (append-nil c.loop-place.places.items)
-    (c.loop-place.invariant shown alone [] (λ k s low high got. absurd (omega (arith, low, high, c.loop-place-test.false))))
+    let d = c.args.due.now in
+    let rs = c.as_slice-run-items.result.now in
+    let k = c.loop-run.run-index in
+    let items = c.loop-run.places.items in
+    let ss = seats_in c.args.seats.now.runs.items in
+    let same : seats_in rs ≡ ss = ap (λ (l : List Run). seats_in l) c.as_slice-run-items.ensures.value in
+    let over : length rs ≤ k = omega (arith, c.loop-run-test.false) in
+    let whole : due_among d 0 ss ≡ items = ap (λ (l : List Seat). due_among d 0 l) (sym same) ∙ c.loop-run.invariant.whole
+    ∙ ap (λ (l : List Run). items ++ due_among d c.loop-run.first (seats_in l)) (none_left rs k over) ∙ append-nil items in
+    subst (λ (ps : List ℕ). AreTheDue shown 0 ps ss) whole (due_all shown d 0 ss ss refl alone)

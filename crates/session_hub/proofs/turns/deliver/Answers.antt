@@ -1,4 +1,4 @@
-use Rattle.std.proofs.Common.{rules, ◌≡◌, [], map, ap, ◌∙◌, inl}
+use Rattle.std.proofs.Common.{rules, ◌≡◌, [], map, length, ap, sym, ◌∙◌, inl}
 use Rattle.session_core.specs.Deliveries.{delivered, after_delivery}
 use Rattle.shard_marks.specs.Frames.{frames_of}
 use Rattle.shard_marks.specs.Marks.{shown_at}
@@ -30,3 +30,8 @@ pub returns-clause-told : goal.returns-clause-told
 returns-clause-told g c = λ d k own.
     let moment = told_moment (seen c.args.pass.now) (seen c.pass-2-1.given.0) c.in_ok-guard.guard.value c.value-shard.result.now d k own c.in_ok-guard.ensures.value c.value-shard.ensures.value (search rules) c.deliver-frames.new.session c.in_ok-frames.ensures.told in
     search (rules, moment)
+
+pub returns-clause-length : goal.returns-clause-length
+returns-clause-length g c =
+    let last : seen c.pass-2-1.given.0 ≡ entries_of c.in_ok-guard.guard.value = search rules in
+    c.length-length.ensures ∙ ap length (ap entries_of c.value-shard.ensures.value ∙ sym last)

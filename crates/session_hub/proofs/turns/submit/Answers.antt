@@ -1,4 +1,4 @@
-use Rattle.std.proofs.Common.{rules, map, ◌≡◌, ◌⊎◌, inl, inr, ap, subst, ◌∙◌, List}
+use Rattle.std.proofs.Common.{rules, map, ◌≡◌, ◌⊎◌, inl, inr, length, ap, sym, subst, ◌∙◌, List}
 use Rattle.turn_lock.specs.Passes.{seen, IsOneMore}
 use Rattle.shard_marks.specs.declared.mark.Mark.{Mark}
 use Rattle.session_hub.specs.Entries.{entries_of}
@@ -33,3 +33,8 @@ returns-clause-later g c = grown_later _ _ _ _ _ c.in_ok-guard.ensures.value (ap
 
 pub returns-clause-own : goal.returns-clause-own
 returns-clause-own g c = let own = c.leave.ensures.own in search (rules, own)
+
+pub returns-clause-length : goal.returns-clause-length
+returns-clause-length g c =
+    let last : seen c.pass-2-1.given.0 ≡ entries_of c.submit-answer.new.self = search rules in
+    c.in_ok-answer.ensures.length ∙ ap length (sym last)

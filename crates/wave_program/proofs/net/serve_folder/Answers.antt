@@ -29,6 +29,9 @@ returns-in-Err-clause-served g c = none_there _ _ c.requires.empty.2
 pub returns-in-Err-clause-done : goal.returns-in-Err-clause-done
 returns-in-Err-clause-done g c = told_other c.tell-status.result c.tell-status.ensures.known
 
+pub returns-in-Err-clause-robots : goal.returns-in-Err-clause-robots
+returns-in-Err-clause-robots g c = told_other c.tell-status.result c.tell-status.ensures.known
+
 pub returns-in-Err-clause-stored : goal.returns-in-Err-clause-stored
 returns-in-Err-clause-stored g c = λ folder_tells tells. none_there _ _ c.requires.empty.2
 

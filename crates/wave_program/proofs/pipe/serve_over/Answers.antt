@@ -1,12 +1,16 @@
-use Rattle.std.proofs.Common.{◌≡◌, ◌<◌, length, sym, ap, ◌∙◌, subst, inl, inr, refl}
+use Rattle.std.proofs.Common.{◌≡◌, ◌<◌, [], ◌∷◌, length, sym, ap, ◌∙◌, subst, inl, inr, refl}
 use Rattle.line_loop.specs.Lines.{IsPrefix}
 use Rattle.line_loop.specs.Turns.{lines_in}
-use Rattle.wavelet_shelf.specs.Entries.{IsWrittenOn}
-use Rattle.wavelet_shelf.specs.Shelves.{container_in, hosted_of, IsKept, IsSettled}
-use Rattle.pipe_machine.specs.Keeping.{AreWrittenOn}
+use Rattle.wavelet_shelf.specs.Entries.{IsWrittenOn, histories}
+use Rattle.wavelet_shelf.specs.Shelves.{entries_of, container_in, hosted_of, IsKept, IsSettled}
+use Rattle.wavelet_shelf.proofs.Growing.{shown_ascend}
+use Rattle.wavelet_shelf.proofs.Placing.{hist_ascends}
+use Rattle.wavelet_shelf.proofs.Shelving.{deltas_of}
+use Rattle.pipe_machine.specs.Keeping.{AreWrittenOn, AreBegun}
 use Rattle.pipe_machine.specs.Lines.{lines_of}
 use Rattle.pipe_machine.specs.Machine.{Pipe, start, sent, turn, after}
 use Rattle.pipe_machine.specs.Pipes.{pipe_of, StandsAlong}
+use Rattle.pipe_machine.proofs.Holding.{after_begins}
 use Rattle.pipe_machine.proofs.Turning.{after_more}
 use Rattle.wave_program.specs.Pipe.{IsLeftOf}
 use Rattle.wave_program.proofs.Leaving.{left_of, left_still, left_tried}
@@ -47,11 +51,13 @@ returns-clause-over g c =
           let written : IsKept c.args.shelf → IsSettled c.args.shelf → AreWrittenOn c.args.shelf s.mid.shelf (λ n. StandsAlong (start (hosted_of c.args.shelf)) n s.turns) = λ kept settled n.
           subst (λ (p : Pipe). IsWrittenOn (container_in c.args.shelf n) (container_in s.mid.shelf n) (StandsAlong p n s.turns)) is
           (subst (λ x. IsWrittenOn (container_in x n) (container_in s.mid.shelf n) (StandsAlong (pipe_of c.new-machine.result) n s.turns)) c.new-machine.ensures.shelf (s.reached.moments (rw (c.new-machine.ensures.shelf) kept, rw (c.new-machine.ensures.shelf) settled) n)) in
+          let begun : AreBegun c.args.shelf s.mid.shelf (hosted_of s.mid.shelf) = subst (λ x. AreBegun x s.mid.shelf (hosted_of s.mid.shelf)) c.new-machine.ensures.shelf s.reached.begun in
+          let ascending = shown_ascend (histories (entries_of s.mid.shelf)) (hist_ascends deltas_of (entries_of s.mid.shelf) s.mid.shelf.containers.in_order.0) in
           rw (c.into_shelf.ensures)
           (left_of s (λ us. IsLeftOf c.args.shelf c.run_lines-ending.new.machine.shelf s.turns us)
-          (λ same. left_still c.args.shelf s.mid.shelf c.run_lines-ending.new.machine.shelf s.turns (sym e) calm written (λ i. (same i).shelf))
-          (λ t tried. left_tried c.args.shelf s.mid.shelf c.run_lines-ending.new.machine.shelf s.turns (sym e) calm written t (turn (pipe_of s.mid) t.time t.line).pipe.hosted
-          (ap (λ (p : Pipe). (turn p t.time t.line).pipe.hosted) (sym reached) ∙ ap (λ (p : Pipe). p.hosted) (sym (after_more (start (hosted_of c.args.shelf)) s.turns t.time t.line))) tried.to tried.moments));
+          (λ same. left_still c.args.shelf s.mid.shelf c.run_lines-ending.new.machine.shelf s.turns (sym e) calm written begun (λ i. (same i).shelf))
+          (λ t tried. left_tried c.args.shelf s.mid.shelf c.run_lines-ending.new.machine.shelf s.turns (sym e) calm written begun t (turn (pipe_of s.mid) t.time t.line).pipe.hosted
+          (ap (λ (p : Pipe). (turn p t.time t.line).pipe.hosted) (sym reached) ∙ ap (λ (p : Pipe). p.hosted) (sym (after_more (start (hosted_of c.args.shelf)) s.turns t.time t.line))) (after_begins (pipe_of s.mid) (t ∷ []) ascending) tried.to tried.stepped));
       grown = λ n. rw (e, c.into_shelf.ensures) (s.since.grown n);
       whole = λ w.
           let here : c.run_lines-ending.new.machine ≡ s.mid = elim w [

@@ -39,6 +39,9 @@ returns-in-Err-Memory-clause-net_served g c = all_served _ _ (λ domain listen s
 pub returns-in-Err-Memory-clause-net_done : goal.returns-in-Err-Memory-clause-net_done
 returns-in-Err-Memory-clause-net_done g c = all_unless _ _ _ not_done
 
+pub returns-in-Err-Memory-clause-net_robots : goal.returns-in-Err-Memory-clause-net_robots
+returns-in-Err-Memory-clause-net_robots g c = all_unless _ _ _ not_done
+
 pub returns-in-Err-Memory-clause-net_plain : goal.returns-in-Err-Memory-clause-net_plain
 returns-in-Err-Memory-clause-net_plain g c = all_where _ _ _ (λ domain listen sessions store. none_there _ _ c.requires.empty.2)
 

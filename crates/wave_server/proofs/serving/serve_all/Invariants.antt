@@ -3,12 +3,15 @@ use Rattle.std.specs.Arc.{arc_value}
 use Rattle.turn_cells.specs.Cells.{Begins}
 use Rattle.shard_marks.specs.Passes.{marks_of}
 use Rattle.session_hub.specs.Hubs.{AreOfHub}
+use Rattle.robot_host.specs.Hosts.{host_by}
+use Rattle.wave_server.specs.Robots.{AreReady}
 use Rattle.wave_server.specs.Running.{AreOurs, HasServed}
 use Rattle.wave_server.proofs.serving.serve_all.Given as goal
 
 pub record IsUp (g : goal.Over) (l : goal.Live-loop g) : Type 0 where
   pub own : AreOfHub (arc_value l.hub) l.passes
   pub later : Begins l.fn.passes l.passes
+  pub ready : AreReady (arc_value l.hub).domain (marks_of l.passes) (host_by (λ b. (goal.Robot-dyn g (b.vtable, b.value)).calls b.value) l.robots)
   pub ours : AreOurs (λ r. arc_value (g.P.Spawner.job_of r).hub) (arc_value l.hub) l.jobs.items
   pub out : vec_len l.jobs ≤ g.N.Net.out l.server.net
   pub room : l.keeps ≡ true → vec_len l.server.ended + vec_len l.jobs ≤ vec_capacity l.server.ended

@@ -4,6 +4,8 @@ use mathlib.Core.List.{IsPrefix}
 use Rattle.wavelet_shelf.specs.Shelves.{hosted_of}
 use Rattle.shard_marks.specs.Passes.{marks_of}
 use Rattle.session_hub.specs.Hubs.{AreOfHub}
+use Rattle.robot_host.specs.Hosts.{host_by}
+use Rattle.wave_server.specs.Robots.{WereServed}
 use Rattle.wave_server.specs.Running.{BeginWith, HasServed}
 use Rattle.wave_server.proofs.Ending.{if_none, if_more}
 use Rattle.wave_server.proofs.top.serve.Goals as goal
@@ -39,3 +41,12 @@ pub returns-in-Ok-listen-clause-begun : goal.returns-in-Ok-listen-clause-begun
 returns-in-Ok-listen-clause-begun g c =
     if_more _ (λ p. BeginWith c.args.domain (hosted_of c.args.shelf) (marks_of p))
     (λ p later k low. subst (λ ms. IsPrefix ms (marks_of p k)) (c.in-Ok.ensures.seen k low) (later k low)) c.serve_from.new.server.passes c.serve_from.ensures.later
+
+pub returns-in-Ok-listen-clause-robots : goal.returns-in-Ok-listen-clause-robots
+returns-in-Ok-listen-clause-robots g c = λ zero.
+    let left = c.serve_from.new.server in
+    subst (λ d. IfSome left.passes (λ p. WereServed d (marks_of p) (host_by (λ b. (goal.Robot-dyn g (b.vtable, b.value)).calls b.value) c.serve_from.new.robots))) (ap (λ x. x.domain) c.in-Ok-new.ensures.ok ∙ c.in-Ok.ensures.domain) (c.serve_from.ensures.robots zero)
+
+-- the door can't be opened
+pub returns-in-Err-Failed-clause-begun : goal.returns-in-Err-Failed-clause-begun
+returns-in-Err-Failed-clause-begun g c = if_none (λ p. BeginWith c.args.domain (hosted_of c.args.shelf) (marks_of p)) c.args.server.now.passes c.requires.empty.2

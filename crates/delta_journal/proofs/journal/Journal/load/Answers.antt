@@ -8,9 +8,9 @@ pub returns-in-Ok-read_journal-clause-exact : goal.returns-in-Ok-read_journal-cl
 returns-in-Ok-read_journal-clause-exact g c told =
     let found = c.in-Ok-read_journal in
     let records = bytes_of found.parsed.records in
-    subst (λ (name : List ℕ). StandsFor name records (g.K.Disk.view c.args.disk).seen) c.as_bytes-2.ensures.value
-    (sure_stands found.parsed.stage c.as_bytes-2.result.now records _ found.ensures.sure found.ensures.empty (found.ensures.shape told))
+    subst (λ (name : List ℕ). StandsFor name records (g.K.Disk.view c.args.disk).seen) c.as_bytes.ensures.value
+    (sure_stands found.parsed.stage c.as_bytes.result.now records _ found.ensures.sure found.ensures.empty (found.ensures.shape told))
 
 pub returns-in-Err-read_journal-clause-damaged : goal.returns-in-Err-read_journal-clause-damaged
 returns-in-Err-read_journal-clause-damaged g c offset is told =
-    subst (λ (name : List ℕ). IsDamaged name offset (g.K.Disk.view c.args.disk).seen) c.as_bytes-2.ensures.value (c.in-Err-read_journal.ensures.damaged offset is told)
+    subst (λ (name : List ℕ). IsDamaged name offset (g.K.Disk.view c.args.disk).seen) c.as_bytes.ensures.value (c.in-Err-read_journal.ensures.damaged offset is told)

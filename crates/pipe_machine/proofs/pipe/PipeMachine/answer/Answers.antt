@@ -3,6 +3,7 @@ use Rattle.pipe_machine.specs.Keeping.{IsEnded, IsMoved, submits_read}
 use Rattle.hosted_copies.specs.Shown.{shown_in}
 use Rattle.pipe_machine.specs.Machine.{answered_read}
 use Rattle.pipe_machine.specs.Pipes.{pipe_of}
+use Rattle.pipe_machine.specs.Runs.{seats_in}
 use Rattle.std.proofs.lemmas.Result.{err_from_is_err_and}
 use Rattle.line_loop.specs.declared.line_machine.TurnFault.TheVariants.{Memory}
 use Rattle.pipe_machine.proofs.Trying.{ended_memory, stepped_still, tried_still}
@@ -27,4 +28,4 @@ returns-in-Ok-clause-ended g c =
     subst (λ r. IsEnded c.args.self.now.shelf c.serve.new.self.shelf (answered_read (pipe_of c.args.self.now) c.args.time r).pipe.hosted c.serve.result) (ap Ok c.into_parts-session.ensures ∙ sym c.in-Ok.ensures.ok) c.serve.ensures.ended
 
 pub returns-in_ok-refuse-in-Err-Bad-clause-due : goal.returns-in_ok-refuse-in-Err-Bad-clause-due
-returns-in_ok-refuse-in-Err-Bad-clause-due g c told k s got e = told_each (shown_in (hosted_of c.args.self.now.shelf)) c.args.self.now.seats.items told k s (omega arith) (got_within c.args.self.now.seats.items k s got) got
+returns-in_ok-refuse-in-Err-Bad-clause-due g c told k s got e = told_each (shown_in (hosted_of c.args.self.now.shelf)) (seats_in c.args.self.now.seats.runs.items) told k s (omega arith) (got_within (seats_in c.args.self.now.seats.runs.items) k s got) got

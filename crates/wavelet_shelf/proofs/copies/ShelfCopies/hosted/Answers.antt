@@ -11,7 +11,7 @@ use Rattle.wavelet_shelf.proofs.copies.ShelfCopies.hosted.Goals as goal
 pub returns-clause-there : goal.returns-clause-there
 returns-clause-there g c =
     let s = c.args.self.now.containers in
-    lent_name (λ n. IsSome (copies_of c.args.self.now n)) c.host_at.result (host_there s.map.entries c.args.place (option_copied c.host_at.result) s.in_order (c.host_at.ensures ∙ ap (λ es. slice_get (names_of (hosting es)) c.args.place) c.as_slice.ensures.entries))
+    lent_name (λ n. IsSome (copies_of c.args.self.now n)) c.hosted.result (host_there s.map.entries c.args.place (option_copied c.hosted.result) s.in_order c.hosted.ensures)
 
 pub returns-clause-ascending : goal.returns-clause-ascending
 returns-clause-ascending g c =

@@ -25,7 +25,7 @@ returns g c =
     let first = c.requires.taken in
     let place = c.in_ok-key.ensures in
     let filed : Filed g.row.F-Disk.Denot g.F.Disk.Disk = record { file = c.in_ok-key.file; container = c.args.plain } in
-    after_first a _ c.args.name.now c.args.submission.now c.args.time _ first.before filed a.containers.in_order
+    after_first a _ c.args.name.now c.args.submission.now c.args.time _ first.before filed a.containers.in_order c.requires.accepted
     (λ e. absurd (ok_err e))
     (subst (λ o. IsUsedIn g.F.Folder (λ m. m ≡ file_name_of c.args.name.now) a.folder o) (sym place.folder) (used_as g.F.Folder (λ m. m ≡ file_name_of c.args.name.now) a.folder))
     (subst (λ o. folder_faults g.F.Folder.faults a.folder ≤ folder_faults g.F.Folder.faults o) (sym place.folder) (le_refl _))

@@ -27,7 +27,7 @@ returns g c =
     let started = c.in_ok-container.ensures.started in
     let filed : Filed g.row.F-Disk.Denot g.F.Disk.Disk = record { file = c.in_ok-key.file; container = c.taken-answer.new.container } in
     let entries = (λ i. (c.start.ensures.map i).entries) ∙ place.same in
-    after_first a _ c.args.name.now c.args.submission.now c.args.time _ c.in_ok-container.container filed a.containers.in_order
+    after_first a _ c.args.name.now c.args.submission.now c.args.time _ c.in_ok-container.container filed a.containers.in_order c.requires.accepted
     (λ e. c.requires.filed)
     (subst (λ o. IsUsedIn g.F.Folder (λ m. m ≡ file_name_of c.args.name.now) o b.folder) place.folder (subst (λ f. IsUsedIn g.F.Folder (λ m. m ≡ f) c.place.new.self.folder b.folder) (c.as_str.ensures.value ∙ place.file) c.start.ensures.used))
     (subst (λ o. folder_faults g.F.Folder.faults o ≤ folder_faults g.F.Folder.faults b.folder) place.folder c.start.ensures.later)

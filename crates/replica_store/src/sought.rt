@@ -1,0 +1,8 @@
+/// What is at a place of a list.
+#[derive(Drop)]
+pub enum Sought<T> {
+    /// The item there.
+    Found(T),
+    /// The list ends before: the place is this one behind its end.
+    Past(u64),
+}
