@@ -24,7 +24,7 @@ class Link:
         key = base64.b64encode(os.urandom(16)).decode()
         head = f"GET / HTTP/1.1\r\nHost: {address}\r\nUpgrade: websocket\r\nConnection: Upgrade\r\nSec-WebSocket-Key: {key}\r\nSec-WebSocket-Version: 13\r\n\r\n"
         self.socket.sendall(head.encode())
-        status, *fields = iter(lambda: self.file.readline().decode().strip(), "")
+        status, *fields = [*iter(lambda: self.file.readline().decode().strip(), "")] or [""]
         accept = base64.b64encode(hashlib.sha1((key + GUID).encode()).digest()).decode()
         if " 101 " not in status or accept not in [field.partition(": ")[2] for field in fields]:
             raise ConnectionError(status)
