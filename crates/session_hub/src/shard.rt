@@ -4,6 +4,7 @@ ghost use Rattle.std.specs.List.{list_all};
 ghost use Rattle.std.specs.Coded.{Coded-set, coded_list, coded_option, coded_ℕ};
 ghost use Rattle.std.specs.FinMap.{code};
 ghost use Rattle.replica_store.specs.Worlds.{worlds_of};
+ghost use Rattle.replica_store.specs.contracts.outcomes.Noted as noted_row;
 ghost use Rattle.wavelet_op.specs.contracts.delta.AppliedDelta as delta_row;
 ghost use Rattle.wavelet_op.specs.contracts.delta.Submission as submission_row;
 ghost use Rattle.wavelet_shelf.specs.Shelves.{hosted_of, fault_count as faults_of};
@@ -31,7 +32,7 @@ pub struct Shard<F: Folder> {
     // Texts of updates that sessions were sent, for those that are still to be sent them.
     pub(crate) texts: Vec<Text>,
     ghost replay: { hosted_by domain (hosted_of shelf) ≡ replayed domain number (marks_in domain number records.items) } by { Coded-set (coded_list (hosted_code delta_row.the_row.coded)) (hosted_by domain (hosted_of shelf)) (replayed domain number (marks_in domain number records.items)) },
-    ghost copies: { worlds_of replicas ≡ copied domain number (marks_in domain number records.items) } by { Coded-set (code (coded_list coded_ℕ) (world_code delta_row.the_row.coded submission_row.the_row.coded)) (worlds_of replicas) (copied domain number (marks_in domain number records.items)) },
+    ghost copies: { worlds_of replicas ≡ copied domain number (marks_in domain number records.items) } by { Coded-set (code (coded_list coded_ℕ) (world_code delta_row.the_row.coded submission_row.the_row.coded noted_row.the_row.coded)) (worlds_of replicas) (copied domain number (marks_in domain number records.items)) },
     ghost own: { list_all (is_own_mark domain number) (marks_in domain number records.items) ≡ true },
     ghost counted: { min (fault_count (marks_in domain number records.items)) most_faults ≤ faults_of shelf },
     ghost written: { AreWritten (hosted_by domain (hosted_of shelf)) texts.items } by { Coded-set (coded_list (coded_option (coded_list coded_ℕ))) (map (λ w. update_in (hosted_by domain (hosted_of shelf)) w.name w.place) texts.items) (map (λ w. Some w.bytes.items) texts.items) },

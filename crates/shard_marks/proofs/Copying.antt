@@ -113,8 +113,8 @@ module _ (d : Key) (k : ℕ) where
   given_here cs (Queued n s) g own = absurd g
   given_here cs (Answered n i v) g own = go (waits_at cs n i)
     where
-      go : (b : Bool) → copied_on d k cs (marks_if b (Answered n i v)) ≡ settled_if cs n i b
-      go true = ap (λ b. cond b (with_settled cs n i) cs) own
+      go : (b : Bool) → copied_on d k cs (marks_if b (Answered n i v)) ≡ settled_if cs n i v b
+      go true = ap (λ b. cond b (with_settled cs n i v) cs) own
       go false = refl
   given_here cs (Dropped n) g own = go (has_more cs n)
     where

@@ -67,7 +67,7 @@ after_given cs (Began e j) = cs
 after_given cs (Applied n x) = take_in cs n x
 after_given cs (Fault n i) = cs
 after_given cs (Queued n s) = cs
-after_given cs (Answered n i v) = answer_in cs n i
+after_given cs (Answered n i v) = answer_in cs n i v
 after_given cs (Dropped n) = drop_in cs n
 
 abbrev pub unowned : Mark → Given

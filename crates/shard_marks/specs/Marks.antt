@@ -81,7 +81,7 @@ with_mark d k cs (Began e j) = cs
 with_mark d k cs (Applied n x) = cond (is_copied d k n) (with_taken cs n x) cs
 with_mark d k cs (Fault n i) = cs
 with_mark d k cs (Queued n s) = cond (is_copied d k n) (with_queued cs n s) cs
-with_mark d k cs (Answered n i v) = cond (is_copied d k n) (with_settled cs n i) cs
+with_mark d k cs (Answered n i v) = cond (is_copied d k n) (with_settled cs n i v) cs
 with_mark d k cs (Dropped n) = cond (is_copied d k n) (with_dropped cs n) cs
 
 abbrev pub copied_on : Key → ℕ → Worlds → List Mark → Worlds
