@@ -2,7 +2,7 @@
 ghost use Rattle.std.specs.Prelude.{◌≡◌, true, false, None, IsSome, IfSome, is_some, option_copied, IfOk, OnOk, OnErr};
 ghost use Rattle.std.specs.FinMap as finite;
 ghost use Rattle.replica_store.specs.Listings.{IsSought, relays_of, reaches_of};
-ghost use Rattle.replica_store.specs.Worlds.{worlds_of, world_at, answer_at, take_in, queued_at, queue_in, waits_at, answer_in, has_more, drop_in, with_taken};
+ghost use Rattle.replica_store.specs.Worlds.{AreNamed, worlds_of, world_at, answer_at, take_in, queued_at, queue_in, waits_at, answer_in, has_more, drop_in, with_taken};
 
 use crate::{Queued, Replica};
 use crate::sought::Sought;
@@ -56,6 +56,13 @@ impl Replicas {
         ensures named { IfSome result (λ c. c.now.history.name ≡ name.now) }
     {
         self.copies.get(name)
+    }
+
+    /// The law of copies by name: each is of its name.
+    pub fn are_named(&self)
+        ensures { AreNamed self.now }
+    {
+        let _copies = &self.copies;
     }
 
     // A copy comes to the others, or in the place of the one of its name.
