@@ -1,8 +1,9 @@
 pub mod Entries
 pub mod Kept
 pub mod Absorbs
+pub mod Newest
 pub mod Sound
-pub mod Held
 pub mod Stored
 pub mod Absorbing
+pub mod Queueing
 pub mod Listed

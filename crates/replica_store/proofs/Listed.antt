@@ -10,12 +10,12 @@ use Rattle.std.proofs.lemmas.Option.{slice_get-map}
 use Rattle.doc_items.specs.Maps.{Key, same_text}
 use Rattle.wave_base.specs.Grammar.{host_of}
 use Rattle.wavelet_op.specs.declared.delta.Submission.{Submission}
-use Rattle.follower_rules.specs.Replicas.{ReplicaOf}
 use Rattle.peer_turns.specs.declared.item.CopyAt.{CopyAt}
 use Rattle.peer_turns.specs.declared.item.Relay.{Relay}
 use Rattle.replica_store.specs.declared.sought.Sought.{Sought}
 use Rattle.replica_store.specs.declared.sought.Sought.TheVariants.{Found, Past}
 use Rattle.replica_store.specs.Listings.{IsSought, relays_at, reach_at, relays_among, reaches_among}
+use Rattle.replica_store.specs.Worlds.{WorldOf}
 
 pub get_behind : {A : Type 0} (xs ys : List A) (p q : ℕ) → q ≡ length xs + p → slice_get (xs ++ ys) q ≡ slice_get ys p
 get_behind [] ys p q e = ap (slice_get ys) (omega (arith, e))
@@ -37,24 +37,24 @@ found_here xs ys p x e = get_front xs ys p x e
 
 -- ---- copies, one after another
 
-module _ (d : Key) (e : Key × ReplicaOf) (es : List (Key × ReplicaOf)) (p : ℕ) (s : Sought Relay) where
+module _ (d : Key) (e : Key × WorldOf) (es : List (Key × WorldOf)) (p : ℕ) (s : Sought Relay) where
   abbrev RelaysWhere : Bool → Sought Relay → Type 0
   RelaysWhere b s = IsSought (cond b (relays_at e.0 e.1) [] ++ relays_among d es) p s
 
   pub relays_skip : same_text (host_of e.0) d ≡ false → IsSought (relays_among d es) p s → IsSought (relays_among d (e ∷ es)) p s
   relays_skip other is = subst (λ b. RelaysWhere b s) (sym other) is
 
-  pub relays_past : same_text (host_of e.0) d ≡ true → (left : ℕ) → p ≡ length e.1.waiting + left → IsSought (relays_among d es) left s → IsSought (relays_among d (e ∷ es)) p s
+  pub relays_past : same_text (host_of e.0) d ≡ true → (left : ℕ) → p ≡ length e.1.replica.waiting + left → IsSought (relays_among d es) left s → IsSought (relays_among d (e ∷ es)) p s
   relays_past own left at is =
-      let size : length (relays_at e.0 e.1) ≡ length e.1.waiting = length-map e.1.waiting _ in
+      let size : length (relays_at e.0 e.1) ≡ length e.1.replica.waiting = length-map e.1.replica.waiting _ in
       subst (λ b. RelaysWhere b s) (sym own) (sought_past (relays_at e.0 e.1) (relays_among d es) p left s (omega (arith, at, size)) is)
 
-  pub relays_found : same_text (host_of e.0) d ≡ true → (x : Submission) → slice_get e.1.waiting p ≡ Some x → s ≡ Found (record { name = e.0; submission = x }) → IsSought (relays_among d (e ∷ es)) p s
+  pub relays_found : same_text (host_of e.0) d ≡ true → (x : Submission) → slice_get e.1.replica.waiting p ≡ Some x → s ≡ Found (record { name = e.0; submission = x }) → IsSought (relays_among d (e ∷ es)) p s
   relays_found own x at is =
       subst (λ z. IsSought (relays_among d (e ∷ es)) p z) (sym is) (subst (λ b. RelaysWhere b (Found (record { name = e.0; submission = x }))) (sym own)
-      (found_here (relays_at e.0 e.1) (relays_among d es) p (record { name = e.0; submission = x }) (slice_get-map _ e.1.waiting p ∙ ap (option_map (λ y. record { name = e.0; submission = y })) at)))
+      (found_here (relays_at e.0 e.1) (relays_among d es) p (record { name = e.0; submission = x }) (slice_get-map _ e.1.replica.waiting p ∙ ap (option_map (λ y. record { name = e.0; submission = y })) at)))
 
-module _ (d : Key) (e : Key × ReplicaOf) (es : List (Key × ReplicaOf)) (p : ℕ) (s : Sought CopyAt) where
+module _ (d : Key) (e : Key × WorldOf) (es : List (Key × WorldOf)) (p : ℕ) (s : Sought CopyAt) where
   abbrev ReachesWhere : Bool → Sought CopyAt → Type 0
   ReachesWhere b s = IsSought (cond b (reach_at e.0 e.1 ∷ []) [] ++ reaches_among d es) p s
 

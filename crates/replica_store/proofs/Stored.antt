@@ -1,7 +1,7 @@
 -- How copies by name follow those that are stored, and how copies in the world follow them.
 --     get-entries, set-entries, entries-entries     a look-up, a change at one name, and all in order, of the map that contracts see
 --     written            a write to a copy that is there
---     named_get, named_none, named_insert     each copy is of its name
+--     named_get, named_found, named_none, named_insert     each copy is of its name
 --     all_named          so they all are, in order
 --     worlds-insert      one more copy, or another one in its place
 --     put_itself         the same one in its place
@@ -19,9 +19,8 @@ use Rattle.std.proofs.lemmas.List.Elements.{All-weaker}
 use Rattle.std.specs.FinMap as finite
 use Rattle.doc_items.specs.Maps.{Key, Map}
 use Rattle.doc_items.proofs.Maps.{tie, tied, alike, get-each}
-use Rattle.follower_rules.specs.Replicas.{ReplicaOf, empty_replica}
-use Rattle.replica_store.specs.Copies.{CopyOf, in_world}
-use Rattle.replica_store.specs.Worlds.{Copies, AreNamed, worlds_of, world_at}
+use Rattle.replica_store.specs.Copies.{CopyOf}
+use Rattle.replica_store.specs.Worlds.{WorldOf, world_of, empty_world, Copies, AreNamed, worlds_of, world_at}
 
 none_left : {A : Type 0} (es : List A) → length es ≡ 0 → es ≡ []
 none_left [] e = refl
@@ -94,6 +93,10 @@ named_none n = subst (λ (o : Option CopyOf). IfSome o (λ c. c.history.name ≡
 pub named_get : (m : Copies) (n : Key) (c : CopyOf) → AreNamed m → finite.get m n ≡ Some c → c.history.name ≡ n
 named_get m n c h e = subst (λ (o : Option CopyOf). IfSome o (λ (b : CopyOf). b.history.name ≡ n)) e (h n)
 
+pub named_found : {A : Type 0} (f : A → CopyOf) (o : Option A) (m : Copies) (n : Key) → AreNamed m → option_map f o ≡ finite.get m n → IfSome o (λ x. (f x).history.name ≡ n)
+named_found f None m n h e = tt
+named_found f (Some x) m n h e = named_get m n (f x) h (sym e)
+
 pub named_insert : (m : Copies) (n : Key) (c : CopyOf) → AreNamed m → c.history.name ≡ n → AreNamed (finite.insert m n c)
 named_insert m n c h e q = subst (λ (o : Option CopyOf). IfSome o (λ (b : CopyOf). b.history.name ≡ q)) (sym (get_put m n c q)) (go (tie q n) refl)
   where
@@ -109,46 +112,46 @@ all_named t m is named found = All-weaker (λ e. tree.get (slice_cmp nat_cmp) t 
 
 -- ---- in the world
 
-pub worlds-insert : (m : Copies) (n : Key) (c : CopyOf) → worlds_of (finite.insert m n c) ≡ finite.insert (worlds_of m) n (in_world c)
-worlds-insert m n c = alike _ _ (λ q. get-each in_world (finite.insert m n c) q ∙ ap (option_map in_world) (get_put m n c q) ∙ go q (tie q n) ∙ sym (get_put (worlds_of m) n (in_world c) q))
+pub worlds-insert : (m : Copies) (n : Key) (c : CopyOf) → worlds_of (finite.insert m n c) ≡ finite.insert (worlds_of m) n (world_of c)
+worlds-insert m n c = alike _ _ (λ q. get-each world_of (finite.insert m n c) q ∙ ap (option_map world_of) (get_put m n c q) ∙ go q (tie q n) ∙ sym (get_put (worlds_of m) n (world_of c) q))
   where
-    go : (q : Key) (b : Bool) → option_map in_world (cond b (Some c) (finite.get m q)) ≡ cond b (Some (in_world c)) (finite.get (worlds_of m) q)
+    go : (q : Key) (b : Bool) → option_map world_of (cond b (Some c) (finite.get m q)) ≡ cond b (Some (world_of c)) (finite.get (worlds_of m) q)
     go q true = refl
-    go q false = sym (get-each in_world m q)
+    go q false = sym (get-each world_of m q)
 
 pub worlds-empty : worlds_of finite.empty ≡ finite.empty
-worlds-empty = alike _ _ (λ q. get-each in_world finite.empty q ∙ ap (option_map in_world) (finite.get-empty (slice_cmp nat_cmp) q) ∙ sym (finite.get-empty (slice_cmp nat_cmp) q))
+worlds-empty = alike _ _ (λ q. get-each world_of finite.empty q ∙ ap (option_map world_of) (finite.get-empty (slice_cmp nat_cmp) q) ∙ sym (finite.get-empty (slice_cmp nat_cmp) q))
 
-pub world_got : (m : Copies) (n : Key) (c : CopyOf) → finite.get m n ≡ Some c → finite.get (worlds_of m) n ≡ Some (in_world c)
-world_got m n c e = get-each in_world m n ∙ ap (option_map in_world) e
+pub world_got : (m : Copies) (n : Key) (c : CopyOf) → finite.get m n ≡ Some c → finite.get (worlds_of m) n ≡ Some (world_of c)
+world_got m n c e = get-each world_of m n ∙ ap (option_map world_of) e
 
-pub world_there : (m : Copies) (n : Key) (c : CopyOf) → finite.get m n ≡ Some c → world_at (worlds_of m) n ≡ in_world c
-world_there m n c e = ap (λ o. unwrap_or o empty_replica) (world_got m n c e)
+pub world_there : (m : Copies) (n : Key) (c : CopyOf) → finite.get m n ≡ Some c → world_at (worlds_of m) n ≡ world_of c
+world_there m n c e = ap (λ o. unwrap_or o empty_world) (world_got m n c e)
 
 pub world_missing : (m : Copies) (n : Key) → finite.get m n ≡ None → finite.get (worlds_of m) n ≡ None
-world_missing m n e = get-each in_world m n ∙ ap (option_map in_world) e
+world_missing m n e = get-each world_of m n ∙ ap (option_map world_of) e
 
-pub world_none : (m : Copies) (n : Key) → finite.get m n ≡ None → world_at (worlds_of m) n ≡ empty_replica
-world_none m n e = ap (λ o. unwrap_or o empty_replica) (world_missing m n e)
+pub world_none : (m : Copies) (n : Key) → finite.get m n ≡ None → world_at (worlds_of m) n ≡ empty_world
+world_none m n e = ap (λ o. unwrap_or o empty_world) (world_missing m n e)
 
 -- ---- in order
 
-abbrev pub world_entry : Key × CopyOf → Key × ReplicaOf
-world_entry e = (e.0, in_world e.1)
+abbrev pub world_entry : Key × CopyOf → Key × WorldOf
+world_entry e = (e.0, world_of e.1)
 
-abbrev pub world_entries : List (Key × CopyOf) → List (Key × ReplicaOf)
+abbrev pub world_entries : List (Key × CopyOf) → List (Key × WorldOf)
 world_entries es = map world_entry es
 
 keys_same : (es : List (Key × CopyOf)) → keys_of (world_entries es) ≡ keys_of es
 keys_same [] = refl
 keys_same (e ∷ es) = ap (λ ks. e.0 ∷ ks) (keys_same es)
 
-find-mapped : (q : Key) (es : List (Key × CopyOf)) → finite.find (slice_cmp nat_cmp) q (world_entries es) ≡ option_map in_world (finite.find (slice_cmp nat_cmp) q es)
+find-mapped : (q : Key) (es : List (Key × CopyOf)) → finite.find (slice_cmp nat_cmp) q (world_entries es) ≡ option_map world_of (finite.find (slice_cmp nat_cmp) q es)
 find-mapped q [] = refl
 find-mapped q (e ∷ es) = go (eq_by_cmp (slice_cmp nat_cmp) q e.0) (find-mapped q es)
   where
-    go : (b : Bool) → finite.find (slice_cmp nat_cmp) q (world_entries es) ≡ option_map in_world (finite.find (slice_cmp nat_cmp) q es)
-        → cond b (Some (in_world e.1)) (finite.find (slice_cmp nat_cmp) q (world_entries es)) ≡ option_map in_world (cond b (Some e.1) (finite.find (slice_cmp nat_cmp) q es))
+    go : (b : Bool) → finite.find (slice_cmp nat_cmp) q (world_entries es) ≡ option_map world_of (finite.find (slice_cmp nat_cmp) q es)
+        → cond b (Some (world_of e.1)) (finite.find (slice_cmp nat_cmp) q (world_entries es)) ≡ option_map world_of (cond b (Some e.1) (finite.find (slice_cmp nat_cmp) q es))
     go true h = refl
     go false h = h
 
@@ -157,5 +160,5 @@ entries-each es m is ordered = ap finite.entries same ∙ entries-entries (world
   where
     same : worlds_of m ≡ finite.from_entries (world_entries es)
     same = alike _ _ (λ q.
-        get-each in_world m q ∙ ap (option_map in_world) (ap (λ x. finite.get x q) (sym is) ∙ finite.get-from_entries nat_list_cmp_total es q)
+        get-each world_of m q ∙ ap (option_map world_of) (ap (λ x. finite.get x q) (sym is) ∙ finite.get-from_entries nat_list_cmp_total es q)
         ∙ sym (find-mapped q es) ∙ sym (finite.get-from_entries nat_list_cmp_total (world_entries es) q))

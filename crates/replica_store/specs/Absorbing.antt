@@ -4,7 +4,7 @@
 --     absorbed c d            the answer to a delta. It is that of the onlooker, unless the delta starts at the head: then it is taken
 --                             exactly where the copy in the world absorbs it
 --     IsTaken b d c           the copy after it took the delta: the history ends with it, its id waits no more, nothing is noted for
---                             the id and there is no claim on it, and the copy isn't dropped; in the world the copy absorbed it
+--                             the id, and the copy isn't dropped; in the world the copy absorbed it
 --     IsAfter b d a c         the copy after the answer: only `Took` changes it
 use Rattle.std.specs.Prelude.{◌≡◌, false, [], Option, Some, None}
 use Rattle.wavelet_op.specs.Deltas.{DeltaOf}
@@ -17,7 +17,7 @@ use Rattle.follower_rules.specs.Replicas.{ReplicaOf, without, absorb}
 use Rattle.peer_turns.specs.declared.absorbed.Absorbed.{Absorbed}
 use Rattle.peer_turns.specs.declared.absorbed.Absorbed.TheVariants.{Old, Gap, Diverged, NotLegal, Took}
 use Rattle.replica_store.specs.Copies.{CopyOf, in_world, IsSameCopy}
-use Rattle.replica_store.specs.Settling.{unclaimed, unnoted}
+use Rattle.replica_store.specs.Settling.{unnoted}
 
 -- ---- the answer
 
@@ -45,7 +45,6 @@ pub record IsTaken (b : CopyOf) (d : DeltaOf) (c : CopyOf) : Type 0 where
   pub grown : IsGrown b.history d c.history
   pub waiting : c.waiting ≡ without d.id b.waiting
   pub noted : c.noted ≡ unnoted d.id b.noted
-  pub claims : c.claims ≡ unclaimed d.id b.claims
   pub dropped : c.dropped ≡ false
   pub world : absorb b.history.name (in_world b) d ≡ Some (in_world c)
 

@@ -1,14 +1,15 @@
 -- A copy of another domain's wavelet.
---     CopyOf                  its history; the submissions that wait for the host's verdict, in order; the verdicts that were noted; an
---                             id for each claim on an outcome; whether the host gives it no more
+--     CopyOf                  its history; the submissions that wait for the host's verdict, in order; the newest verdicts that were noted,
+--                             in order; whether the host gives it no more
+--     most_noted              how many verdicts are kept
 --     copy ..                 the copy of these parts
 --     in_world c              the copy as it is in the world
 --     waiting_ids c, noted_ids c, delta_ids c     the ids of what waits, of what was noted, and of the deltas
 --     times i is              how often an id stands in a list
---     IsSound c               an id has one entry: it waits, its verdict was noted, or the history has it; each noted verdict has a
---                             claim, and each claim is on what waits or was noted
+--     IsSound c               an id has one entry: it waits, its verdict was noted, or the history has it; and no more verdicts are kept
+--                             than may be
 --     IsSameCopy b c          equal but for the history's room
-use Rattle.std.specs.Prelude.{◌≡◌, ◌≤◌, ◌+◌, ℕ, suc, Bool, cond, List, [], ◌∷◌, map}
+use Rattle.std.specs.Prelude.{◌≡◌, ◌≤◌, ◌+◌, ℕ, suc, Bool, cond, List, [], ◌∷◌, map, length}
 use Rattle.wave_base.specs.Versions.{IdOf, same_id}
 use Rattle.wavelet_op.specs.Deltas.{DeltaOf}
 use Rattle.wavelet_op.specs.declared.delta.Submission.{Submission}
@@ -20,14 +21,16 @@ pub record CopyOf : Type 0 where
   pub history : HistoryOf
   pub waiting : List Submission
   pub noted : List Noted
-  pub claims : List IdOf
   pub dropped : Bool
 
-abbrev pub copy : HistoryOf → List Submission → List Noted → List IdOf → Bool → CopyOf
-copy history waiting noted claims dropped = record { history = history; waiting = waiting; noted = noted; claims = claims; dropped = dropped }
+abbrev pub copy : HistoryOf → List Submission → List Noted → Bool → CopyOf
+copy history waiting noted dropped = record { history = history; waiting = waiting; noted = noted; dropped = dropped }
 
 abbrev pub in_world : CopyOf → ReplicaOf
 in_world c = record { deltas = c.history.deltas; waiting = c.waiting; dropped = c.dropped }
+
+abbrev pub most_noted : ℕ
+most_noted = 1024
 
 -- ---- ids
 
@@ -46,12 +49,10 @@ times i (j ∷ is) = cond (same_id i j) (suc (times i is)) (times i is)
 
 pub record IsSound (c : CopyOf) : Type 0 where
   pub once : (i : IdOf) → times i (waiting_ids c) + times i (noted_ids c) + times i (delta_ids c) ≤ 1
-  pub claimed : (i : IdOf) → 1 ≤ times i (noted_ids c) → 1 ≤ times i c.claims
-  pub claims : (i : IdOf) → 1 ≤ times i c.claims → 1 ≤ times i (waiting_ids c) + times i (noted_ids c)
+  pub few : length c.noted ≤ most_noted
 
 pub record IsSameCopy (b c : CopyOf) : Type 0 where
   pub history : IsSameHistory b.history c.history
   pub waiting : c.waiting ≡ b.waiting
   pub noted : c.noted ≡ b.noted
-  pub claims : c.claims ≡ b.claims
   pub dropped : c.dropped ≡ b.dropped

@@ -8,23 +8,22 @@ use Rattle.std.specs.List.{flat_map}
 use Rattle.doc_items.specs.Maps.{Key, same_text}
 use Rattle.wave_base.specs.Grammar.{host_of}
 use Rattle.delta_history.specs.Histories.{head_of}
-use Rattle.follower_rules.specs.Replicas.{ReplicaOf}
 use Rattle.peer_turns.specs.declared.item.CopyAt.{CopyAt}
 use Rattle.peer_turns.specs.declared.item.Relay.{Relay}
 use Rattle.replica_store.specs.declared.sought.Sought.{Sought}
 use Rattle.replica_store.specs.declared.sought.Sought.TheVariants.{Found, Past}
-use Rattle.replica_store.specs.Worlds.{Worlds, history_at}
+use Rattle.replica_store.specs.Worlds.{WorldOf, Worlds, history_at}
 
-abbrev pub relays_at : Key → ReplicaOf → List Relay
-relays_at n r = map (λ s. record { name = n; submission = s }) r.waiting
+abbrev pub relays_at : Key → WorldOf → List Relay
+relays_at n w = map (λ s. record { name = n; submission = s }) w.replica.waiting
 
-abbrev pub reach_at : Key → ReplicaOf → CopyAt
-reach_at n r = record { name = n; at = (head_of (history_at n r)).at }
+abbrev pub reach_at : Key → WorldOf → CopyAt
+reach_at n w = record { name = n; at = (head_of (history_at n w.replica)).at }
 
-abbrev pub relays_among : Key → List (Key × ReplicaOf) → List Relay
+abbrev pub relays_among : Key → List (Key × WorldOf) → List Relay
 relays_among d es = flat_map (λ e. cond (same_text (host_of e.0) d) (relays_at e.0 e.1) []) es
 
-abbrev pub reaches_among : Key → List (Key × ReplicaOf) → List CopyAt
+abbrev pub reaches_among : Key → List (Key × WorldOf) → List CopyAt
 reaches_among d es = flat_map (λ e. cond (same_text (host_of e.0) d) (reach_at e.0 e.1 ∷ []) []) es
 
 abbrev pub relays_of : Key → Worlds → List Relay

@@ -1,21 +1,18 @@
 -- Submissions to a copy, and their outcomes.
 --     Queued                  as it is declared: the history has the submission's delta, or it waits
---     is_claimed i is         there is a claim on the outcome of the id
---     unclaimed i is          without the claims on it
---     fewer i is              without the first of them
---     claim_at i is           the place of that one
 --     noted_for i ns          the verdict that was noted for the id
 --     unnoted i ns            what was noted for others
+--     newest ns               the last ones of a list of verdicts, as many as are kept
+--     with_noted ns i v       the verdicts that are kept after one more was noted for an id
+--     kept_by c i             what the history keeps for an id
 --     outcome c i             the acknowledgement of the id's delta, where the history has it, else what was noted for the id
 --     with_waiting s ss       what waits with one submission more, unless one of its id does, as in the world
 --     queue_in c s            the answer to a submission, and the copy after it: the submission waits, once, unless the history has it;
---                             while it waits nothing is noted for it, and there is one claim more on its outcome
+--                             while it waits nothing is noted for it
 --     note_in c i v           whether the id waits, and the copy after the host's verdict on it: it waits no more, and the verdict is
---                             noted if there is a claim on it
---     let_go_in c i           whether there is a claim on the outcome of the id, and the copy with one claim less; what was noted for
---                             the id goes with the last one
+--                             noted
 --     drop_in c               the host gives the copy no more
-use Rattle.std.specs.Prelude.{ℕ, ◌+◌, option_map, Bool, true, false, not, cond, ◌||◌, List, [], ◌∷◌, ◌++◌, Option, Some, None}
+use Rattle.std.specs.Prelude.{ℕ, ◌-◌, Bool, true, false, not, cond, List, [], ◌∷◌, ◌++◌, length, drop, Option, Some, None}
 use Rattle.std.specs.List.{filter}
 use Rattle.wave_base.specs.Versions.{IdOf, same_id}
 use Rattle.wavelet_op.specs.declared.delta.Submission.{Submission}
@@ -28,24 +25,7 @@ use Rattle.follower_rules.specs.Replicas.{is_waiting, without, queue}
 use Rattle.replica_store.specs.declared.outcomes.Noted.{Noted}
 use Rattle.replica_store.specs.declared.queued.Queued.{Queued}
 use Rattle.replica_store.specs.declared.queued.Queued.TheVariants as queued
-use Rattle.replica_store.specs.Copies.{CopyOf}
-
--- ---- claims
-
-abbrev pub is_claimed : IdOf → List IdOf → Bool
-is_claimed i [] = false
-is_claimed i (j ∷ is) = same_id i j || is_claimed i is
-
-abbrev pub unclaimed : IdOf → List IdOf → List IdOf
-unclaimed i is = filter (λ j. not (same_id i j)) is
-
-abbrev pub fewer : IdOf → List IdOf → List IdOf
-fewer i [] = []
-fewer i (j ∷ is) = cond (same_id i j) is (j ∷ fewer i is)
-
-abbrev pub claim_at : IdOf → List IdOf → Option ℕ
-claim_at i [] = None
-claim_at i (j ∷ is) = cond (same_id i j) (Some 0) (option_map (λ k. k + 1) (claim_at i is))
+use Rattle.replica_store.specs.Copies.{CopyOf, most_noted}
 
 -- ---- outcomes
 
@@ -55,6 +35,12 @@ noted_for i (n ∷ ns) = cond (same_id i n.id) (Some n.verdict) (noted_for i ns)
 
 abbrev pub unnoted : IdOf → List Noted → List Noted
 unnoted i ns = filter (λ (n : Noted). not (same_id i n.id)) ns
+
+abbrev pub newest : List Noted → List Noted
+newest ns = drop (length ns - most_noted) ns
+
+abbrev pub with_noted : List Noted → IdOf → Verdict → List Noted
+with_noted ns i v = newest (ns ++ record { id = i; verdict = v } ∷ [])
 
 abbrev pub outcome_kept : IdOf → List Noted → Option Kept → Option Verdict
 outcome_kept i ns (Some k) = Some (Ack k.at k.to)
@@ -72,7 +58,7 @@ abbrev pub with_waiting : Submission → List Submission → List Submission
 with_waiting s ss = (queue (record { deltas = []; waiting = ss; dropped = false }) s).waiting
 
 abbrev pub waits_in : CopyOf → Submission → CopyOf
-waits_in c s = record c { waiting = with_waiting s c.waiting; noted = unnoted s.id c.noted; claims = c.claims ++ s.id ∷ [] }
+waits_in c s = record c { waiting = with_waiting s c.waiting; noted = unnoted s.id c.noted }
 
 abbrev pub queue_kept : CopyOf → Submission → Option Kept → Queued × CopyOf
 queue_kept c s (Some k) = (queued.Kept k, c)
@@ -83,12 +69,8 @@ queue_in c s = queue_kept c s (kept_by c s.id)
 
 -- ---- a verdict
 
-abbrev pub noted_if : Bool → List Noted → IdOf → Verdict → List Noted
-noted_if false ns i v = ns
-noted_if true ns i v = ns ++ record { id = i; verdict = v } ∷ []
-
 abbrev pub settled_in : CopyOf → IdOf → Verdict → CopyOf
-settled_in c i v = record c { waiting = without i c.waiting; noted = noted_if (is_claimed i c.claims) c.noted i v }
+settled_in c i v = record c { waiting = without i c.waiting; noted = with_noted c.noted i v }
 
 abbrev pub note_waiting : CopyOf → IdOf → Verdict → Bool → Bool × CopyOf
 note_waiting c i v false = (false, c)
@@ -96,22 +78,6 @@ note_waiting c i v true = (true, settled_in c i v)
 
 abbrev pub note_in : CopyOf → IdOf → Verdict → Bool × CopyOf
 note_in c i v = note_waiting c i v (is_waiting i c.waiting)
-
--- ---- letting go
-
-abbrev pub noted_while : Bool → IdOf → List Noted → List Noted
-noted_while false i ns = unnoted i ns
-noted_while true i ns = ns
-
-abbrev pub less_claimed : CopyOf → IdOf → CopyOf
-less_claimed c i = record c { noted = noted_while (is_claimed i (fewer i c.claims)) i c.noted; claims = fewer i c.claims }
-
-abbrev pub let_go_claimed : CopyOf → IdOf → Bool → Bool × CopyOf
-let_go_claimed c i false = (false, c)
-let_go_claimed c i true = (true, less_claimed c i)
-
-abbrev pub let_go_in : CopyOf → IdOf → Bool × CopyOf
-let_go_in c i = let_go_claimed c i (is_claimed i c.claims)
 
 -- ---- a drop
 

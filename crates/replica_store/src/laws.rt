@@ -1,4 +1,4 @@
-ghost use Rattle.replica_store.specs.Laws.{AbsorbsNext, NextIsAbsorbed, QueueKeeps, NoteKeeps, TakeKeeps, LettingGoKeeps};
+ghost use Rattle.replica_store.specs.Laws.{AbsorbsNext, NextIsAbsorbed, NewestOnce, NewestStay};
 
 /// The law of the next delta: a copy in the world absorbs exactly what may come next in its history.
 pub fn copies_absorb()
@@ -6,10 +6,8 @@ pub fn copies_absorb()
     ensures next { NextIsAbsorbed }
 {}
 
-/// The law of claims: what is noted for an id on whose outcome there is a claim is what would be noted if nothing was ever let go.
-pub fn claims_hold()
-    ensures queue { QueueKeeps }
-    ensures note { NoteKeeps }
-    ensures take { TakeKeeps }
-    ensures let_go { LettingGoKeeps }
+/// The law of what is let go: a verdict is kept while fewer come after it than may be kept, and it makes no difference when older ones go.
+pub fn newest_verdicts_stay()
+    ensures once { NewestOnce }
+    ensures stay { NewestStay }
 {}

@@ -1,8 +1,7 @@
 //! Copies of other domains' wavelets: the history as far as it came, the submissions that wait for the host's verdict, and the
-//! verdicts that somebody still waits for.
+//! newest verdicts that it gave.
 #![tactic(auto)]
 
-mod claims;
 mod histories;
 mod laws;
 mod outcomes;
@@ -12,7 +11,7 @@ mod replicas;
 mod sought;
 mod waiting;
 
-pub use laws::{claims_hold, copies_absorb};
+pub use laws::{copies_absorb, newest_verdicts_stay};
 pub use peer_turns::Absorbed;
 pub use queued::Queued;
 pub use replica::Replica;

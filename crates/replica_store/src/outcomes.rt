@@ -1,11 +1,15 @@
 // Verdicts that were noted.
-ghost use Rattle.std.specs.Prelude.{◌≡◌, OnOk, OnErr};
-ghost use Rattle.replica_store.specs.Settling.{noted_for, unnoted, noted_if, noted_while};
+ghost use Rattle.std.specs.Prelude.{◌≡◌, ◌≤◌, ◌∷◌, ◌++◌, [], length, OnOk, OnErr};
+ghost use Rattle.replica_store.specs.Copies.{most_noted};
+ghost use Rattle.replica_store.specs.Settling.{noted_for, unnoted, newest, with_noted};
 
 use doc_items::Memory;
 use std::alloc::Global;
 use wave_base::DeltaId;
 use wavelet_op::Verdict;
+
+/// How many verdicts are kept. At one more the oldest is let go.
+const MOST: usize = 1024;
 
 /// The host's verdict on the submission of an id.
 #[derive(Drop)]
@@ -33,29 +37,31 @@ pub(crate) fn forget(list: &mut Vec<Noted>, id: &DeltaId)
     list.retain(|noted| *id != noted.id);
 }
 
-/// What was noted for others stays, and that for the id while there is a claim on it.
-pub(crate) fn forget_unless(claimed: bool, list: &mut Vec<Noted>, id: &DeltaId)
-    ensures { list.new.items ≡ noted_while claimed id.now list.old.items }
+// The last of as many verdicts as are kept comes in the place of the first.
+fn replace_oldest(list: &mut Vec<Noted>, last: Noted)
+    requires { length list.old.items ≡ most_noted }
+    ensures { list.new.items ≡ newest (list.old.items ++ last ∷ []) }
 {
-    if !claimed {
-        forget(list, id);
-    }
+    drop(list.remove(0));
+    list.push_reserved(last);
 }
 
-/// The verdict on the submission of the id is noted, if there is a claim on it. After want of memory all is as it was.
-pub(crate) fn note_if(
+/// The verdict on the submission of the id is noted, after the others, of which the newest stay. After want of memory all is as it was.
+pub(crate) fn note(
     alloc: Global,
-    claimed: bool,
     list: &mut Vec<Noted>,
     id: &DeltaId,
     verdict: Verdict,
 ) -> Result<(), Memory>
-    ensures ok { OnOk result (list.new.items ≡ noted_if claimed list.old.items id.now verdict) }
+    requires { length list.old.items ≤ most_noted }
+    ensures ok { OnOk result (list.new.items ≡ with_noted list.old.items id.now verdict) }
     ensures same { OnErr result (list.new.items ≡ list.old.items) }
 {
-    if claimed {
-        let id = id.copy(alloc)?;
+    let id = id.copy(alloc)?;
+    if list.len() < MOST {
         list.push(Noted { id, verdict })?;
+        return Ok(());
     }
+    replace_oldest(list, Noted { id, verdict });
     Ok(())
 }

@@ -5,6 +5,6 @@ use delta_history::Kept;
 pub enum Queued {
     /// Its history has a delta of the id, which stands there.
     Kept(Kept),
-    /// The submission waits for the host's verdict. Whoever is given this answer has a claim on the outcome.
+    /// The submission waits for the host's verdict.
     Waiting,
 }

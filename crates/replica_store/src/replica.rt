@@ -6,12 +6,11 @@ ghost use Rattle.delta_history.specs.Pushes.{IsRefused};
 ghost use Rattle.follower_rules.specs.Replicas.{is_waiting, queue, settle};
 ghost use Rattle.replica_store.specs.Absorbing.{absorbed, IsAfter};
 ghost use Rattle.replica_store.specs.Copies.{in_world, IsSound, IsSameCopy};
-ghost use Rattle.replica_store.specs.Settling.{outcome, waits_in, queue_in, note_in, let_go_in, drop_in};
+ghost use Rattle.replica_store.specs.Settling.{outcome, waits_in, queue_in, note_in, drop_in};
 
 use crate::Queued;
-use crate::claims::{give_back, is_claimed, release};
 use crate::histories::{kept, push_copy};
-use crate::outcomes::{Noted, forget, forget_unless, note_if, noted_for};
+use crate::outcomes::{Noted, forget, note, noted_for};
 use crate::waiting::{is_waiting, queue, settle};
 use delta_history::{History, HistoryFault};
 use doc_items::Memory;
@@ -22,12 +21,11 @@ use wave_base::{DeltaId, WaveletName};
 use wavelet_op::{AppliedDelta, Submission, Verdict};
 
 /// A copy of another domain's wavelet: the host's history as far as it came, the submissions that wait for the host's verdict, and
-/// the verdicts that somebody has a claim on.
+/// the newest verdicts that it gave.
 pub struct Replica {
     history: History,
     waiting: Vec<Submission>,
     noted: Vec<Noted>,
-    claims: Vec<DeltaId>,
     dropped: bool,
 }
 
@@ -37,7 +35,6 @@ impl Drop for Replica {
             history: _history,
             waiting: _waiting,
             noted: _noted,
-            claims: _claims,
             dropped: _dropped,
         } = self;
     }
@@ -54,9 +51,9 @@ impl Model for Replica {
 
     ghost coded = { Prim.hlevel (codes, history_row.the_row.coded, submission_row.the_row.coded, noted_row.the_row.coded) };
 
-    ghost view = { λ r. copy r.history r.waiting.items r.noted.items r.claims.items r.dropped };
+    ghost view = { λ r. copy r.history r.waiting.items r.noted.items r.dropped };
 
-    ghost invariant = { λ r. IsSound (copy r.history r.waiting.items r.noted.items r.claims.items r.dropped) };
+    ghost invariant = { λ r. IsSound (copy r.history r.waiting.items r.noted.items r.dropped) };
 }
 
 impl Replica {
@@ -66,14 +63,12 @@ impl Replica {
         ensures empty { result.history.deltas ≡ [] }
         ensures waiting { result.waiting ≡ [] }
         ensures noted { result.noted ≡ [] }
-        ensures claims { result.claims ≡ [] }
         ensures dropped { result.dropped ≡ false }
     {
         Replica {
             history: History::new(alloc, name),
             waiting: Vec::new(alloc),
             noted: Vec::new(alloc),
-            claims: Vec::new(alloc),
             dropped: false,
         }
     }
@@ -116,7 +111,7 @@ impl Replica {
     }
 
     /// The acknowledgement of the id's delta where the history has it, else the verdict that was noted for the id. None while it
-    /// waits, where it was never submitted here, and after the last claim on the verdict was let go.
+    /// waits, where it was never submitted here, and where 1,024 verdicts were noted since.
     pub fn outcome(&self, id: &DeltaId) -> Option<Verdict>
         ensures value { result ≡ outcome self.now id.now }
         ensures kept { IsKeptOutcome (Some self.now.history) id.now result }
@@ -138,7 +133,7 @@ impl Replica {
     }
 
     /// A submission to the copy. `Kept` exactly where the history has its id; else it waits for the host's verdict, after the others,
-    /// unless one of its id does, and there is one claim more on its outcome. After want of memory the copy is as it was.
+    /// unless one of its id does, and nothing is noted for it. After want of memory the copy is as it was.
     pub fn queue_submission(
         &mut self,
         alloc: Global,
@@ -157,24 +152,20 @@ impl Replica {
         }
     }
 
-    // The submission waits, and there is one claim more on its outcome.
+    // The submission waits, and nothing is noted for it.
     fn wait(&mut self, alloc: Global, submission: Submission) -> Result<(), Memory>
         requires { has_id submission.id self.old.history.deltas ≡ false }
         ensures ok { OnOk result (self.new ≡ waits_in self.old submission) }
         ensures same { OnErr result (self.new ≡ self.old) }
     {
         let id = submission.id.copy(alloc)?;
-        self.claims.reserve(1)?;
         queue(&mut self.waiting, submission)?;
         forget(&mut self.noted, &id);
-        match self.claims.push(id) {
-            Ok(()) => Ok(()),
-            Err(_) => unreachable!(),
-        }
+        Ok(())
     }
 
     /// The host's verdict on the submission of an id. True exactly where one waits: it waits no more, and the verdict is its outcome,
-    /// kept as long as there is a claim on it. After false, and after want of memory, the copy is as it was.
+    /// until 1,024 others were noted. After false, and after want of memory, the copy is as it was.
     pub fn note_answer(
         &mut self,
         alloc: Global,
@@ -188,23 +179,9 @@ impl Replica {
         if !self.is_waiting(id) {
             return Ok(false);
         }
-        let claimed = is_claimed(self.claims.as_slice(), id);
-        note_if(alloc, claimed, &mut self.noted, id, verdict)?;
+        note(alloc, &mut self.noted, id, verdict)?;
         settle(&mut self.waiting, id);
         Ok(true)
-    }
-
-    /// Whoever was answered `Waiting` for the id was given the outcome, or wants it no more: there is one claim less. The verdict that
-    /// was noted for the id goes with the last one. True exactly where there was a claim; else the copy is as it was.
-    pub fn let_go(&mut self, id: &DeltaId) -> bool
-        ensures { (result, self.new) ≡ let_go_in self.old id.now }
-    {
-        if !give_back(&mut self.claims, id) {
-            return false;
-        }
-        let claimed = is_claimed(self.claims.as_slice(), id);
-        forget_unless(claimed, &mut self.noted, id);
-        true
     }
 
     /// A delta of the host's history. The first of these that holds: `Old` where the delta starts below the copy's version, `Gap` where
@@ -247,7 +224,6 @@ impl Replica {
             Ok(()) => {
                 settle(&mut self.waiting, &delta.id);
                 forget(&mut self.noted, &delta.id);
-                release(&mut self.claims, &delta.id);
                 self.dropped = false;
                 Ok(Absorbed::Took)
             }

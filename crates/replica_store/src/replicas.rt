@@ -1,10 +1,10 @@
 // Copies by name.
-ghost use Rattle.std.specs.Prelude.{◌≡◌, true, false, None, IsSome, is_some, option_copied, IfOk, OnOk, OnErr};
+ghost use Rattle.std.specs.Prelude.{◌≡◌, true, false, None, IsSome, IfSome, is_some, option_copied, IfOk, OnOk, OnErr};
 ghost use Rattle.std.specs.FinMap as finite;
 ghost use Rattle.replica_store.specs.Listings.{IsSought, relays_of, reaches_of};
-ghost use Rattle.replica_store.specs.Worlds.{worlds_of, world_at, answer_at, take_in, waits_at, answer_in, has_more, drop_in, with_taken};
+ghost use Rattle.replica_store.specs.Worlds.{AreNamed, worlds_of, world_at, answer_at, take_in, queued_at, queue_in, waits_at, answer_in, has_more, drop_in, with_taken};
 
-use crate::Replica;
+use crate::{Queued, Replica};
 use crate::sought::Sought;
 use doc_items::Memory;
 use peer_turns::{Absorbed, CopyAt, Relay};
@@ -12,7 +12,7 @@ use std::alloc::Global;
 use std::collections::BTreeMap;
 use std::marker::Model;
 use wave_base::{DeltaId, Domain, WaveletName};
-use wavelet_op::{AppliedDelta, Verdict};
+use wavelet_op::{AppliedDelta, Submission, Verdict};
 
 /// Copies, in byte order of the names of their wavelets.
 pub struct Replicas {
@@ -52,9 +52,17 @@ impl Replicas {
 
     /// The copy of the name.
     pub fn get(&self, name: &WaveletName) -> Option<&Replica>
-        ensures { option_copied result ≡ finite.get self.now name.now }
+        ensures value { option_copied result ≡ finite.get self.now name.now }
+        ensures named { IfSome result (λ c. c.now.history.name ≡ name.now) }
     {
         self.copies.get(name)
+    }
+
+    /// The law of copies by name: each is of its name.
+    pub fn are_named(&self)
+        ensures { AreNamed self.now }
+    {
+        let _copies = &self.copies;
     }
 
     // A copy comes to the others, or in the place of the one of its name.
@@ -131,6 +139,62 @@ impl Replicas {
         }
     }
 
+    // The answer of a new copy to a submission, which waits there.
+    fn queue_first(
+        &mut self,
+        alloc: Global,
+        name: &WaveletName,
+        submission: Submission,
+    ) -> Result<Queued, Memory>
+        requires { finite.get self.old name.now ≡ None }
+        ensures answer { IfOk result (λ q. q ≡ queued_at (worlds_of self.old) name.now submission) }
+        ensures after { OnOk result (worlds_of self.new ≡ queue_in (worlds_of self.old) name.now submission) }
+        ensures same { OnErr result (worlds_of self.new ≡ worlds_of self.old) }
+    {
+        let key = name.copy(alloc)?;
+        let mut copy = Replica::new(alloc, name.copy(alloc)?);
+        let answer = copy.queue_submission(alloc, submission)?;
+        self.insert(key, copy)?;
+        Ok(answer)
+    }
+
+    // The answer of a copy that is there to a submission.
+    fn queue_next(
+        &mut self,
+        alloc: Global,
+        name: &WaveletName,
+        submission: Submission,
+    ) -> Result<Queued, Memory>
+        requires { IsSome (finite.get self.old name.now) }
+        ensures answer { IfOk result (λ q. q ≡ queued_at (worlds_of self.old) name.now submission) }
+        ensures after { OnOk result (worlds_of self.new ≡ queue_in (worlds_of self.old) name.now submission) }
+        ensures same { OnErr result (worlds_of self.new ≡ worlds_of self.old) }
+    {
+        let Some(copy) = self.copies.get_mut(name) else {
+            unreachable!()
+        };
+        copy.queue_submission(alloc, submission)
+    }
+
+    /// A submission to the copy of the name. `Kept` exactly where its history has the id; else it waits there for the host's verdict, once, and a copy
+    /// begins with it where there is none. After want of memory all is as it was.
+    pub fn queue_submission(
+        &mut self,
+        alloc: Global,
+        name: &WaveletName,
+        submission: Submission,
+    ) -> Result<Queued, Memory>
+        ensures answer { IfOk result (λ q. q ≡ queued_at (worlds_of self.old) name.now submission) }
+        ensures after { OnOk result (worlds_of self.new ≡ queue_in (worlds_of self.old) name.now submission) }
+        ensures same { OnErr result (worlds_of self.new ≡ worlds_of self.old) }
+    {
+        if self.get(name).is_some() {
+            self.queue_next(alloc, name, submission)
+        } else {
+            self.queue_first(alloc, name, submission)
+        }
+    }
+
     // The host's verdict on the submission of an id at a copy that is there.
     fn settle(
         &mut self,
@@ -141,7 +205,7 @@ impl Replicas {
     ) -> Result<bool, Memory>
         requires { IsSome (finite.get self.old name.now) }
         ensures answer { IfOk result (λ b. b ≡ waits_at (worlds_of self.old) name.now id.now) }
-        ensures after { OnOk result (worlds_of self.new ≡ answer_in (worlds_of self.old) name.now id.now) }
+        ensures after { OnOk result (worlds_of self.new ≡ answer_in (worlds_of self.old) name.now id.now verdict) }
         ensures same { OnErr result (worlds_of self.new ≡ worlds_of self.old) }
     {
         let Some(copy) = self.copies.get_mut(name) else {
@@ -160,7 +224,7 @@ impl Replicas {
         verdict: Verdict,
     ) -> Result<bool, Memory>
         ensures answer { IfOk result (λ b. b ≡ waits_at (worlds_of self.old) name.now id.now) }
-        ensures after { OnOk result (worlds_of self.new ≡ answer_in (worlds_of self.old) name.now id.now) }
+        ensures after { OnOk result (worlds_of self.new ≡ answer_in (worlds_of self.old) name.now id.now verdict) }
         ensures same { OnErr result (worlds_of self.new ≡ worlds_of self.old) }
     {
         if self.get(name).is_none() {

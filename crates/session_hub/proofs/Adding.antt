@@ -2,7 +2,8 @@
 --     grown_at        the delta of a submission stands where the history ended before; where none was accepted, nothing stands there
 --     grown_marks     a mark for it
 --     fault_marks     a mark of a fault
-use Rattle.std.proofs.Common.{◌≡◌, ℕ, List, [], ◌∷◌, ◌++◌, length, map, slice_get, Option, Some, None, option_map, ap, ◌∙◌, arith}
+--     gift_marks      a mark of what a copy was given
+use Rattle.std.proofs.Common.{◌≡◌, ℕ, Bool, List, [], ◌∷◌, ◌++◌, length, map, slice_get, Option, Some, None, option_map, ap, ◌∙◌, arith}
 use Rattle.std.proofs.lemmas.List.{map-append}
 use Rattle.std.proofs.lemmas.Option.{slice_get_past}
 use Rattle.doc_items.specs.Maps.{Key}
@@ -13,7 +14,9 @@ use Rattle.delta_history.specs.Copying.{AreAscending}
 use Rattle.turn_cells.proofs.Places.{get_last}
 use Rattle.wavelet_shelf.specs.Hosting.{Hosted, names_of, deltas_in, with_added, judged_in, after_submission}
 use Rattle.wavelet_shelf.proofs.Growing.{grows_alone}
+use Rattle.shard_marks.specs.declared.mark.Mark.{Mark}
 use Rattle.shard_marks.specs.declared.mark.Mark.TheVariants as mark
+use Rattle.shard_marks.specs.Givings.{marks_if}
 use Rattle.shard_marks.specs.Marks.{founded}
 use Rattle.shard_marks.proofs.Replaying.{noted}
 use Rattle.session_hub.specs.declared.record.Record.{Record}
@@ -32,3 +35,6 @@ module _ (d : Key) (k : ℕ) (rs os : List Record) (n : Key) where
 
   pub fault_marks : (i : IdOf) (r : Record) → mark_of r ≡ mark.Fault n i → os ≡ rs ++ r ∷ [] → marks_in d k os ≡ marks_in d k rs ++ mark.Fault n i ∷ []
   fault_marks i r same e = ap (founded d k) (ap (map mark_of) e ∙ map-append mark_of rs (r ∷ []) ∙ ap (λ m. map mark_of rs ++ m ∷ []) same)
+
+  pub gift_marks : (b : Bool) (m : Mark) (r : Record) → mark_of r ≡ m → map mark_of os ≡ map mark_of rs ++ marks_if b (mark_of r) → marks_in d k os ≡ marks_in d k rs ++ marks_if b m
+  gift_marks b m r same e = ap (founded d k) (e ∙ ap (λ z. map mark_of rs ++ marks_if b z) same)

@@ -5,3 +5,4 @@ pub mod Adding
 pub mod Written
 pub mod RobotTurns
 pub mod RobotMoments
+pub mod Sought

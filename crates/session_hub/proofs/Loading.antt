@@ -5,7 +5,8 @@
 --     own_all                  what a domain hosts of a shard
 --     all_in                   the histories of a shard
 --     both_ways                the histories of a shard that a domain hosts, and those that it hosts of the shard
---     new_replay, new_own, new_faults     so a new shard keeps what it must
+--     loaded_copies            no copy is made by them
+--     new_replay, new_copies, new_own, new_faults     so a new shard keeps what it must
 --     loaded_push, loaded_length, loaded_at     shards of some shelves: one more, how many there are, and what one is
 --     parts_in                 the histories of a part of a shelf
 --     seen_loaded              the marks of one shard of a shelf that was divided
@@ -13,9 +14,12 @@ use Rattle.std.proofs.Common.{Less, Equal, Greater, ◌≡◌, ◌≢◌, ◌⊎
 use Rattle.std.specs.Cmp.Lexicographic.{slice_cmp}
 use Rattle.std.specs.List.{AllByRecursion, list_all}
 use Rattle.std.specs.Ordering.{nat_cmp, ordering_reverse}
+use Rattle.std.proofs.lemmas.Bool.{and_parts}
 use Rattle.std.proofs.lemmas.Cmp.{nat_list_cmp_total}
 use Rattle.std.proofs.lemmas.Option.{slice_get_cases}
+use Rattle.std.specs.FinMap.{empty}
 use Rattle.doc_items.specs.Maps.{Key}
+use Rattle.replica_store.specs.Worlds.{Worlds, with_taken}
 use Rattle.wavelet_op.specs.Deltas.{DeltaOf}
 use Rattle.delta_history.specs.Copying.{AscendFrom, AreAscending}
 use Rattle.disk_model.specs.declared.disk.Disk as disk_of
@@ -32,8 +36,9 @@ use Rattle.shard_marks.specs.declared.mark.Mark.{Mark}
 use Rattle.shard_marks.specs.declared.mark.Mark.TheVariants.{Applied}
 use Rattle.session_hub.specs.declared.shard.Shard.{Shard}
 use Rattle.session_hub.specs.Entries.{entries_of, IsLoaded, AreLoaded}
-use Rattle.shard_marks.specs.Marks.{is_of, is_own_mark, replayed_on, replayed, founded, loaded_one, loaded, fault_count, most_faults}
+use Rattle.shard_marks.specs.Marks.{is_of, is_own_mark, replayed_on, replayed, copied_on, copied, founded, loaded_one, loaded, fault_count, most_faults}
 use Rattle.shard_marks.proofs.Founded.{founded_own}
+use Rattle.shard_marks.proofs.Copying.{no_copy}
 use Rattle.shard_marks.proofs.Replaying.{replayed_more}
 
 abbrev hosted : Key → List DeltaOf → Hosted
@@ -58,6 +63,19 @@ faults_on n (x ∷ xs) ms = let rest = faults_on n xs ms in omega (arith, rest)
 pub loaded_faults : (hs : List Hosted) → fault_count (loaded hs) ≡ 0
 loaded_faults [] = refl
 loaded_faults (h ∷ hs) = faults_on h.name h.deltas (loaded hs) ∙ loaded_faults hs
+
+-- ---- copies
+
+module _ (d : Key) (k : ℕ) where
+  no_copies_on : (cs : Worlds) (n : Key) (xs : List DeltaOf) (ms : List Mark) → is_of d k n ≡ true → copied_on d k cs (map (λ x. Applied n x) xs ++ ms) ≡ copied_on d k cs ms
+  no_copies_on cs n [] ms own = refl
+  no_copies_on cs n (x ∷ xs) ms own =
+      ap (λ b. copied_on d k (cond b (with_taken cs n x) cs) (map (λ x. Applied n x) xs ++ ms)) (no_copy d k n (and_parts (is_hosted_by d n) (nat_eq (shard_of n) k) own).0)
+      ∙ no_copies_on cs n xs ms own
+
+  pub loaded_copies : (cs : Worlds) (hs : List Hosted) → AllByRecursion (λ h. is_of d k h.name ≡ true) hs → copied_on d k cs (loaded hs) ≡ cs
+  loaded_copies cs [] own = refl
+  loaded_copies cs (h ∷ hs) own = no_copies_on cs h.name h.deltas (loaded hs) own.0 ∙ loaded_copies cs hs own.1
 
 module _ (d : Key) (k : ℕ) where
   -- ---- what the marks give
@@ -100,7 +118,7 @@ module _ (d : Key) (k : ℕ) where
 
   own_one : (n : Key) (xs : List DeltaOf) (ms : List Mark) → is_of d k n ≡ true → list_all (is_own_mark d k) ms ≡ true → list_all (is_own_mark d k) (map (λ x. Applied n x) xs ++ ms) ≡ true
   own_one n [] ms own all = all
-  own_one n (x ∷ xs) ms own all = ap (λ b. b && list_all (is_own_mark d k) (map (λ x. Applied n x) xs ++ ms)) own ∙ own_one n xs ms own all
+  own_one n (x ∷ xs) ms own all = ap (λ b. b && list_all (is_own_mark d k) (map (λ x. Applied n x) xs ++ ms)) (and_parts (is_hosted_by d n) (nat_eq (shard_of n) k) own).1 ∙ own_one n xs ms own all
 
   own_loaded : (hs : List Hosted) → AllByRecursion (λ h. is_of d k h.name ≡ true) hs → list_all (is_own_mark d k) (loaded hs) ≡ true
   own_loaded [] all = refl
@@ -114,6 +132,9 @@ module _ (d : Key) (k : ℕ) where
 module _ (d : Key) (k : ℕ) (hs : List Hosted) (ms : List Mark) (is : ms ≡ loaded (hosted_by d hs)) where
   pub new_replay : AreAscending (names_of hs) → AllByRecursion (λ h. is_in k h.name ≡ true) hs → HaveDeltas hs → hosted_by d hs ≡ replayed d k (founded d k ms)
   new_replay ascend all have = loaded_replay d k (hosted_by d hs) (hosted_ascend d hs ascend) (own_all d k hs all) (hosted_have d hs have) ∙ ap (λ l. replayed d k (founded d k l)) (sym is)
+
+  pub new_copies : (cs : Worlds) → cs ≡ empty → AllByRecursion (λ h. is_in k h.name ≡ true) hs → cs ≡ copied d k (founded d k ms)
+  new_copies cs none all = none ∙ sym (loaded_copies d k empty (hosted_by d hs) (own_all d k hs all)) ∙ ap (λ l. copied d k (founded d k l)) (sym is)
 
   pub new_own : AllByRecursion (λ h. is_in k h.name ≡ true) hs → list_all (is_own_mark d k) (founded d k ms) ≡ true
   new_own all = ap (λ l. list_all (is_own_mark d k) (founded d k l)) is ∙ own_founded d k (hosted_by d hs) (own_all d k hs all)

@@ -1,6 +1,6 @@
 -- Turns at a shard, and at a hub.
 --     each_some          what is so of a value that is there
---     answered_by        the answer to a submission in a turn
+--     answered_by, given_by      the answer to a submission in a turn, and to what a copy was given
 --     at_moment          what is so of the copies at the last mark of a shard is so of those that its marks give
 --     grown_later        what begins a list begins a longer one
 --     on_ok, later_of, closed_each     what holds always; what begins an equal list; so it is of each value at a place
@@ -15,7 +15,7 @@
 --     IsTurnAt, turn_at  what an index gave of cells and of passes, at the place of a shard
 --     founded_same, split_own     passes that have seen the same are of the hub too, and so are second ones
 --     on_err, spent_exit what holds always; why no turn was given, where an error goes on
---     others_at, turned_at, unadded_at, own_after, seen_now, look_at, answered_at     what a turn at one shard leaves of the passes
+--     others_at, turned_at, unadded_at, own_after, seen_now, look_at, answered_at, given_at     what a turn at one shard leaves of the passes
 use Rattle.std.proofs.Common.{map, Result, Ok, Err, OnOk, ◌≡◌, ◌≢◌, ℕ, ◌+◌, ◌<◌, ◌≤◌, Bool, true, List, ◌++◌, length, Option, Some, None, IfSome, slice_get, set, refl, sym, ap, subst, ◌∙◌, arith, length-append, length-set, ◌⊎◌, inl, inr, append_assoc, [], ◌∷◌, OnErr, IfOk, IfErr, IsErrAnd, get_or, ◌%◌}
 use Rattle.std.specs.Vec.{with_item}
 use mathlib.Core.Logic.{dite}
@@ -56,7 +56,9 @@ use Rattle.session_hub.specs.Hubs.{AreFounded, AreOfHub}
 use Rattle.shard_marks.specs.Frames.{frames_of}
 use Rattle.shard_marks.specs.Marks.{is_founded, founded, shown_at}
 use Rattle.shard_marks.specs.Answers.{IsJudged}
-use Rattle.session_hub.specs.Turns.{IsBegun, IsAnsweredBy, IsFault}
+use Rattle.shard_marks.specs.Givings.{IsGiven, IsGivenFrom, IsGivenBy}
+use Rattle.shard_marks.specs.declared.giving.Given.{Given}
+use Rattle.session_hub.specs.Turns.{IsBegun, IsAnsweredBy, IsGivenIn, IsFault}
 use Rattle.shard_marks.proofs.Founded.{founded_is, founded_later}
 
 pub each_some : {X : Type 0} (P : X → Type 0) (o : Option X) → ((x : X) → o ≡ Some x → P x) → IfSome o P
@@ -80,6 +82,20 @@ module _ {T : Type 0} (p q : Pass T Mark) (d : Key) (k : ℕ) (e : Key) (j : ℕ
         added = omega (arith, longer, count);
         grown = omega (arith, longer, front, whole);
         answer = subst (λ (z : List Mark). IsAnswer d k z n s t a judged.gained) (sym last) (subst (λ (z : Key × ℕ). IsAnswer z.0 z.1 os n s t a judged.gained) (λ i. (is.0 i, is.1 i)) judged.answer);
+      }
+
+  pub given_by : (m : Mark) (a : Given) → is_founded d k (seen p) ≡ true → IsPrefix (seen p) (founded e j rs) → IsGivenFrom e j (founded e j rs) os m a → seen q ≡ os
+      → added q + length (founded e j rs) ≡ added p + length os → IsGivenIn p q d k m a
+  given_by m a own begins by last count =
+      let is = founded_is d k e j rs (seen p) own begins in
+      let longer = by.longer in
+      let front : length (seen p) ≤ length (founded e j rs) = prefix_length (seen p) (founded e j rs) begins in
+      let whole : length (seen q) ≡ length os = ap length last in
+      record {
+        gained = by.gained;
+        added = omega (arith, longer, count);
+        grown = omega (arith, longer, front, whole);
+        answer = subst (λ (z : List Mark). IsGiven d k z m a by.gained) (sym last) (subst (λ (z : Key × ℕ). IsGiven z.0 z.1 os m a by.gained) (λ i. (is.0 i, is.1 i)) by.answer);
       }
 
 -- what is so of the shard's own domain, number and marks is so of these
@@ -168,6 +184,14 @@ module _ {F D : Type 0} {folder : folder_of.Ghosts F D} {disk : disk_of.Ghosts D
     added = ap (λ o. added_of o) now_at ∙ by.added ∙ sym (ap (λ o. added_of o + by.gained) at);
     grown = seen_then (λ ms. length ms + by.gained ≤ length (marks_of qs k)) (seen_now (λ ms. length (seen p) + by.gained ≤ length ms) by.grown);
     answer = seen_now (λ ms. IsAnswer d k ms n s t a by.gained) by.answer;
+  }
+
+  pub given_at : (d : Key) (m : Mark) (a : Given) → IsGivenIn p q d k m a → IsGivenBy d k ps qs m a
+  given_at d m a by = record {
+    gained = by.gained;
+    added = ap (λ o. added_of o) now_at ∙ by.added ∙ sym (ap (λ o. added_of o + by.gained) at);
+    grown = seen_then (λ ms. length ms + by.gained ≤ length (marks_of qs k)) (seen_now (λ ms. length (seen p) + by.gained ≤ length ms) by.grown);
+    answer = seen_now (λ ms. IsGiven d k ms m a by.gained) by.answer;
   }
 
   pub own_after : (h : Hub F D folder disk) (c : TurnCell (Shard F D folder disk) Mark) → AreOfHub h ps → slice_get h.cells.list.items k ≡ Some c → IsOf c q → IsPrefix (seen p) (seen q) → AreOfHub h qs

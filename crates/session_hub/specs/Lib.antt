@@ -3,4 +3,5 @@ pub mod Hubs
 pub mod Records
 pub mod Texts
 pub mod Robots
+pub mod Items
 pub mod Turns

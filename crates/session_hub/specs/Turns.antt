@@ -1,6 +1,7 @@
 -- Turns at a shard.
 --     IsBegun n ms               the marks begin with that of the shard of the wavelet
 --     IsAnsweredBy p q d k n s t a   the answer to a submission in a turn, by a pass before and after it
+--     IsGivenIn p q d k m a      what was answered where a copy was given something in a turn, by a pass before and after it
 --     IsFault q e                why there was no answer: where no turn is left, the ticket of the pass is at the limit
 use Rattle.std.specs.Prelude.{◌≡◌, ℕ, ◌+◌, ◌≤◌, true, List, length}
 use Rattle.doc_items.specs.Maps.{Key}
@@ -13,6 +14,8 @@ use Rattle.session_hub.specs.declared.fault.HubFault.{HubFault}
 use Rattle.session_hub.specs.declared.fault.HubFault.TheVariants.{Spent, Memory}
 use Rattle.shard_marks.specs.declared.mark.Mark.{Mark}
 use Rattle.shard_marks.specs.Answers.{IsAnswer}
+use Rattle.shard_marks.specs.Givings.{IsGiven}
+use Rattle.shard_marks.specs.declared.giving.Given.{Given}
 use Rattle.shard_marks.specs.Marks.{is_founded}
 
 abbrev pub IsBegun : ℕ → List Mark → Type 0
@@ -24,6 +27,12 @@ module _ {T : Type 0} where
     pub added : added q ≡ added p + gained
     pub grown : length (seen p) + gained ≤ length (seen q)
     pub answer : IsAnswer d k (seen q) n s t a gained
+
+  pub record IsGivenIn (p q : Pass T Mark) (d : Key) (k : ℕ) (m : Mark) (a : Given) : Type 0 where
+    pub gained : ℕ
+    pub added : added q ≡ added p + gained
+    pub grown : length (seen p) + gained ≤ length (seen q)
+    pub answer : IsGiven d k (seen q) m a gained
 
   abbrev pub IsFault : Pass T Mark → HubFault → Type 0
   IsFault q (Spent s) = (turn_limit ≤ s.ticket) × (ticket q ≡ s.ticket)

@@ -14,6 +14,7 @@ use crate::shard::Shard;
 use delta_history::History;
 use doc_items::Memory;
 use hosted_copies::HostedCopies;
+use replica_store::Replicas;
 use std::alloc::Global;
 use std::snapshot::Snapshot;
 use wave_base::Domain;
@@ -69,6 +70,7 @@ impl<F: Folder + Drop> Shard<F> {
             domain,
             number,
             shelf,
+            replicas: Replicas::new(alloc),
             records,
             texts: Vec::new(alloc),
         })

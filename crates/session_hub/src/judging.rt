@@ -52,7 +52,7 @@ fn delta_at<F: Folder>(
 }
 
 // Keeps a record, for which there is room.
-fn keep(records: &mut Vec<Record>, newest: Record)
+pub(crate) fn keep(records: &mut Vec<Record>, newest: Record)
     requires { vec_len records.old < vec_capacity records.old }
     ensures { records.new.items ≡ records.old.items ++ newest ∷ [] }
 {

@@ -1,6 +1,6 @@
 use std::snapshot::Snapshot;
 use wave_base::{DeltaId, WaveletName};
-use wavelet_op::AppliedDelta;
+use wavelet_op::{AppliedDelta, Verdict};
 
 // What a shard keeps of a mark but the first: which kind it is of.
 pub(crate) enum Record {
@@ -11,6 +11,14 @@ pub(crate) enum Record {
     Fault {
         name: Snapshot<WaveletName>,
         id: Snapshot<DeltaId>,
+    },
+    Answered {
+        name: Snapshot<WaveletName>,
+        id: Snapshot<DeltaId>,
+        verdict: Snapshot<Verdict>,
+    },
+    Dropped {
+        name: Snapshot<WaveletName>,
     },
 }
 
@@ -25,6 +33,12 @@ impl Drop for Record {
                 name: _name,
                 id: _id,
             } => {}
+            Record::Answered {
+                name: _name,
+                id: _id,
+                verdict: _verdict,
+            } => {}
+            Record::Dropped { name: _name } => {}
         }
     }
 }

@@ -1,7 +1,7 @@
 // What a shard's wavelets give a session.
 ghost use Rattle.std.specs.Prelude.{◌≡◌, [], map, true, false, length, IfOk, OnOk, OnErr, option_copied};
 ghost use Rattle.message_json.specs.Write.{IsShort};
-ghost use Rattle.session_core.specs.Answers.{attached};
+ghost use Rattle.session_core.specs.Answers.{attached, had};
 ghost use Rattle.session_core.specs.Deliveries.{delivered, after_delivery};
 ghost use Rattle.session_core.specs.News.{reply_message};
 ghost use Rattle.session_core.specs.Rules.{has_user, has_peer};
@@ -37,6 +37,26 @@ impl<F: Folder + Drop> Shard<F> {
         };
         copies.are_hosted();
         session.answer_attach(alloc, &copies, name, from)
+    }
+
+    /// Notes up to where a peer has a wavelet. After want of memory the session is as it was.
+    pub(crate) fn have(
+        &self,
+        alloc: Global,
+        session: &mut Session,
+        name: &WaveletName,
+        from: &HashedVersion,
+    ) -> Result<(), Memory>
+        requires { has_peer session.old ≡ true }
+        ensures after { OnOk result (session.new ≡ had (copies_at self.now) session.old name.now from.now) }
+        ensures same { OnErr result (session.new ≡ session.old) }
+    {
+        let copies = HostedCopies {
+            domain: &self.domain,
+            shelf: &self.shelf,
+        };
+        copies.are_hosted();
+        session.answer_have(alloc, &copies, name, from)
     }
 
     /// What is new to a session, as texts. The error is want of memory. The marks stay.

@@ -17,7 +17,7 @@ use Rattle.wavelet_shelf.specs.FileNames.{shard_of}
 use Rattle.wavelet_shelf.specs.Hosting.{Hosted, deltas_in, grown_in, copy_of}
 use Rattle.wavelet_shelf.proofs.Growing.{grows_alone}
 use Rattle.shard_marks.specs.declared.mark.Mark.{Mark}
-use Rattle.shard_marks.specs.declared.mark.Mark.TheVariants.{Began, Applied, Fault}
+use Rattle.shard_marks.specs.declared.mark.Mark.TheVariants.{Began, Applied, Fault, Queued, Answered, Dropped}
 use Rattle.shard_marks.specs.Marks.{is_of, is_founded, after_mark, replayed_on, shown_at}
 use Rattle.session_steps.specs.Clients.{IsClient, IsSentTo, AreSentTo, AreSentAll}
 use Rattle.session_steps.specs.Served.{HaveNothingLeft}
@@ -31,6 +31,9 @@ module _ (d : Key) (k : ℕ) (n : Key) (other : shard_of n ≢ k) where
   mark_none : (hs : List Hosted) (m : Mark) → deltas_in hs n ≡ [] → deltas_in (after_mark d k hs m) n ≡ []
   mark_none hs (Began e j) none = none
   mark_none hs (Fault x i) none = none
+  mark_none hs (Queued x s) none = none
+  mark_none hs (Answered x i v) none = none
+  mark_none hs (Dropped x) none = none
   mark_none hs (Applied x delta) none = go (is_of d k x) refl
     where
       go : (t : Bool) → is_of d k x ≡ t → deltas_in (cond t (grown_in hs x delta) hs) n ≡ []

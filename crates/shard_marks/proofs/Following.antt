@@ -18,7 +18,7 @@ use Rattle.wavelet_shelf.specs.Hosting.{Hosted, names_of, deltas_in, grown_by, g
 use Rattle.wavelet_shelf.proofs.Growing.{grows_alone}
 use Rattle.wavelet_shelf.proofs.Names.{own, unlike_above, turned, lower, any, same_or_not}
 use Rattle.shard_marks.specs.declared.mark.Mark.{Mark}
-use Rattle.shard_marks.specs.declared.mark.Mark.TheVariants.{Began, Applied, Fault}
+use Rattle.shard_marks.specs.declared.mark.Mark.TheVariants.{Began, Applied, Fault, Queued, Answered, Dropped}
 use Rattle.shard_marks.specs.Marks.{is_of, after_mark, replayed_on, replayed}
 use Rattle.shard_marks.proofs.Replaying.{replayed_more}
 
@@ -56,6 +56,9 @@ module _ (d : Key) (k : ℕ) where
       go true = grows_alone.ascending hs n x a
       go false = a
   ascend_after hs (Fault n i) a = a
+  ascend_after hs (Queued p s) a = a
+  ascend_after hs (Answered p i v) a = a
+  ascend_after hs (Dropped p) a = a
 
   ascend_on : (hs : List Hosted) (ms : List Mark) → AreAscending (names_of hs) → AreAscending (names_of (replayed_on d k hs ms))
   ascend_on hs [] a = a
@@ -84,6 +87,9 @@ module _ (d : Key) (k : ℕ) where
       go true e = of_grown hs n x e all
       go false e = all
   of_after hs (Fault n i) all = all
+  of_after hs (Queued p s) all = all
+  of_after hs (Answered p i v) all = all
+  of_after hs (Dropped p) all = all
 
   of_on : (hs : List Hosted) (ms : List Mark) → AreOf hs → AreOf (replayed_on d k hs ms)
   of_on hs [] all = all
@@ -109,6 +115,9 @@ module _ (d : Key) (k : ℕ) where
       go true = have_grown hs n x all
       go false = all
   have_after hs (Fault n i) all = all
+  have_after hs (Queued p s) all = all
+  have_after hs (Answered p i v) all = all
+  have_after hs (Dropped p) all = all
 
   have_on : (hs : List Hosted) (ms : List Mark) → HaveDeltas hs → HaveDeltas (replayed_on d k hs ms)
   have_on hs [] all = all
@@ -131,6 +140,9 @@ module _ (d : Key) (k : ℕ) where
       go true (inr ne) = ([], grows_alone.others hs p x n ne ∙ sym (append-nil (deltas_in hs n)))
       go false o = ([], sym (append-nil (deltas_in hs n)))
   follow_after n hs (Fault p i) a = ([], sym (append-nil (deltas_in hs n)))
+  follow_after n hs (Queued p s) a = ([], sym (append-nil (deltas_in hs n)))
+  follow_after n hs (Answered p i v) a = ([], sym (append-nil (deltas_in hs n)))
+  follow_after n hs (Dropped p) a = ([], sym (append-nil (deltas_in hs n)))
 
   follow_on : (n : Key) (hs : List Hosted) (ms : List Mark) → AreAscending (names_of hs) → Follow n hs (replayed_on d k hs ms)
   follow_on n hs [] a = ([], sym (append-nil (deltas_in hs n)))
@@ -152,6 +164,9 @@ module _ (d : Key) (k : ℕ) where
       go true e = grows_alone.others hs p x n (λ same. true≢false (sym e ∙ ap (is_of d k) (sym same) ∙ other))
       go false e = refl
   none_after n hs (Fault p i) other = refl
+  none_after n hs (Queued p s) other = refl
+  none_after n hs (Answered p i v) other = refl
+  none_after n hs (Dropped p) other = refl
 
   none_on : (n : Key) (hs : List Hosted) (ms : List Mark) → is_of d k n ≡ false → deltas_in (replayed_on d k hs ms) n ≡ deltas_in hs n
   none_on n hs [] other = refl

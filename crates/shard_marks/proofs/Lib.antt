@@ -3,3 +3,4 @@ pub mod Seeing
 pub mod Replaying
 pub mod Following
 pub mod Deciding
+pub mod Copying

@@ -8,7 +8,7 @@
 --     counted_noted, counted_fault             the marks that tell of faults are no more than were counted
 use Rattle.std.proofs.Common.{◌≡◌, ◌⊎◌, inl, inr, ℕ, ◌+◌, ◌≤◌, min, Bool, true, false, ◌&&◌, nat_eq, cond, List, [], ◌∷◌, ◌++◌, length, Option, Some, None, option_map, refl, sym, ap, ◌∙◌, arith, append-nil, length-append}
 use Rattle.std.specs.List.{list_all}
-use Rattle.std.proofs.lemmas.Bool.{eq-eqb}
+use Rattle.std.proofs.lemmas.Bool.{eq-eqb, and_parts}
 use Rattle.doc_items.specs.Maps.{Key}
 use Rattle.wave_base.specs.Versions.{IdOf}
 use Rattle.wavelet_op.specs.Deltas.{DeltaOf}
@@ -39,7 +39,7 @@ noted_one ms ns n (Some x) e = inr (Applied n x, e)
 
 -- ---- faults
 
-count_more : (ms ns : List Mark) → fault_count (ms ++ ns) ≡ fault_count ms + fault_count ns
+pub count_more : (ms ns : List Mark) → fault_count (ms ++ ns) ≡ fault_count ms + fault_count ns
 count_more [] ns = omega arith
 count_more (m ∷ ms) ns = let more = count_more ms ns in omega (arith, more)
 
@@ -79,7 +79,7 @@ module _ (d : Key) (k : ℕ) where
     where
       go : (o : Option DeltaOf) → list_all (is_own_mark d k) (noted n o) ≡ true
       go None = refl
-      go (Some x) = ap (λ b. b && true) own
+      go (Some x) = ap (λ b. b && true) (and_parts (is_hosted_by d n) (nat_eq (shard_of n) k) own).1
 
   pub own_fault : (ms ns : List Mark) (n : Key) (i : IdOf) → is_of d k n ≡ true → ns ≡ ms ++ Fault n i ∷ [] → list_all (is_own_mark d k) ms ≡ true → list_all (is_own_mark d k) ns ≡ true
   own_fault ms ns n i own e all = ap (list_all (is_own_mark d k)) e ∙ all_more (is_own_mark d k) ms (Fault n i ∷ []) all (ap (λ b. b && true) own)

@@ -3,17 +3,18 @@
 --     delivered_at     in deliveries
 --     after_at         and the session then
 --     sent_at          whether it was sent all
+--     had_at           after a `have`
 use Rattle.std.proofs.Common.{◌≡◌, ℕ, List, Option, ap, ◌∙◌}
 use Rattle.doc_items.specs.Maps.{Key}
 use Rattle.wave_base.specs.Versions.{VersionAt}
 use Rattle.session_core.specs.declared.session.Session.{Session}
 use Rattle.session_core.specs.Access.{Shown}
-use Rattle.session_core.specs.Answers.{attached}
+use Rattle.session_core.specs.Answers.{attached, had}
 use Rattle.session_core.specs.Current.{are_sent}
 use Rattle.session_core.specs.Deliveries.{delivered, after_delivery}
 use Rattle.wavelet_shelf.specs.Hosting.{Hosted}
 use Rattle.hosted_copies.specs.Shown.{shown_in, IsSameShown}
-use Rattle.hosted_copies.proofs.Alike.{attached_alike, delivered_alike, after_alike, told_alike}
+use Rattle.hosted_copies.proofs.Alike.{attached_alike, delivered_alike, after_alike, told_alike, had_alike}
 use Rattle.shard_marks.specs.declared.mark.Mark.{Mark}
 use Rattle.shard_marks.specs.Marks.{replayed, shown_at}
 
@@ -29,3 +30,6 @@ module _ (c : Shown) (d : Key) (k : ℕ) (ms : List Mark) (hs : List Hosted) (sa
 
   pub sent_at : (s : Session) → are_sent c s ≡ are_sent (shown_at d k ms) s
   sent_at s = told_alike c (shown_in hs) same s ∙ ap (λ gs. are_sent (shown_in gs) s) is
+
+  pub had_at : (s : Session) (name : Key) (from : VersionAt) → had c s name from ≡ had (shown_at d k ms) s name from
+  had_at s name from = had_alike c (shown_in hs) same s name from ∙ ap (λ gs. had (shown_in gs) s name from) is

@@ -5,3 +5,4 @@ pub mod Frames
 pub mod Answers
 pub mod Outcomes
 pub mod Passes
+pub mod Givings

@@ -2,9 +2,11 @@
 //! to a submission at a moment.
 #![tactic(auto)]
 
+mod giving;
 pub mod laws;
 mod look;
 mod mark;
 
+pub use giving::{Given, Giving};
 pub use look::{Look, News};
 pub use mark::Mark;

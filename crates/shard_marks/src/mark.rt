@@ -1,6 +1,6 @@
 // What a shard's history is a list of.
 use wave_base::{DeltaId, Domain, WaveletName};
-use wavelet_op::AppliedDelta;
+use wavelet_op::{AppliedDelta, Submission, Verdict};
 
 /// An entry of a shard's history. These values exist in proofs alone.
 pub enum Mark {
@@ -10,4 +10,10 @@ pub enum Mark {
     Applied(WaveletName, AppliedDelta),
     /// The store failed at the submission of this id.
     Fault(WaveletName, DeltaId),
+    /// A submission waits at a copy for the verdict of its host.
+    Queued(WaveletName, Submission),
+    /// The host of a copy gave this verdict on the submission of this id.
+    Answered(WaveletName, DeltaId, Verdict),
+    /// The host of a copy gives it no more.
+    Dropped(WaveletName),
 }

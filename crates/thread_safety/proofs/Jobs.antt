@@ -20,6 +20,7 @@ use Rattle.session_link.specs.contracts.job.LinkJob as job
 use Rattle.session_link.specs.contracts.job.LinkEnd as link_end
 use Rattle.session_steps.specs.contracts.end.EndCause as cause
 use Rattle.thread_safety.proofs.Shelves.{shelf_send, shelf_sync}
+use Rattle.thread_safety.proofs.Copies.{replicas_send, replicas_sync}
 use Rattle.thread_safety.proofs.Cells.{cells_send, cells_sync, passes_send}
 
 pub domain_send : IsSend domain.the_row
@@ -64,8 +65,11 @@ module _ (F K : RattleType) (f : folder.Ghosts F.Denot K.Denot) (g : disk.Ghosts
       (
         shelf_send F K f g s k,
         (
-          as_row_send (Vec.the_field record_row.the_row Heap.the_row ghosts) records_send,
-          (as_row_send (Vec.the_field text_row.the_row Heap.the_row ghosts) texts_send, tt),
+          replicas_send,
+          (
+            as_row_send (Vec.the_field record_row.the_row Heap.the_row ghosts) records_send,
+            (as_row_send (Vec.the_field text_row.the_row Heap.the_row ghosts) texts_send, tt),
+          ),
         ),
       ),
     ),
@@ -79,8 +83,11 @@ module _ (F K : RattleType) (f : folder.Ghosts F.Denot K.Denot) (g : disk.Ghosts
       (
         shelf_sync F K f g s k,
         (
-          as_row_sync (Vec.the_field record_row.the_row Heap.the_row ghosts) records_sync,
-          (as_row_sync (Vec.the_field text_row.the_row Heap.the_row ghosts) texts_sync, tt),
+          replicas_sync,
+          (
+            as_row_sync (Vec.the_field record_row.the_row Heap.the_row ghosts) records_sync,
+            (as_row_sync (Vec.the_field text_row.the_row Heap.the_row ghosts) texts_sync, tt),
+          ),
         ),
       ),
     ),

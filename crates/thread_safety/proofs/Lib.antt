@@ -5,5 +5,6 @@ pub mod Histories
 pub mod Containers
 pub mod Tables
 pub mod Shelves
+pub mod Copies
 pub mod Cells
 pub mod Jobs

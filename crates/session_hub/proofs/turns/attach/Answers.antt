@@ -22,3 +22,10 @@ pub returns-clause-length : goal.returns-clause-length
 returns-clause-length g c =
     let last : seen c.pass-2-1.given.0 ≡ entries_of c.in_ok-guard.guard.value = search rules in
     c.length-length.ensures ∙ ap length (ap entries_of c.value-shard.ensures.value ∙ sym last)
+
+pub returns-clause-unadded : goal.returns-clause-unadded
+returns-clause-unadded g c =
+    let same : length (entries_of c.value-shard.result.now) ≡ length (seen c.in_ok-guard.guard.pass.now) = ap length (ap entries_of c.value-shard.ensures.value ∙ c.in_ok-guard.ensures.guard.2) in
+    let count = c.leave.ensures.added in
+    let counts = c.in_ok-guard.ensures.counts in
+    search (rules, same, count, counts)

@@ -1,7 +1,6 @@
-use Rattle.std.proofs.Common.{◌≡◌, Bool, true, sym, ap, subst, ◌∙◌}
+use Rattle.std.proofs.Common.{◌≡◌, true, sym, subst}
 use Rattle.follower_rules.specs.Replicas.{is_waiting}
 use Rattle.replica_store.specs.Copies.{CopyOf, copy}
-use Rattle.replica_store.specs.Settling.{is_claimed, noted_if}
 use Rattle.replica_store.proofs.Entries.{without_none}
 use Rattle.replica_store.proofs.Sound.{sound_noted, sound_as}
 use Rattle.replica_store.proofs.replica.Replica.note_answer.Goals as goal
@@ -14,8 +13,6 @@ returns-then-not-is_waiting-clause-world c =
 
 pub invariant_of-self-2 : goal.invariant_of-self-2
 invariant_of-self-2 c =
-    let before : CopyOf = copy c.self.inside.history c.self.inside.waiting.items c.self.inside.noted.items c.self.inside.claims.items c.self.inside.dropped in
+    let before : CopyOf = copy c.self.inside.history c.self.inside.waiting.items c.self.inside.noted.items c.self.inside.dropped in
     let waits = subst (λ (v : CopyOf). is_waiting c.args.id.now v.waiting ≡ true) (sym c.self.view_is) (sym c.if-not-is_waiting.ensures) in
-    let claimed = c.is_claimed-claimed.ensures ∙ ap (is_claimed c.args.id.now) c.as_slice.ensures.value in
-    let noted = c.in_ok-note_if.ensures.ok ∙ ap (λ (b : Bool). noted_if b before.noted c.args.id.now c.args.verdict) claimed in
-    sound_as before.history _ _ _ _ _ _ before.dropped c.settle.ensures noted (λ _. before.claims) (sound_noted before c.args.id.now c.args.verdict c.self.invariant waits)
+    sound_as before.history _ _ _ _ before.dropped c.settle.ensures c.in_ok-note.ensures.ok (sound_noted before c.args.id.now c.args.verdict c.self.invariant waits)

@@ -11,4 +11,4 @@ returns-then-is_none-clause-answer c =
 pub returns-then-is_none-clause-after : goal.returns-then-is_none-clause-after
 returns-then-is_none-clause-after c =
     let none : finite.get c.args.self.now c.args.name.now ≡ None = search rules in
-    unsettled_none c.args.self.now c.args.name.now none c.args.id.now
+    unsettled_none c.args.self.now c.args.name.now none c.args.id.now c.args.verdict

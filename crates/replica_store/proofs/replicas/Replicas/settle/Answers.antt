@@ -13,7 +13,7 @@ invariant_of-self c =
     let there = lent c.self.inside.copies m c.args.name.now b c.self.view_is c.in-Some.ensures.value in
     let own = named_get m c.args.name.now b named there in
     let put = written c.self.inside.copies (c.get_mut.follows.lender c.note_answer.new.self) m c.args.name.now b c.note_answer.new.self c.self.view_is c.in-Some.ensures.value (c.get_mut.follows.holds c.note_answer.new.self).3 in
-    subst (λ (z : Copies). AreNamed z) (sym put) (named_insert m c.args.name.now c.note_answer.new.self named (noted_name m c.args.name.now b c.note_answer.new.self there c.note_answer.result c.args.id.now c.args.verdict c.note_answer.ensures.ok c.note_answer.ensures.world c.note_answer.ensures.same own))
+    subst (λ (z : Copies). AreNamed z) (sym put) (named_insert m c.args.name.now c.note_answer.new.self named (noted_name m c.args.name.now b c.note_answer.new.self there c.note_answer.result c.args.id.now c.args.verdict c.note_answer.ensures.ok c.note_answer.ensures.same own))
 
 pub returns-clause-answer : goal.returns-clause-answer
 returns-clause-answer c =
@@ -21,7 +21,7 @@ returns-clause-answer c =
     let b = c.in-Some.copy.now in
     let named = subst (λ (z : Copies). AreNamed z) c.self.view_is c.self.invariant in
     let there = lent c.self.inside.copies m c.args.name.now b c.self.view_is c.in-Some.ensures.value in
-    each_noted m c.args.name.now b c.note_answer.new.self there c.note_answer.result c.args.id.now c.args.verdict c.note_answer.ensures.ok c.note_answer.ensures.world c.note_answer.ensures.same
+    each_noted m c.args.name.now b c.note_answer.new.self there c.note_answer.result c.args.id.now c.args.verdict c.note_answer.ensures.ok c.note_answer.ensures.same
 
 pub returns-clause-after : goal.returns-clause-after
 returns-clause-after c =
@@ -30,7 +30,7 @@ returns-clause-after c =
     let named = subst (λ (z : Copies). AreNamed z) c.self.view_is c.self.invariant in
     let there = lent c.self.inside.copies m c.args.name.now b c.self.view_is c.in-Some.ensures.value in
     let put = written c.self.inside.copies (c.get_mut.follows.lender c.note_answer.new.self) m c.args.name.now b c.note_answer.new.self c.self.view_is c.in-Some.ensures.value (c.get_mut.follows.holds c.note_answer.new.self).3 in
-    subst (λ (z : Copies). OnOk c.note_answer.result (worlds_of z ≡ answer_in (worlds_of m) c.args.name.now c.args.id.now)) (sym put) (each_settled m c.args.name.now b c.note_answer.new.self there c.note_answer.result c.args.id.now c.args.verdict c.note_answer.ensures.ok c.note_answer.ensures.world c.note_answer.ensures.same)
+    subst (λ (z : Copies). OnOk c.note_answer.result (worlds_of z ≡ answer_in (worlds_of m) c.args.name.now c.args.id.now c.args.verdict)) (sym put) (each_settled m c.args.name.now b c.note_answer.new.self there c.note_answer.result c.args.id.now c.args.verdict c.note_answer.ensures.ok c.note_answer.ensures.same)
 
 pub returns-clause-same : goal.returns-clause-same
 returns-clause-same c =
@@ -39,7 +39,7 @@ returns-clause-same c =
     let named = subst (λ (z : Copies). AreNamed z) c.self.view_is c.self.invariant in
     let there = lent c.self.inside.copies m c.args.name.now b c.self.view_is c.in-Some.ensures.value in
     let put = written c.self.inside.copies (c.get_mut.follows.lender c.note_answer.new.self) m c.args.name.now b c.note_answer.new.self c.self.view_is c.in-Some.ensures.value (c.get_mut.follows.holds c.note_answer.new.self).3 in
-    subst (λ (z : Copies). OnErr c.note_answer.result (worlds_of z ≡ worlds_of m)) (sym put) (each_kept m c.args.name.now b c.note_answer.new.self there c.note_answer.result c.args.id.now c.args.verdict c.note_answer.ensures.ok c.note_answer.ensures.world c.note_answer.ensures.same)
+    subst (λ (z : Copies). OnErr c.note_answer.result (worlds_of z ≡ worlds_of m)) (sym put) (each_kept m c.args.name.now b c.note_answer.new.self there c.note_answer.result c.args.id.now c.args.verdict c.note_answer.ensures.ok c.note_answer.ensures.same)
 
 pub unreachable-requires : goal.unreachable-requires
 unreachable-requires c = absent c.self.inside.copies c.args.self.now c.args.name.now c.self.view_is c.requires (sym c.in_default.ensures.value)
