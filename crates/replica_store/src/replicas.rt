@@ -4,8 +4,8 @@ ghost use Rattle.std.specs.FinMap as finite;
 ghost use Rattle.replica_store.specs.Listings.{IsSought, relays_of, reaches_of};
 ghost use Rattle.replica_store.specs.Worlds.{AreNamed, worlds_of, world_at, answer_at, take_in, queued_at, queue_in, waits_at, answer_in, has_more, drop_in, with_taken};
 
-use crate::{Queued, Replica};
 use crate::sought::Sought;
+use crate::{Queued, Replica};
 use doc_items::Memory;
 use peer_turns::{Absorbed, CopyAt, Relay};
 use std::alloc::Global;
