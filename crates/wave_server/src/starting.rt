@@ -1,5 +1,5 @@
 // What is done when a link was accepted.
-ghost use Rattle.std.specs.Prelude.{◌≡◌, ◌≤◌, ◌+◌, ◌⊎◌, true, length, vec_len, vec_capacity, OnOk, IfErr, MatchResult};
+ghost use Rattle.std.specs.Prelude.{◌≡◌, ◌≤◌, ◌+◌, ◌⊎◌, true, length, vec_len, vec_capacity, IfSome, OnOk, IfErr, MatchResult};
 ghost use Rattle.std.specs.Arc.{arc_value};
 ghost use denote.Param.Send.{IsSend};
 ghost use Rattle.wave_outside.specs.Counts.{Rose};
@@ -16,6 +16,20 @@ use std::alloc::{AllocError, Global};
 use std::sync::{Arc, Wait};
 use wave_outside::{Clock, Folder, Gate, Net, Spawner};
 
+// Takes the room for the report of one end more than so many jobs give, where ends are kept.
+fn reserve_report(ended: &mut Vec<Ended>, jobs: usize, keeps: bool) -> Result<(), AllocError>
+    ensures ended { (ended.new.items ≡ ended.old.items) × (vec_len ended.new ≡ vec_len ended.old) × (vec_capacity ended.old ≤ vec_capacity ended.new) }
+    ensures report { OnOk result (keeps ≡ true → vec_len ended.new + (jobs + 1) ≤ vec_capacity ended.new) }
+{
+    if !keeps {
+        return Ok(());
+    }
+    let Some(more) = jobs.checked_add(1) else {
+        return Err(AllocError);
+    };
+    ended.reserve(more)
+}
+
 // Takes the room for one more job, and for the report of its end where ends are kept.
 fn reserve<J>(ended: &mut Vec<Ended>, jobs: &mut Vec<J>, keeps: bool) -> Result<(), AllocError>
     ensures jobs { (jobs.new.items ≡ jobs.old.items) × (vec_len jobs.new ≡ vec_len jobs.old) }
@@ -23,13 +37,31 @@ fn reserve<J>(ended: &mut Vec<Ended>, jobs: &mut Vec<J>, keeps: bool) -> Result<
     ensures ended { (ended.new.items ≡ ended.old.items) × (vec_len ended.new ≡ vec_len ended.old) × (vec_capacity ended.old ≤ vec_capacity ended.new) }
     ensures report { OnOk result (keeps ≡ true → vec_len ended.new + (vec_len jobs.new + 1) ≤ vec_capacity ended.new) }
 {
-    if keeps {
-        let Some(more) = jobs.len().checked_add(1) else {
-            return Err(AllocError);
-        };
-        ended.reserve(more)?;
+    match reserve_report(ended, jobs.len(), keeps) {
+        Ok(()) => jobs.reserve(1),
+        Err(fault) => Err(fault),
     }
-    jobs.reserve(1)
+}
+
+// A second handle of the hub, with passes that have seen as much. None for want of memory.
+fn share<F: Folder + Drop>(
+    alloc: Global,
+    hub: &Arc<Hub<F>, Global>,
+    passes: &mut Passes<F>,
+) -> Option<(Arc<Hub<F>, Global>, Passes<F>)>
+    requires { AreOfHub (arc_value hub.now) passes.old }
+    ensures own { AreOfHub (arc_value hub.now) passes.new }
+    ensures later { Begins passes.old passes.new }
+    ensures same { IfSome result (λ p. arc_value p.0 ≡ arc_value hub.now) }
+    ensures part { IfSome result (λ p. AreOfHub (arc_value hub.now) p.1) }
+{
+    let Ok(theirs) = Arc::try_clone(hub) else {
+        return None;
+    };
+    match hub.split(alloc, passes) {
+        Ok(part) => Some((theirs, part)),
+        Err(_) => None,
+    }
 }
 
 /// Starts a job for a link.
@@ -71,10 +103,7 @@ pub(crate) fn start_job<
     if reserve(&mut server.ended, jobs, keeps).is_err() {
         return Err(Stop::Memory);
     }
-    let Ok(theirs) = Arc::try_clone(hub) else {
-        return Err(Stop::Memory);
-    };
-    let Ok(part) = hub.split(alloc, passes) else {
+    let Some((theirs, part)) = share(alloc, hub, passes) else {
         return Err(Stop::Memory);
     };
     let job = LinkJob::new(

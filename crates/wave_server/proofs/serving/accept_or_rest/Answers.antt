@@ -1,6 +1,8 @@
-use Rattle.std.proofs.Common.{◌∙◌}
+use Rattle.std.proofs.Common.{◌∙◌, ◌≡◌, ◌≢◌, MatchBool, is_some, ap, sym, subst, arith}
 use Rattle.std.specs.Arc.{arc_value}
 use Rattle.shard_marks.specs.Passes.{marks_of}
+use Rattle.std.proofs.lemmas.Bool.{false≢true}
+use Rattle.wave_server.specs.declared.stop.Stop.TheVariants.{Spent}
 use Rattle.wave_server.proofs.Ending.{served_same}
 use Rattle.wave_server.proofs.serving.accept_or_rest.Goals as goal
 
@@ -18,3 +20,108 @@ pub returns-in-Err-clause-served : goal.returns-in-Err-clause-served
 returns-in-Err-clause-served g c before =
     served_same g.N.Link.Link.tells g.N.Link.Link.events g.N.Link.Link.faults g.N.Link.Link.closed (arc_value c.args.hub.now).domain (marks_of c.args.passes.now) (marks_of c.accept_one.new.passes)
     c.accept_one.ensures.later c.args.keeps _ _ before _ _ _ _ c.accept_one.ensures.spent.0 c.accept_one.ensures.ended.1 c.accept_one.ensures.ended.0
+
+pub returns-in-Ok-true-clause-own : goal.returns-in-Ok-true-clause-own
+returns-in-Ok-true-clause-own g c = c.accept_one.ensures.own
+
+pub returns-in-Ok-true-clause-later : goal.returns-in-Ok-true-clause-later
+returns-in-Ok-true-clause-later g c = c.accept_one.ensures.later
+
+pub returns-in-Ok-true-clause-ours : goal.returns-in-Ok-true-clause-ours
+returns-in-Ok-true-clause-ours g c = c.accept_one.ensures.ours
+
+pub returns-in-Ok-true-clause-out : goal.returns-in-Ok-true-clause-out
+returns-in-Ok-true-clause-out g c = c.accept_one.ensures.out
+
+pub returns-in-Ok-true-clause-room : goal.returns-in-Ok-true-clause-room
+returns-in-Ok-true-clause-room g c = c.accept_one.ensures.room
+
+pub returns-in-Ok-true-clause-most : goal.returns-in-Ok-true-clause-most
+returns-in-Ok-true-clause-most g c = omega (arith, c.requires.most)
+
+pub returns-in-Ok-true-clause-all : goal.returns-in-Ok-true-clause-all
+returns-in-Ok-true-clause-all g c = λ e. absurd (false≢true e)
+
+pub returns-in-Ok-true-clause-spent : goal.returns-in-Ok-true-clause-spent
+returns-in-Ok-true-clause-spent g c = ap is_some c.accept_one.ensures.spent.0 ∙ c.requires.spent
+
+pub returns-in-Ok-true-clause-refused : goal.returns-in-Ok-true-clause-refused
+returns-in-Ok-true-clause-refused g c = tt
+
+pub returns-in-Ok-true-clause-door : goal.returns-in-Ok-true-clause-door
+returns-in-Ok-true-clause-door g c = tt
+
+pub returns-in-Ok-true-clause-counts : goal.returns-in-Ok-true-clause-counts
+returns-in-Ok-true-clause-counts g c = c.accept_one.ensures.counts
+
+pub returns-in-Ok-false-clause-own : goal.returns-in-Ok-false-clause-own
+returns-in-Ok-false-clause-own g c = c.accept_one.ensures.own
+
+pub returns-in-Ok-false-clause-later : goal.returns-in-Ok-false-clause-later
+returns-in-Ok-false-clause-later g c = c.accept_one.ensures.later
+
+pub returns-in-Ok-false-clause-ours : goal.returns-in-Ok-false-clause-ours
+returns-in-Ok-false-clause-ours g c = c.accept_one.ensures.ours
+
+pub returns-in-Ok-false-clause-out : goal.returns-in-Ok-false-clause-out
+returns-in-Ok-false-clause-out g c = omega (arith, c.accept_one.ensures.out, c.rest.ensures.same.1)
+
+pub returns-in-Ok-false-clause-room : goal.returns-in-Ok-false-clause-room
+returns-in-Ok-false-clause-room g c = c.accept_one.ensures.room
+
+pub returns-in-Ok-false-clause-most : goal.returns-in-Ok-false-clause-most
+returns-in-Ok-false-clause-most g c = omega (arith, c.requires.most)
+
+pub returns-in-Ok-false-clause-all : goal.returns-in-Ok-false-clause-all
+returns-in-Ok-false-clause-all g c = λ e. absurd (false≢true e)
+
+pub returns-in-Ok-false-clause-spent : goal.returns-in-Ok-false-clause-spent
+returns-in-Ok-false-clause-spent g c = ap is_some c.accept_one.ensures.spent.0 ∙ c.requires.spent
+
+pub returns-in-Ok-false-clause-refused : goal.returns-in-Ok-false-clause-refused
+returns-in-Ok-false-clause-refused g c = tt
+
+pub returns-in-Ok-false-clause-door : goal.returns-in-Ok-false-clause-door
+returns-in-Ok-false-clause-door g c = tt
+
+pub returns-in-Ok-false-clause-counts : goal.returns-in-Ok-false-clause-counts
+returns-in-Ok-false-clause-counts g c = (c.accept_one.ensures.counts.0, omega (arith, c.accept_one.ensures.counts.1, c.rest.ensures.counts.0))
+
+pub returns-in-Err-clause-own : goal.returns-in-Err-clause-own
+returns-in-Err-clause-own g c = c.accept_one.ensures.own
+
+pub returns-in-Err-clause-later : goal.returns-in-Err-clause-later
+returns-in-Err-clause-later g c = c.accept_one.ensures.later
+
+pub returns-in-Err-clause-ours : goal.returns-in-Err-clause-ours
+returns-in-Err-clause-ours g c = c.accept_one.ensures.ours
+
+pub returns-in-Err-clause-out : goal.returns-in-Err-clause-out
+returns-in-Err-clause-out g c = c.accept_one.ensures.out
+
+pub returns-in-Err-clause-room : goal.returns-in-Err-clause-room
+returns-in-Err-clause-room g c = c.accept_one.ensures.room
+
+pub returns-in-Err-clause-total : goal.returns-in-Err-clause-total
+returns-in-Err-clause-total g c = tt
+
+pub returns-in-Err-clause-most : goal.returns-in-Err-clause-most
+returns-in-Err-clause-most g c = tt
+
+pub returns-in-Err-clause-all : goal.returns-in-Err-clause-all
+returns-in-Err-clause-all g c = tt
+
+pub returns-in-Err-clause-accepted : goal.returns-in-Err-clause-accepted
+returns-in-Err-clause-accepted g c base e = tt
+
+pub returns-in-Err-clause-spent : goal.returns-in-Err-clause-spent
+returns-in-Err-clause-spent g c = subst (λ b. MatchBool b (c.in-Err.stop ≡ Spent) (c.in-Err.stop ≢ Spent)) (sym (ap is_some c.accept_one.ensures.spent.0 ∙ c.requires.spent)) c.in-Err.ensures.spent.1
+
+pub returns-in-Err-clause-refused : goal.returns-in-Err-clause-refused
+returns-in-Err-clause-refused g c = c.in-Err.ensures.refused
+
+pub returns-in-Err-clause-door : goal.returns-in-Err-clause-door
+returns-in-Err-clause-door g c = c.in-Err.ensures.door
+
+pub returns-in-Err-clause-counts : goal.returns-in-Err-clause-counts
+returns-in-Err-clause-counts g c = c.accept_one.ensures.counts

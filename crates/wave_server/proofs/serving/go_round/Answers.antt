@@ -1,0 +1,46 @@
+use Rattle.std.proofs.Common.{arith, ◌∙◌, refl}
+use Rattle.std.specs.Arc.{arc_value}
+use Rattle.std.proofs.lemmas.Bool.{false≢true}
+use Rattle.shard_marks.specs.Passes.{marks_of}
+use Rattle.wave_server.proofs.Ending.{begins_self, served_same}
+use Rattle.wave_server.proofs.serving.go_round.Goals as goal
+
+-- a session more may begin
+pub returns-then-started-most : goal.returns-then-started-most
+returns-then-started-most g c = record {
+  own = c.accept_or_rest.ensures.own;
+  later = c.accept_or_rest.ensures.later;
+  ours = c.accept_or_rest.ensures.ours;
+  out = c.accept_or_rest.ensures.out;
+  room = c.accept_or_rest.ensures.room;
+  total = c.accept_or_rest.ensures.total;
+  most = c.accept_or_rest.ensures.most;
+  all = c.accept_or_rest.ensures.all;
+  accepted = c.accept_or_rest.ensures.accepted;
+  spent = c.accept_or_rest.ensures.spent;
+  refused = c.accept_or_rest.ensures.refused;
+  door = c.accept_or_rest.ensures.door;
+  counts = c.accept_or_rest.ensures.counts;
+  served = c.accept_or_rest.ensures.served;
+}
+
+-- it sleeps
+pub returns : goal.returns
+returns g c = record {
+  own = c.requires.own;
+  later = begins_self c.args.passes.now;
+  ours = c.requires.ours;
+  out = omega (arith, c.requires.out, c.rest.ensures.same.1);
+  room = c.requires.room;
+  total = c.requires.total;
+  most = c.requires.most;
+  all = λ e. absurd (false≢true e);
+  accepted = λ base e. c.rest.ensures.same.0 ∙ e;
+  spent = c.requires.spent;
+  refused = tt;
+  door = tt;
+  counts = (omega arith, omega (arith, c.rest.ensures.counts.0));
+  served = λ before.
+      served_same g.N.Link.Link.tells g.N.Link.Link.events g.N.Link.Link.faults g.N.Link.Link.closed (arc_value c.args.hub.now).domain (marks_of c.args.passes.now) (marks_of c.args.passes.now)
+      (begins_self c.args.passes.now) c.args.keeps _ _ before _ _ _ _ refl c.rest.ensures.same.2 refl;
+}
