@@ -1,4 +1,4 @@
-ghost use Rattle.std.specs.Prelude.{◌≡◌, ◌≤◌, ◌<◌, ◌+◌, ◌++◌, ◌||◌, true, false, Some, None, is_some, option_copied, IsTrue, IsSome};
+ghost use Rattle.std.specs.Prelude.{◌≡◌, ◌≤◌, ◌<◌, ◌+◌, ◌-◌, ◌^◌, ◌++◌, ◌||◌, min, true, false, Some, None, is_some, option_copied, IsTrue, IsSome};
 ghost use mathlib.Core.List.{IsPrefix};
 ghost use Rattle.std.specs.Coded.{Coded-set, coded_bool};
 ghost use Rattle.std.specs.List.{All};
@@ -74,6 +74,13 @@ impl<L: Link> PeerLink<L> {
         self.link.as_ref()
     }
 
+    /// Whether the next step dials, and puts the link back first, where there is one.
+    pub fn is_cut(&self) -> bool
+        ensures { result ≡ is_cut self.now.ear }
+    {
+        self.ear.is_cut()
+    }
+
     /// The link, by value; None exactly where there is none.
     pub fn close(self) -> Option<L>
         ensures { result ≡ self.link }
@@ -127,6 +134,7 @@ impl<L: Link> PeerLink<L> {
         ensures back { N.back net.new ≡ N.back net.old ++ list_in self.old.link }
         ensures out { N.out net.new + count_in self.old.link ≡ N.out net.old }
         ensures line { N.line net.new ≡ line_after L.faults self.old.link (N.line net.old) }
+        ensures rises { min (N.line net.old) (2 ^ 64 - 1) ≤ N.line net.new }
         ensures asked { IsTrue N.tells → N.asked net.new ≡ N.asked net.old }
         ensures same { (N.door net.new ≡ N.door net.old) × (N.accepted net.new ≡ N.accepted net.old) × (N.looks net.new ≡ N.looks net.old) }
         ensures names { (self.new.domain ≡ self.old.domain) × (self.new.own ≡ self.old.own) × (self.new.address ≡ self.old.address) }
@@ -152,6 +160,7 @@ impl<L: Link> PeerLink<L> {
         requires out { 0 < N.out net.old }
         ensures begun { Begins L.Link T.PeerTurns self.old.domain self.old.own self.new.link self.new.ear self.new.unanswered turns.old turns.new result }
         ensures back { IsBack result None (N.back net.old) (N.back net.new) }
+        ensures rises { min (N.line net.old) (2 ^ 64 - 1) ≤ N.line net.new }
         ensures out { N.out net.new + 1 ≡ N.out net.old + count_in self.new.link }
         ensures asked { IsTrue N.tells → N.asked net.new ≡ N.asked net.old }
         ensures same { (N.door net.new ≡ N.door net.old) × (N.accepted net.new ≡ N.accepted net.old) × (N.looks net.new ≡ N.looks net.old) }
@@ -217,6 +226,7 @@ impl<L: Link> PeerLink<L> {
         requires out { IsSome self.old.link → 0 < N.out net.old }
         ensures dialled { Dials L.Link T.PeerTurns self.old.domain self.old.own self.old.link self.new.link self.new.ear self.new.unanswered turns.old turns.new (N.line net.old) (N.line net.new) result }
         ensures back { IsBack result self.old.link (N.back net.old) (N.back net.new) }
+        ensures rises { min (N.line net.old) (2 ^ 64 - 1) ≤ N.line net.new }
         ensures out { N.out net.new + count_in self.old.link ≡ N.out net.old + count_in self.new.link }
         ensures asked { IsTrue N.tells → WasAsked result (encode_utf8_all self.old.address) (N.asked net.old) (N.asked net.new) }
         ensures same { (N.door net.new ≡ N.door net.old) × (N.accepted net.new ≡ N.accepted net.old) × (N.looks net.new ≡ N.looks net.old) }
@@ -257,6 +267,7 @@ impl<L: Link> PeerLink<L> {
             → IsGone self.old.link self.new.link (λ l m. (L.faults l ≤ L.faults m) × (IsTrue L.tells → IsPrefix (L.events l) (L.events m))) }
         ensures idle { is_cut self.old.ear ≡ false → Rests L.Link T.PeerTurns self.old.domain self.old.link self.new.link turns.old turns.new result }
         ensures apart { is_cut self.old.ear ≡ false → net.new ≡ net.old }
+        ensures rises { min (N.line net.old) (2 ^ 64 - 1) ≤ N.line net.new }
         ensures out { N.out net.new + count_in self.old.link ≡ N.out net.old + count_in self.new.link }
         ensures same { (N.door net.new ≡ N.door net.old) × (N.accepted net.new ≡ N.accepted net.old) × (N.looks net.new ≡ N.looks net.old) }
         ensures spent { IsTrue T.tells → refusals (T.calls turns.new) ≡ refusals (T.calls turns.old) ++ refused result }
