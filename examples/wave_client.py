@@ -172,6 +172,9 @@ class Copy:
         self.version, self.hash, self.documents, self.participants = 0, zero_hash(wavelet), {}, {}
         self.flight, self.awaited, self.acknowledged, self.refused, self.is_open = None, None, [], [], False
 
+    def is_hosted_here(self):
+        return self.wavelet.split("/")[2] == self.session.user.rpartition("@")[2]
+
     def text(self, document):
         return "".join(item for item in self.documents.get(document, []) if isinstance(item, str))
 
@@ -207,7 +210,8 @@ class Copy:
             self.is_open = True
         elif kind in ("closed", "unopened"):
             self.is_open = False
-            if message["reason"] in ("UnknownVersion", "WrongHash"):
+            # a server that keeps a copy itself may not have come so far again
+            if message["reason"] == "WrongHash" or message["reason"] == "UnknownVersion" and self.is_hosted_here():
                 raise LookupError("the server's history isn't the one that this copy is of")
         elif kind == "ack":
             self.note_ack(message)

@@ -2,11 +2,10 @@
 --     option_rule, word_rule      an option with a value, as `--store DIR`;  a word that must be there
 --     flag_rule                   an option without a value, as `--echo`
 --     pipe, load, play, inbox     commands, as clap has them
---     door, serve                 the options that `serve` must have;  with those that it may have
+--     door, serve                 the options that say for whom a server speaks, where, and with which others;  with the rest
 --     writer, edit                the options that say who types;  with the address
 --     plain_top, storeless, storing, serving, wave     the program: the commands that need no store, with those that need one, with
 --                                 that of a server, with all
---     is_value v                  a value isn't empty and doesn't begin with `-`
 --     digits limit n cs           the number that goes on with these digits, up to the limit
 --     number limit text           decimal digits without a sign or a leading zero, up to the limit
 --     max_load, max_sessions, max_client      the greatest numbers of `load`, of `--sessions` and of `--client`
@@ -18,6 +17,7 @@
 --     folder v                    a value as a folder
 --     flag v                      whether an option without a value is there; clap gives it the value `true` or `false`
 --     both a b                    two values, where there are both
+--     host l d ps                 where a server listens, its domain and the servers of others (`Peers`)
 --     paired make a b             what is made of two values, where there are both
 --     CommandOf                   a command
 --     needs_net c                 it is one over a net
@@ -33,6 +33,8 @@ use Rattle.clap.specs.Walk.{Row, is_empty}
 use Rattle.clap.specs.Faults.{fault_of}
 use Rattle.clap.specs.declared.builder.action.ArgAction.TheVariants.{Set, SetTrue}
 use Rattle.wave_base.specs.Grammar.{is_address, is_domain, is_wavelet_name}
+use Rattle.command_words.specs.Values.{is_value}
+use Rattle.command_words.specs.Peers.{Peer, peers_by}
 
 -- ---- as clap has them
 
@@ -58,7 +60,8 @@ abbrev pub inbox : App
 inbox = with_rule (with_rule (new_app (codes "inbox")) (option_rule (codes "store") true)) (option_rule (codes "user") true)
 
 abbrev pub door : App
-door = with_rule (with_rule (new_app (codes "serve")) (option_rule (codes "domain") true)) (option_rule (codes "listen") true)
+door = with_rule (with_rule (with_rule (new_app (codes "serve")) (option_rule (codes "domain") true)) (option_rule (codes "listen") true))
+    (option_rule (codes "peer") false)
 
 abbrev pub serve : App
 serve = with_rule (with_rule (with_rule door (option_rule (codes "sessions") false)) (option_rule (codes "store") false)) (flag_rule (codes "echo"))
@@ -87,10 +90,6 @@ abbrev pub wave : App
 wave = with_subcommand serving edit.top
 
 -- ---- values
-
-abbrev pub is_value : List ℕ → Bool
-is_value [] = false
-is_value (c ∷ cs) = not (c == 45)
 
 abbrev pub is_digit : ℕ → Bool
 is_digit c = nat_le 48 c && nat_le c 57
@@ -129,7 +128,7 @@ pub data CommandOf : Type 0 where
   Load : ℕ → CommandOf
   Play : List ℕ → List ℕ → CommandOf
   Inbox : List ℕ → List ℕ → CommandOf
-  Serve : List ℕ → List ℕ → Option ℕ → Option (List ℕ) → Bool → CommandOf
+  Serve : List ℕ → List ℕ → List Peer → Option ℕ → Option (List ℕ) → Bool → CommandOf
   Edit : List ℕ → ℕ → List ℕ → CommandOf
 
 abbrev pub needs_net : CommandOf → Bool
@@ -137,7 +136,7 @@ needs_net (Pipe store) = false
 needs_net (Load n) = false
 needs_net (Play store wavelet) = false
 needs_net (Inbox store user) = false
-needs_net (Serve domain listen sessions store echo) = true
+needs_net (Serve domain listen peers sessions store echo) = true
 needs_net (Edit user client connect) = true
 
 abbrev pub loaded : Option (List ℕ) → Option CommandOf
@@ -179,11 +178,16 @@ played store wavelet = paired Play (given store) (checked is_wavelet_name wavele
 abbrev pub inboxed : Option (List ℕ) → Option (List ℕ) → Option CommandOf
 inboxed store user = paired Inbox (given store) (checked is_address user)
 
-abbrev pub served : (listen domain sessions store : Option (List ℕ)) → (echo : Bool) → Option CommandOf
-served listen domain sessions store echo = paired (λ d b. Serve d.1 d.0 b.0 b.1 echo) (both (given listen) (checked is_domain domain)) (both (perhaps session_number sessions) (perhaps folder store))
+abbrev pub host : (listen domain peers : Option (List ℕ)) → Option (List ℕ × List ℕ × List Peer)
+host listen domain peers = option_and_then (λ d. option_map (λ ps. (d.0, d.1, ps)) (peers_by d.1 peers)) (both (given listen) (checked is_domain domain))
+
+abbrev pub served : (listen domain peers sessions store : Option (List ℕ)) → (echo : Bool) → Option CommandOf
+served listen domain peers sessions store echo = paired (λ h b. Serve h.1 h.0 h.2 b.0 b.1 echo) (host listen domain peers)
+    (both (perhaps session_number sessions) (perhaps folder store))
 
 abbrev pub served_by : List Row → Option CommandOf
-served_by r = served (first_of (codes "listen") r) (first_of (codes "domain") r) (first_of (codes "sessions") r) (first_of (codes "store") r) (flag (first_of (codes "echo") r))
+served_by r = served (first_of (codes "listen") r) (first_of (codes "domain") r) (first_of (codes "peer") r)
+    (first_of (codes "sessions") r) (first_of (codes "store") r) (flag (first_of (codes "echo") r))
 
 abbrev pub edited : (connect user client : Option (List ℕ)) → Option CommandOf
 edited connect user client = paired (λ w k. Edit w.1 k w.0) (both (given connect) (checked is_address user)) (option_and_then client_key client)

@@ -1,2 +1,4 @@
+pub mod Values
+pub mod Peers
 pub mod Commands
 pub mod Shown

@@ -9,5 +9,5 @@ shown (read.Pipe store) = Pipe (option_map (λ s. s.now) store)
 shown (read.Load count) = Load count
 shown (read.Play store wavelet) = Play store.now wavelet
 shown (read.Inbox store user) = Inbox store.now user
-shown (read.Serve domain listen sessions store echo) = Serve domain listen.now sessions (option_map (λ s. s.now) store) echo
+shown (read.Serve domain listen peers sessions store echo) = Serve domain listen.now peers sessions (option_map (λ s. s.now) store) echo
 shown (read.Edit user client connect) = Edit user client connect.now

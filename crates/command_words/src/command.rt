@@ -1,10 +1,11 @@
 ghost use Rattle.std.specs.Prelude.{◌≡◌, Some, None, true, IfOk, IfErr, option_map, option_and_then, map, string_bytes};
 ghost use Rattle.clap.specs.Words.{first_of, subcommand_rows_of};
-ghost use Rattle.command_words.specs.Commands.{stored, loaded, checked, given, perhaps, folder, flag, both, session_number, played, inboxed, served, served_by, client_key, edited, edited_by, named_net, named_past, named, is_cut, accepted, command_of, needs_net};
+ghost use Rattle.command_words.specs.Commands.{stored, loaded, checked, given, perhaps, folder, flag, both, host, session_number, played, inboxed, served, served_by, client_key, edited, edited_by, named_net, named_past, named, is_cut, accepted, command_of, needs_net};
 ghost use Rattle.command_words.specs.Shown.{shown};
 
 use crate::grammar::matches_of;
 use crate::name::{Name, name_of};
+use crate::peers::{PeerList, peers_by};
 use crate::values::{is_value, number};
 use clap::ArgMatches;
 use std::alloc::Global;
@@ -40,11 +41,13 @@ pub enum Command<'a> {
         store: &'a str,
         user: Address,
     },
-    /// Sessions of a domain's users over a net, at this address, with the wavelets of a folder where one is named, and with the robot
-    /// `echo` where it is asked for. It ends after this number of sessions, from 1 to 1,000,000, where there is one.
+    /// Sessions of a domain's users over a net, at this address, with the servers of other domains, with the wavelets of a folder where
+    /// one is named, and with the robot `echo` where it is asked for. It ends after this number of sessions, from 1 to 1,000,000, where
+    /// there is one.
     Serve {
         domain: Domain,
         listen: &'a str,
+        peers: PeerList,
         sessions: Option<u64>,
         store: Option<&'a str>,
         echo: bool,
@@ -76,6 +79,7 @@ impl Command<'_> {
             Command::Serve {
                 domain: _domain,
                 listen: _listen,
+                peers: _peers,
                 sessions: _sessions,
                 store: _store,
                 echo: _echo,
@@ -256,24 +260,50 @@ fn bounds<'a>(
     }
 }
 
+// Where a server listens, its domain and the servers of others.
+fn host<'a>(
+    alloc: Global,
+    listen: Option<&'a str>,
+    domain: Option<&str>,
+    peers: Option<&str>,
+) -> Result<(&'a str, Domain, PeerList), WordsFault>
+    ensures ok { IfOk result (λ r. host (option_map (λ s. s.now) listen.entry) (option_map (λ s. s.now) domain.entry)
+        (option_map (λ s. s.now) peers.entry) ≡ Some (r.0.now, r.1, r.2)) }
+    ensures refused { IfErr result (λ e. e ≡ WordsFault.Usage → host (option_map (λ s. s.now) listen.entry)
+        (option_map (λ s. s.now) domain.entry) (option_map (λ s. s.now) peers.entry) ≡ None) }
+{
+    match both::<Domain>(alloc, listen, domain) {
+        Err(fault) => Err(fault),
+        Ok((listen, domain)) => match peers_by(alloc, &domain, peers) {
+            Err(fault) => Err(fault),
+            Ok(peers) => Ok((listen, domain, peers)),
+        },
+    }
+}
+
 fn served<'a>(
     alloc: Global,
     listen: Option<&'a str>,
     domain: Option<&str>,
+    peers: Option<&str>,
     count: Option<&str>,
     store: Option<&'a str>,
     echo: bool,
 ) -> Result<Command<'a>, WordsFault>
-    ensures ok { IfOk result (λ c. served (option_map (λ s. s.now) listen.entry) (option_map (λ s. s.now) domain.entry) (option_map (λ s. s.now) count.entry) (option_map (λ s. s.now) store.entry) echo ≡ Some (shown c)) }
-    ensures refused { IfErr result (λ e. e ≡ WordsFault.Usage → served (option_map (λ s. s.now) listen.entry) (option_map (λ s. s.now) domain.entry) (option_map (λ s. s.now) count.entry) (option_map (λ s. s.now) store.entry) echo ≡ None) }
+    ensures ok { IfOk result (λ c. served (option_map (λ s. s.now) listen.entry) (option_map (λ s. s.now) domain.entry)
+        (option_map (λ s. s.now) peers.entry) (option_map (λ s. s.now) count.entry) (option_map (λ s. s.now) store.entry) echo ≡ Some (shown c)) }
+    ensures refused { IfErr result (λ e. e ≡ WordsFault.Usage → served (option_map (λ s. s.now) listen.entry)
+        (option_map (λ s. s.now) domain.entry) (option_map (λ s. s.now) peers.entry) (option_map (λ s. s.now) count.entry)
+        (option_map (λ s. s.now) store.entry) echo ≡ None) }
 {
-    match both(alloc, listen, domain) {
+    match host(alloc, listen, domain, peers) {
         Err(fault) => Err(fault),
-        Ok((listen, domain)) => match bounds(count, store) {
+        Ok((listen, domain, peers)) => match bounds(count, store) {
             Err(fault) => Err(fault),
             Ok((sessions, store)) => Ok(Command::Serve {
                 domain,
                 listen,
+                peers,
                 sessions,
                 store,
                 echo,
@@ -289,12 +319,14 @@ fn served_by<'a>(alloc: Global, matches: &ArgMatches<'a>) -> Result<Command<'a>,
 {
     let listen = value_of(matches, "listen");
     let domain = value_of(matches, "domain");
+    let peers = value_of(matches, "peer");
     let count = value_of(matches, "sessions");
     let store = value_of(matches, "store");
     served(
         alloc,
         listen,
         domain,
+        peers,
         count,
         store,
         is_flagged(matches, "echo"),
@@ -426,7 +458,9 @@ fn accepted<'a>(alloc: Global, words: &'a [String]) -> Result<Command<'a>, Words
 
 /// The command that the words name. Refusal: `Usage` where they name none: where clap refuses them, where a word stands behind `--`,
 /// where a value is empty or begins with `-`, where a number isn't decimal digits without a sign or a leading zero, where that of `load`
-/// is above 100,000, that of sessions isn't from 1 to 1,000,000 or that of a client is above 2^53 - 1, and where a wavelet, a user or a domain isn't a name of its grammar.
+/// is above 100,000, that of sessions isn't from 1 to 1,000,000 or that of a client is above 2^53 - 1, where a wavelet, a user or a
+/// domain isn't a name of its grammar, and where the servers of other domains aren't each a domain of its own, `=` and an address, or one
+/// of them has the domain of the server itself.
 pub fn read_words<'a>(alloc: Global, words: &'a [String]) -> Result<Command<'a>, WordsFault>
     ensures ok { IfOk result (λ c. command_of (map string_bytes words.entry.now) ≡ Some (shown c)) }
     ensures refused { IfErr result (λ e. e ≡ WordsFault.Usage → command_of (map string_bytes words.entry.now) ≡ None) }

@@ -76,14 +76,15 @@ fn inbox<'a>(alloc: Global) -> Result<Command<'a>, AllocError>
         .arg(option(alloc, "user", true))
 }
 
-// The server, with the options that it must have.
+// The server, with the options that say for whom it speaks, where, and with which others.
 fn door<'a>(alloc: Global) -> Result<Command<'a>, AllocError>
     ensures app { IfOk result (λ c. app_of c ≡ door_app) }
     ensures local { IfOk result (λ c. (fields_of c).has_globals ≡ false) }
 {
     Command::new(alloc, "serve")
         .arg(option(alloc, "domain", true))?
-        .arg(option(alloc, "listen", true))
+        .arg(option(alloc, "listen", true))?
+        .arg(option(alloc, "peer", false))
 }
 
 fn serve<'a>(alloc: Global) -> Result<Command<'a>, AllocError>

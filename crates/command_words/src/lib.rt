@@ -4,6 +4,10 @@
 mod command;
 mod grammar;
 mod name;
+mod peers;
+#[cfg(test)]
+mod tests;
 mod values;
 
 pub use command::{Command, WordsFault, read_words};
+pub use peers::PeerList;

@@ -1,6 +1,7 @@
 // Values of options and words.
 ghost use Rattle.std.specs.Prelude.{◌≡◌, ◌≤◌, ◌<◌, ◌+◌, ◌*◌, ◌^◌};
-ghost use Rattle.command_words.specs.Commands.{is_value, digits, number};
+ghost use Rattle.command_words.specs.Commands.{digits, number};
+ghost use Rattle.command_words.specs.Values.{is_value};
 
 /// Whether a value isn't empty and doesn't begin with `-`.
 pub(crate) fn is_value(text: &str) -> bool

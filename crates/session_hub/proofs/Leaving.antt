@@ -1,10 +1,14 @@
 -- What is left for a session that was given all.
---     stays_client     it has no peer, as before
 --     nothing_more     nothing
+--     nothing_at       so it is of a shard
+--     news_short       messages that are short, as news
 use Rattle.std.proofs.Common.{◌≡◌, ◌==◌, ℕ, Bool, true, false, ◌&&◌, List, [], ◌∷◌, ◌++◌, Option, None, Some, refl, sym, ap, ◌∙◌, true≢false}
+use Rattle.std.specs.List.{All, AllByRecursion}
+use Rattle.std.proofs.lemmas.List.Elements.{All-nil, All-cons, All-head, All-tail}
 use Rattle.doc_items.specs.Maps.{Key}
 use Rattle.wavelet_op.specs.Deltas.{DeltaOf}
 use Rattle.wavelet_op.specs.declared.verdict.Verdict.{Verdict}
+use Rattle.delta_history.specs.Copying.{AreAscending}
 use Rattle.delta_history.specs.Histories.{HistoryOf, head_of}
 use Rattle.session_core.specs.declared.session.Party.{Party}
 use Rattle.session_core.specs.declared.session.Party.TheVariants.{Nobody, User, Domain}
@@ -13,8 +17,15 @@ use Rattle.session_core.specs.declared.session.Waiting.{Waiting}
 use Rattle.session_core.specs.declared.session.Session.{Session}
 use Rattle.session_core.specs.Access.{Shown, seen_by}
 use Rattle.session_core.specs.Current.{is_none_left, is_sent, is_opening_sent, are_sent_to, are_sent_for, are_sent}
-use Rattle.session_core.specs.Deliveries.{since, updates, outcome_sent, outcomes_sent, waits_on, still_waiting, opening_news, opening_sent, openings_sent, openings_kept, delivered_to, delivered, after_for, after_delivery}
-use Rattle.session_core.specs.Rules.{party_is_peer, has_peer}
+use Rattle.session_core.specs.Deliveries.{since, updates, outcome_sent, outcomes_sent, waits_on, still_waiting, opening_news, opening_sent, openings_sent, delivered_to, delivered, after_for, after_delivery}
+use Rattle.message_json.specs.Write.{IsShort}
+use Rattle.session_core.specs.News.{message_of, messages_of}
+use Rattle.session_core.specs.declared.news.News.{News}
+use Rattle.shard_marks.specs.declared.mark.Mark.{Mark}
+use Rattle.shard_marks.specs.Histories.{are_sound}
+use Rattle.shard_marks.specs.Marks.{replayed, shown_at}
+use Rattle.shard_marks.proofs.Following.{ascend_replayed}
+use Rattle.shard_marks.proofs.Telling.{IsSoundFrom, nothing_told, sound_hosts}
 
 both : (a b : Bool) → a && b ≡ true → (a ≡ true) × (b ≡ true)
 both true b e = (refl, e)
@@ -47,21 +58,23 @@ module _ (c : Shown) where
       let two = both (is_opening_sent c user o (c.copy o.name)) (are_sent_to c user os) e in
       (λ i. opening_whole user o (c.copy o.name) two.0 i ++ openings_whole user os two.1 i)
 
-  pub stays_client : (s : Session) → has_peer s ≡ false → has_peer (after_delivery c s) ≡ false
-  stays_client s client = go s.party client
+  pub nothing_more : (s : Session) → AreAscending c.hosts → ((domain : Key) → AllByRecursion (IsSoundFrom c domain) c.hosts) → are_sent c (after_delivery c s) ≡ true → delivered c (after_delivery c s) ≡ []
+  nothing_more s ascend sound told = go s.party refl told
     where
-      go : (party : Party) → party_is_peer s.party ≡ false → has_peer (after_for c s party) ≡ false
-      go Nobody e = e
-      go (User user) e = e
-      go (Domain domain) e = e
-
-  pub nothing_more : (s : Session) → has_peer s ≡ false → are_sent c (after_delivery c s) ≡ true → delivered c (after_delivery c s) ≡ []
-  nothing_more s client told = go s.party refl client told
-    where
-      go : (party : Party) → s.party ≡ party → party_is_peer party ≡ false → are_sent c (after_for c s party) ≡ true → delivered c (after_for c s party) ≡ []
-      go Nobody is no_peer e = ap (delivered_to c s) is
-      go (User user) is no_peer e =
+      go : (party : Party) → s.party ≡ party → are_sent c (after_for c s party) ≡ true → delivered c (after_for c s party) ≡ []
+      go Nobody is e = ap (delivered_to c s) is
+      go (User user) is e =
           let after = after_for c s (User user) in
           let whole : are_sent_to c user after.openings ≡ true = sym (ap (are_sent_for c after) is) ∙ e in
           ap (delivered_to c after) is ∙ (λ i. waiting_on s.waiting i ++ openings_whole user after.openings whole i)
-      go (Domain domain) is no_peer e = absurd (true≢false no_peer)
+      go (Domain domain) is e = ap (delivered_to c (after_for c s (Domain domain))) is ∙ nothing_told c domain c.hosts ascend (sound domain) s.tellings
+
+-- a session that was given all of a shard whose histories are sound
+pub nothing_at : (d : Key) (k : ℕ) (ms : List Mark) (s : Session) → are_sound (replayed d k ms) ≡ true → are_sent (shown_at d k ms) (after_delivery (shown_at d k ms) s) ≡ true → delivered (shown_at d k ms) (after_delivery (shown_at d k ms) s) ≡ []
+nothing_at d k ms s sound told = nothing_more (shown_at d k ms) s (ascend_replayed d k ms) (λ domain. sound_hosts d k ms domain sound) told
+
+-- ---- what it is sent
+
+pub news_short : (xs : List News) → All IsShort (messages_of xs) → All (λ n. IsShort (message_of n)) xs
+news_short [] all = All-nil (λ n. IsShort (message_of n))
+news_short (x ∷ xs) all = All-cons (λ n. IsShort (message_of n)) x xs (All-head IsShort (message_of x) (messages_of xs) all) (news_short xs (All-tail IsShort (message_of x) (messages_of xs) all))

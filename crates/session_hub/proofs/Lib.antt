@@ -6,3 +6,5 @@ pub mod Written
 pub mod RobotTurns
 pub mod RobotMoments
 pub mod Sought
+pub mod Sounding
+pub mod Waiting

@@ -10,7 +10,7 @@
 --     loaded_push, loaded_length, loaded_at     shards of some shelves: one more, how many there are, and what one is
 --     parts_in                 the histories of a part of a shelf
 --     seen_loaded              the marks of one shard of a shelf that was divided
-use Rattle.std.proofs.Common.{Less, Equal, Greater, ◌≡◌, ◌≢◌, ◌⊎◌, inl, inr, ◌<◌, ◌≤◌, ℕ, min, zero, suc, ◌+◌, Bool, true, false, ◌&&◌, nat_eq, cond, List, [], ◌∷◌, ◌++◌, length, map, filter, slice_get, get_or, Option, Some, None, IfSome, refl, sym, ap, subst, ◌∙◌, true≢false, arith, append-nil, append_assoc}
+use Rattle.std.proofs.Common.{Less, ◌≡◌, ◌≢◌, ◌⊎◌, inl, inr, ◌<◌, ◌≤◌, ℕ, min, zero, suc, ◌+◌, Bool, true, false, ◌&&◌, nat_eq, cond, List, [], ◌∷◌, ◌++◌, length, map, filter, slice_get, get_or, Option, Some, None, IfSome, refl, sym, ap, subst, ◌∙◌, arith, append-nil, append_assoc}
 use Rattle.std.specs.Cmp.Lexicographic.{slice_cmp}
 use Rattle.std.specs.List.{AllByRecursion, list_all}
 use Rattle.std.specs.Ordering.{nat_cmp, ordering_reverse}

@@ -11,19 +11,17 @@
 --     underway_begins, underway_past, underway_on, underway_ends, underway_cut, underway_over, may_now     its steps
 --     from_first               what a domain hosts, from the first place on
 --     none_at                  nothing changed
-use Rattle.std.proofs.Common.{Less, ◌≡◌, ◌≢◌, inl, inr, ℕ, Bool, true, false, ◌&&◌, nat_eq, cond, List, [], ◌∷◌, ◌++◌, drop, map, is_some, Option, Some, None, refl, sym, ap, subst, ◌∙◌, true≢false}
+use Rattle.std.proofs.Common.{Less, ◌≡◌, ◌≢◌, inl, inr, ℕ, Bool, true, false, ◌&&◌, nat_eq, cond, List, [], ◌∷◌, drop, map, is_some, Option, None, refl, sym, ap, subst, ◌∙◌, true≢false}
 use Rattle.std.specs.Cmp.Lexicographic.{slice_cmp, bytes_decides}
-use Rattle.std.specs.List.{AllByRecursion}
 use Rattle.std.specs.Ordering.{nat_cmp}
 use Rattle.std.proofs.lemmas.Bool.{eqb-true}
 use mathlib.Core.List.{IsPrefix}
 use Rattle.doc_items.specs.Maps.{Key, same_text}
-use Rattle.wavelet_op.specs.Deltas.{DeltaOf}
 use Rattle.delta_history.specs.Copying.{AscendFrom, AreAscending}
 use Rattle.delta_history.specs.Histories.{HistoryOf}
 use Rattle.robot_host.specs.declared.edit.RobotEdit.{RobotEdit}
 use Rattle.robot_host.specs.Hosts.{HostOf, MayTurn, IsSettled}
-use Rattle.robot_host.specs.Rounds.{IsRound, IsRoundCut, IsUntouched}
+use Rattle.robot_host.specs.Rounds.{IsRound, IsRoundCut}
 use Rattle.robot_host.proofs.MayTurns.{longer_may_turn}
 use Rattle.robot_host.proofs.RoundSteps.{AreApart, AreAlike, may_alike, settled_alike, may_round, may_cut, settled_round, untouched_round, untouched_cut, round_alike, round_cut_alike, round_ends, round_on, round_cut_on, round_cut_ends, cut_none}
 use Rattle.wavelet_shelf.specs.FileNames.{shard_of}

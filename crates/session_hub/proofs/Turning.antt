@@ -16,7 +16,7 @@
 --     founded_same, split_own     passes that have seen the same are of the hub too, and so are second ones
 --     on_err, spent_exit what holds always; why no turn was given, where an error goes on
 --     others_at, turned_at, unadded_at, own_after, seen_now, look_at, answered_at, given_at     what a turn at one shard leaves of the passes
-use Rattle.std.proofs.Common.{map, Result, Ok, Err, OnOk, ◌≡◌, ◌≢◌, ℕ, ◌+◌, ◌<◌, ◌≤◌, Bool, true, List, ◌++◌, length, Option, Some, None, IfSome, slice_get, set, refl, sym, ap, subst, ◌∙◌, arith, length-append, length-set, ◌⊎◌, inl, inr, append_assoc, [], ◌∷◌, OnErr, IfOk, IfErr, IsErrAnd, get_or, ◌%◌}
+use Rattle.std.proofs.Common.{map, Result, Ok, Err, OnOk, ◌≡◌, ℕ, ◌+◌, ◌<◌, ◌≤◌, true, List, ◌++◌, length, Option, Some, None, IfSome, slice_get, set, refl, sym, ap, subst, ◌∙◌, arith, length-append, length-set, ◌⊎◌, inl, inr, append_assoc, [], ◌∷◌, OnErr, IfOk, IfErr, IsErrAnd, get_or, ◌%◌}
 use Rattle.std.specs.Vec.{with_item}
 use mathlib.Core.Logic.{dite}
 use mathlib.Core.List.{IsPrefix}
@@ -31,7 +31,7 @@ use Rattle.session_core.specs.declared.request.SubmitAnswer.{SubmitAnswer}
 use Rattle.session_core.specs.declared.session.Session.{Session}
 use Rattle.message_json.specs.declared.message.Message.{Message}
 use Rattle.wave_base.specs.Versions.{VersionAt}
-use Rattle.turn_lock.specs.Passes.{IsOneMore, seen, loads, added, ticket, IsOf}
+use Rattle.turn_lock.specs.Passes.{IsOneMore, seen, loads, added, IsOf}
 use Rattle.turn_lock.specs.Turns.{turn_limit}
 use Rattle.turn_lock.specs.declared.cell.Pass.{Pass}
 use Rattle.turn_lock.specs.declared.cell.Spent.{Spent as NoTurn}
@@ -55,6 +55,7 @@ use Rattle.shard_marks.specs.Passes.{marks_of, HaveTurned, IsSpentAt}
 use Rattle.session_hub.specs.Hubs.{AreFounded, AreOfHub}
 use Rattle.shard_marks.specs.Frames.{frames_of}
 use Rattle.shard_marks.specs.Marks.{is_founded, founded, shown_at}
+use Rattle.shard_marks.specs.Servers.{ServerOf, server}
 use Rattle.shard_marks.specs.Answers.{IsJudged}
 use Rattle.shard_marks.specs.Givings.{IsGiven, IsGivenFrom, IsGivenBy}
 use Rattle.shard_marks.specs.declared.giving.Given.{Given}
@@ -70,9 +71,9 @@ prefix_length xs ys p = let longer = length-append xs p.0 in let whole = ap leng
 
 -- `e` and `j` are the shard's own domain and number, and `rs` and `os` its marks behind the first one, before and after
 module _ {T : Type 0} (p q : Pass T Mark) (d : Key) (k : ℕ) (e : Key) (j : ℕ) (rs os : List Mark) where
-  pub answered_by : (n : Key) (s : Submission) (t : ℕ) (a : SubmitAnswer) → is_founded d k (seen p) ≡ true → IsPrefix (seen p) (founded e j rs) → IsJudged e j (founded e j rs) os n s t a → seen q ≡ os
-      → added q + length (founded e j rs) ≡ added p + length os → IsAnsweredBy p q d k n s t a
-  answered_by n s t a own begins judged last count =
+  pub answered_by : (peers : List Key) (n : Key) (s : Submission) (t : ℕ) (a : SubmitAnswer) → is_founded d k (seen p) ≡ true → IsPrefix (seen p) (founded e j rs) → IsJudged (server e peers) j (founded e j rs) os n s t a
+      → seen q ≡ os → added q + length (founded e j rs) ≡ added p + length os → IsAnsweredBy p q (server d peers) k n s t a
+  answered_by peers n s t a own begins judged last count =
       let is = founded_is d k e j rs (seen p) own begins in
       let longer = judged.longer in
       let front : length (seen p) ≤ length (founded e j rs) = prefix_length (seen p) (founded e j rs) begins in
@@ -81,7 +82,7 @@ module _ {T : Type 0} (p q : Pass T Mark) (d : Key) (k : ℕ) (e : Key) (j : ℕ
         gained = judged.gained;
         added = omega (arith, longer, count);
         grown = omega (arith, longer, front, whole);
-        answer = subst (λ (z : List Mark). IsAnswer d k z n s t a judged.gained) (sym last) (subst (λ (z : Key × ℕ). IsAnswer z.0 z.1 os n s t a judged.gained) (λ i. (is.0 i, is.1 i)) judged.answer);
+        answer = subst (λ (z : List Mark). IsAnswer (server d peers) k z n s t a judged.gained) (sym last) (subst (λ (z : Key × ℕ). IsAnswer (server z.0 peers) z.1 os n s t a judged.gained) (λ i. (is.0 i, is.1 i)) judged.answer);
       }
 
   pub given_by : (m : Mark) (a : Given) → is_founded d k (seen p) ≡ true → IsPrefix (seen p) (founded e j rs) → IsGivenFrom e j (founded e j rs) os m a → seen q ≡ os
@@ -178,12 +179,12 @@ module _ {F D : Type 0} {folder : folder_of.Ghosts F D} {disk : disk_of.Ghosts D
   pub look_at : (l : Look) → l.shard ≡ k → l.length ≡ length (seen q) → IsLook k (marks_of qs k) l
   look_at l shard size = record { shard = shard; length = seen_now (λ ms. l.length ≡ length ms) size }
 
-  pub answered_at : (d n : Key) (s : Submission) (t : ℕ) (a : SubmitAnswer) → IsAnsweredBy p q d k n s t a → IsAnswered d k ps qs n s t a
-  answered_at d n s t a by = record {
+  pub answered_at : (v : ServerOf) (n : Key) (s : Submission) (t : ℕ) (a : SubmitAnswer) → IsAnsweredBy p q v k n s t a → IsAnswered v k ps qs n s t a
+  answered_at v n s t a by = record {
     gained = by.gained;
     added = ap (λ o. added_of o) now_at ∙ by.added ∙ sym (ap (λ o. added_of o + by.gained) at);
     grown = seen_then (λ ms. length ms + by.gained ≤ length (marks_of qs k)) (seen_now (λ ms. length (seen p) + by.gained ≤ length ms) by.grown);
-    answer = seen_now (λ ms. IsAnswer d k ms n s t a by.gained) by.answer;
+    answer = seen_now (λ ms. IsAnswer v k ms n s t a by.gained) by.answer;
   }
 
   pub given_at : (d : Key) (m : Mark) (a : Given) → IsGivenIn p q d k m a → IsGivenBy d k ps qs m a

@@ -5,3 +5,4 @@ pub mod Texts
 pub mod Robots
 pub mod Items
 pub mod Turns
+pub mod Standings

@@ -1,7 +1,6 @@
 // What is new to a session.
-ghost use Rattle.std.specs.Prelude.{◌≡◌, ◌<◌, [], map, false, IfOk, IfErr, OnOk};
+ghost use Rattle.std.specs.Prelude.{◌≡◌, ◌<◌, [], map, IfOk, IfErr, OnOk};
 ghost use Rattle.session_core.specs.Deliveries.{delivered, after_delivery};
-ghost use Rattle.session_core.specs.Rules.{has_peer};
 ghost use Rattle.turn_cells.specs.Cells.{added_at};
 ghost use Rattle.shard_marks.specs.Frames.{frames_of};
 ghost use Rattle.shard_marks.specs.Passes.{HaveTurned, IsSpentAt, marks_of};
@@ -48,7 +47,6 @@ impl<F: Folder + Drop> Hub<F> {
     ) -> Result<Delivered, HubFault>
         requires own { AreOfHub self.now passes.old }
         requires shard { shard < 16 }
-        requires client { has_peer session.old ≡ false }
         ensures own { AreOfHub self.now passes.new }
         ensures turned { HaveTurned shard passes.old passes.new }
         ensures unadded { added_at passes.new shard ≡ added_at passes.old shard }
@@ -56,7 +54,6 @@ impl<F: Folder + Drop> Hub<F> {
         ensures frames { IfOk result (λ d. map (λ v. v.items) d.frames.items ≡ frames_of (delivered (shown_at self.now.domain shard (marks_of passes.new shard)) session.old)) }
         ensures after { OnOk result (session.new ≡ after_delivery (shown_at self.now.domain shard (marks_of passes.new shard)) session.old) }
         ensures told { OnOk result (delivered (shown_at self.now.domain shard (marks_of passes.new shard)) session.new ≡ []) }
-        ensures client { has_peer session.new ≡ false }
         ensures spent { IfErr result (λ e. (s : Spent) → e ≡ HubFault.Spent s → IsSpentAt passes.new shard s) }
     {
         let place = shard as usize;

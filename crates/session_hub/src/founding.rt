@@ -6,6 +6,7 @@ ghost use Rattle.wavelet_shelf.specs.Shelves.{hosted_of};
 ghost use Rattle.wavelet_shelf.specs.Walks.{as_hosted};
 ghost use Rattle.hosted_copies.specs.Domains.{hosted_by};
 ghost use Rattle.session_hub.specs.Entries.{IsLoaded, AreLoaded};
+ghost use Rattle.shard_marks.specs.Histories.{is_sound, are_sound};
 ghost use Rattle.shard_marks.specs.Marks.{loaded, loaded_one};
 ghost use Rattle.session_hub.specs.Records.{mark_of};
 
@@ -21,9 +22,11 @@ use wave_base::Domain;
 use wave_outside::Folder;
 use wavelet_shelf::Shelf;
 
-// Keeps a record of each delta of a history. The error is want of memory, here and below.
+// Keeps a record of each delta of a history, which is sound. The error is want of memory, here and below.
+#[tactic(auto, using(shard_marks::proofs::Telling::legal_sound))]
 fn keep_loaded(history: &History, records: &mut Vec<Record>) -> Result<(), Memory>
-    ensures { OnOk result (map mark_of records.new.items ≡ map mark_of records.old.items ++ loaded_one (as_hosted history.now)) }
+    ensures marks { OnOk result (map mark_of records.new.items ≡ map mark_of records.old.items ++ loaded_one (as_hosted history.now)) }
+    ensures sound { is_sound (as_hosted history.now) ≡ true }
 {
     let name = history.name();
     for delta in history.deltas() {
@@ -35,13 +38,14 @@ fn keep_loaded(history: &History, records: &mut Vec<Record>) -> Result<(), Memor
     Ok(())
 }
 
-// A record of each delta of what the domain hosts on a shelf.
+// A record of each delta of what the domain hosts on a shelf, which is sound.
 fn loaded_records<F: Folder>(
     alloc: Global,
     domain: &Domain,
     shelf: &Shelf<F>,
 ) -> Result<Vec<Record>, Memory>
-    ensures { IfOk result (λ v. map mark_of v.items ≡ loaded (hosted_by domain.now (hosted_of shelf.now))) }
+    ensures marks { IfOk result (λ v. map mark_of v.items ≡ loaded (hosted_by domain.now (hosted_of shelf.now))) }
+    ensures sound { OnOk result (are_sound (hosted_by domain.now (hosted_of shelf.now)) ≡ true) }
 {
     let copies = HostedCopies { domain, shelf };
     let mut records = Vec::new(alloc);

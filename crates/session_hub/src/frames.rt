@@ -1,10 +1,11 @@
 // Messages as they are sent.
 ghost use Rattle.std.specs.Prelude.{◌≡◌, List, map, IfOk};
 ghost use Rattle.std.specs.List.{All};
+ghost use Rattle.doc_items.specs.Maps.{Key};
+ghost use Rattle.wavelet_op.specs.Deltas.{DeltaOf};
 ghost use Rattle.message_json.specs.Write.{IsShort};
 ghost use Rattle.message_json.specs.declared.message.Message.{Message};
 ghost use Rattle.session_core.specs.News.{message_of, messages_of, reply_message};
-ghost use Rattle.wavelet_shelf.specs.Hosting.{Hosted};
 ghost use Rattle.shard_marks.specs.Frames.{frame_of, frames_of};
 ghost use Rattle.session_hub.specs.Texts.{AreWritten, IsPlacedIn};
 
@@ -45,8 +46,8 @@ fn applied(alloc: Global, name: &WaveletName, delta: &AppliedDelta) -> Result<Me
 #[tactic(auto, unfolding(shard_marks::specs::Frames::frame_of))]
 fn news_frame(alloc: Global, news: &News, texts: &mut Vec<Text>) -> Result<Vec<u8>, Memory>
     requires { IsShort (message_of news.now) }
-    ensures frame { IfOk result (λ v. (hs : List Hosted) → AreWritten hs texts.old.items → IsPlacedIn hs news.now → v.items ≡ frame_of (message_of news.now)) }
-    ensures texts { (hs : List Hosted) → AreWritten hs texts.old.items → IsPlacedIn hs news.now → AreWritten hs texts.new.items }
+    ensures frame { IfOk result (λ v. (f : Key → List DeltaOf) → AreWritten f texts.old.items → IsPlacedIn f news.now → v.items ≡ frame_of (message_of news.now)) }
+    ensures texts { (f : Key → List DeltaOf) → AreWritten f texts.old.items → IsPlacedIn f news.now → AreWritten f texts.new.items }
 {
     match news {
         News::Update { name, place, delta } => update_text(alloc, name, *place, delta, texts),
@@ -62,8 +63,8 @@ pub(crate) fn frames(
     texts: &mut Vec<Text>,
 ) -> Result<Vec<Vec<u8>>, Memory>
     requires { All (λ n. IsShort (message_of n)) news.now }
-    ensures frames { IfOk result (λ v. (hs : List Hosted) → AreWritten hs texts.old.items → All (IsPlacedIn hs) news.now → map (λ f. f.items) v.items ≡ frames_of (messages_of news.now)) }
-    ensures texts { (hs : List Hosted) → AreWritten hs texts.old.items → All (IsPlacedIn hs) news.now → AreWritten hs texts.new.items }
+    ensures frames { IfOk result (λ v. (f : Key → List DeltaOf) → AreWritten f texts.old.items → All (IsPlacedIn f) news.now → map (λ f. f.items) v.items ≡ frames_of (messages_of news.now)) }
+    ensures texts { (f : Key → List DeltaOf) → AreWritten f texts.old.items → All (IsPlacedIn f) news.now → AreWritten f texts.new.items }
 {
     let mut made = Vec::new(alloc);
     for item in news {

@@ -5,9 +5,11 @@ use turn_cells::Cells;
 use wave_base::Domain;
 use wave_outside::Folder;
 
-/// The wavelets that a domain hosts, in sixteen shards.
+/// The wavelets that a domain hosts, and its copies of what others host, in sixteen shards. Its peers are the domains whose wavelets it may
+/// have copies of.
 pub struct Hub<F: Folder + Drop> {
     pub(crate) domain: Domain,
+    pub(crate) peers: Vec<Domain>,
     pub(crate) cells: Cells<Shard<F>>,
 }
 
@@ -15,6 +17,7 @@ impl<F: Folder + Drop> Drop for Hub<F> {
     fn drop(self) {
         let Hub {
             domain: _domain,
+            peers: _peers,
             cells: _cells,
         } = self;
     }
@@ -28,12 +31,20 @@ impl<F: Folder + Drop> Hub<F> {
         &self.domain
     }
 
+    /// The domains whose servers it dials.
+    pub fn peers(&self) -> &[Domain]
+        ensures { result.now ≡ self.now.peers.items }
+    {
+        self.peers.as_slice()
+    }
+
     // The cells alone.
     pub(crate) fn into_cells(self) -> Cells<Shard<F>>
         ensures { result ≡ self.cells }
     {
         let Hub {
             domain: _domain,
+            peers: _peers,
             cells,
         } = self;
         cells

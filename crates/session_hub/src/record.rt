@@ -1,6 +1,6 @@
 use std::snapshot::Snapshot;
 use wave_base::{DeltaId, WaveletName};
-use wavelet_op::{AppliedDelta, Verdict};
+use wavelet_op::{AppliedDelta, Submission, Verdict};
 
 // What a shard keeps of a mark but the first: which kind it is of.
 pub(crate) enum Record {
@@ -11,6 +11,10 @@ pub(crate) enum Record {
     Fault {
         name: Snapshot<WaveletName>,
         id: Snapshot<DeltaId>,
+    },
+    Queued {
+        name: Snapshot<WaveletName>,
+        submission: Snapshot<Submission>,
     },
     Answered {
         name: Snapshot<WaveletName>,
@@ -32,6 +36,10 @@ impl Drop for Record {
             Record::Fault {
                 name: _name,
                 id: _id,
+            } => {}
+            Record::Queued {
+                name: _name,
+                submission: _submission,
             } => {}
             Record::Answered {
                 name: _name,

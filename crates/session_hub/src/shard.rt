@@ -9,7 +9,9 @@ ghost use Rattle.wavelet_op.specs.contracts.delta.AppliedDelta as delta_row;
 ghost use Rattle.wavelet_op.specs.contracts.delta.Submission as submission_row;
 ghost use Rattle.wavelet_shelf.specs.Shelves.{hosted_of, fault_count as faults_of};
 ghost use Rattle.hosted_copies.specs.Domains.{hosted_by};
+ghost use Rattle.shard_copies.specs.Shown.{deltas_among};
 ghost use Rattle.shard_marks.specs.Marks.{is_own_mark, replayed, copied, fault_count};
+ghost use Rattle.shard_marks.specs.Histories.{are_sound};
 ghost use Rattle.shard_marks.specs.Marks.{most_faults};
 ghost use Rattle.session_hub.specs.Records.{marks_in, hosted_code, world_code};
 ghost use Rattle.session_hub.specs.Texts.{AreWritten, update_in};
@@ -21,8 +23,9 @@ use wave_base::Domain;
 use wave_outside::Folder;
 use wavelet_shelf::Shelf;
 
-/// The wavelets of one shard, with the marks by which their histories came about. What the domain hosts there, and its copies of what others host, is
-/// what the marks give, which are of wavelets of the shard, and no more of them tell of a fault than the store has counted.
+/// The wavelets of one shard, with the marks by which their histories came about. What the domain hosts there, and its copies of what others
+/// host, is what the marks give, which are of wavelets of the shard, and no more of them tell of a fault than the store has counted. Each
+/// hosted history is sound: nothing of it is left at its head, and a message may hold each of its deltas.
 pub struct Shard<F: Folder> {
     pub(crate) domain: Domain,
     pub(crate) number: u64,
@@ -34,8 +37,9 @@ pub struct Shard<F: Folder> {
     ghost replay: { hosted_by domain (hosted_of shelf) ≡ replayed domain number (marks_in domain number records.items) } by { Coded-set (coded_list (hosted_code delta_row.the_row.coded)) (hosted_by domain (hosted_of shelf)) (replayed domain number (marks_in domain number records.items)) },
     ghost copies: { worlds_of replicas ≡ copied domain number (marks_in domain number records.items) } by { Coded-set (code (coded_list coded_ℕ) (world_code delta_row.the_row.coded submission_row.the_row.coded noted_row.the_row.coded)) (worlds_of replicas) (copied domain number (marks_in domain number records.items)) },
     ghost own: { list_all (is_own_mark domain number) (marks_in domain number records.items) ≡ true },
+    ghost sound: { are_sound (hosted_by domain (hosted_of shelf)) ≡ true },
     ghost counted: { min (fault_count (marks_in domain number records.items)) most_faults ≤ faults_of shelf },
-    ghost written: { AreWritten (hosted_by domain (hosted_of shelf)) texts.items } by { Coded-set (coded_list (coded_option (coded_list coded_ℕ))) (map (λ w. update_in (hosted_by domain (hosted_of shelf)) w.name w.place) texts.items) (map (λ w. Some w.bytes.items) texts.items) },
+    ghost written: { AreWritten (deltas_among domain (hosted_by domain (hosted_of shelf)) (worlds_of replicas)) texts.items } by { Coded-set (coded_list (coded_option (coded_list coded_ℕ))) (map (λ w. update_in (deltas_among domain (hosted_by domain (hosted_of shelf)) (worlds_of replicas)) w.name w.place) texts.items) (map (λ w. Some w.bytes.items) texts.items) },
 }
 
 impl<F: Folder + Drop> Drop for Shard<F> {

@@ -1,5 +1,5 @@
 // What a shard's wavelets give a session.
-ghost use Rattle.std.specs.Prelude.{◌≡◌, [], map, true, false, length, IfOk, OnOk, OnErr, option_copied};
+ghost use Rattle.std.specs.Prelude.{◌≡◌, [], map, true, length, IfOk, OnOk, OnErr, option_copied};
 ghost use Rattle.message_json.specs.Write.{IsShort};
 ghost use Rattle.session_core.specs.Answers.{attached, had};
 ghost use Rattle.session_core.specs.Deliveries.{delivered, after_delivery};
@@ -13,6 +13,7 @@ use crate::shard::Shard;
 use doc_items::Memory;
 use hosted_copies::HostedCopies;
 use session_core::{Reply, Session};
+use shard_copies::ShardCopies;
 use std::alloc::Global;
 use wave_base::{HashedVersion, WaveletName};
 use wave_outside::Folder;
@@ -31,11 +32,14 @@ impl<F: Folder + Drop> Shard<F> {
         ensures short { IfOk result (λ r. IsShort (reply_message r)) }
         ensures same { OnErr result (session.new ≡ session.old) }
     {
-        let copies = HostedCopies {
-            domain: &self.domain,
-            shelf: &self.shelf,
+        let copies = ShardCopies {
+            hosted: HostedCopies {
+                domain: &self.domain,
+                shelf: &self.shelf,
+            },
+            replicas: &self.replicas,
         };
-        copies.are_hosted();
+        copies.are_shown();
         session.answer_attach(alloc, &copies, name, from)
     }
 
@@ -51,11 +55,14 @@ impl<F: Folder + Drop> Shard<F> {
         ensures after { OnOk result (session.new ≡ had (copies_at self.now) session.old name.now from.now) }
         ensures same { OnErr result (session.new ≡ session.old) }
     {
-        let copies = HostedCopies {
-            domain: &self.domain,
-            shelf: &self.shelf,
+        let copies = ShardCopies {
+            hosted: HostedCopies {
+                domain: &self.domain,
+                shelf: &self.shelf,
+            },
+            replicas: &self.replicas,
         };
-        copies.are_hosted();
+        copies.are_shown();
         session.answer_have(alloc, &copies, name, from)
     }
 
@@ -65,18 +72,19 @@ impl<F: Folder + Drop> Shard<F> {
         alloc: Global,
         session: &mut Session,
     ) -> Result<Vec<Vec<u8>>, Memory>
-        requires { has_peer session.old ≡ false }
         ensures marks { entries_of self.new ≡ entries_of self.old }
         ensures frames { IfOk result (λ v. map (λ f. f.items) v.items ≡ frames_of (delivered (copies_at self.old) session.old)) }
         ensures after { OnOk result (session.new ≡ after_delivery (copies_at self.old) session.old) }
         ensures told { OnOk result (delivered (copies_at self.old) session.new ≡ []) }
-        ensures client { has_peer session.new ≡ false }
     {
-        let copies = HostedCopies {
-            domain: &self.domain,
-            shelf: &self.shelf,
+        let copies = ShardCopies {
+            hosted: HostedCopies {
+                domain: &self.domain,
+                shelf: &self.shelf,
+            },
+            replicas: &self.replicas,
         };
-        copies.are_hosted();
+        copies.are_shown();
         let news = session.deliver(alloc, &copies)?;
         frames(alloc, news.as_slice(), &mut self.texts)
     }

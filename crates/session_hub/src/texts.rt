@@ -1,7 +1,8 @@
 // Updates that were written, each once for all sessions.
 ghost use Rattle.std.specs.Prelude.{◌≡◌, List, Some, slice_get, IfOk, IfSome};
+ghost use Rattle.doc_items.specs.Maps.{Key};
+ghost use Rattle.wavelet_op.specs.Deltas.{DeltaOf};
 ghost use Rattle.message_json.specs.declared.message.Message.{Message};
-ghost use Rattle.wavelet_shelf.specs.Hosting.{Hosted, deltas_in};
 ghost use Rattle.shard_marks.specs.Frames.{frame_of};
 ghost use Rattle.session_hub.specs.Texts.{AreWritten, update_in};
 
@@ -52,7 +53,7 @@ fn kept_at<'a>(texts: &'a [Text], at: usize, name: &WaveletName, place: usize) -
 // The text of the update with the delta at a place of a wavelet's history, where it is kept. The newest are looked at first.
 #[tactic(auto, using(crate::proofs::Written::written_at))]
 fn find<'a>(texts: &'a [Text], name: &WaveletName, place: usize) -> Option<&'a Text>
-    ensures { IfSome result (λ t. (hs : List Hosted) → AreWritten hs texts.now → update_in hs name.now place ≡ Some t.now.bytes.items) }
+    ensures { IfSome result (λ t. (f : Key → List DeltaOf) → AreWritten f texts.now → update_in f name.now place ≡ Some t.now.bytes.items) }
 {
     for past in 0..texts.len() {
         let found = kept_at(texts, texts.len() - 1 - past, name, place);
@@ -66,7 +67,7 @@ fn find<'a>(texts: &'a [Text], name: &WaveletName, place: usize) -> Option<&'a T
 // Lets all texts go where they are too many.
 #[tactic(auto, using(crate::proofs::Written::none_written))]
 fn make_room(texts: &mut Vec<Text>)
-    ensures { (hs : List Hosted) → AreWritten hs texts.old.items → AreWritten hs texts.new.items }
+    ensures { (f : Key → List DeltaOf) → AreWritten f texts.old.items → AreWritten f texts.new.items }
 {
     if texts.len() >= MOST {
         texts.clear();
@@ -82,7 +83,7 @@ fn keep(
     text: &[u8],
     texts: &mut Vec<Text>,
 ) -> Result<(), Memory>
-    ensures { (hs : List Hosted) → AreWritten hs texts.old.items → update_in hs name.now place ≡ Some text.now → AreWritten hs texts.new.items }
+    ensures { (f : Key → List DeltaOf) → AreWritten f texts.old.items → update_in f name.now place ≡ Some text.now → AreWritten f texts.new.items }
 {
     if text.len() > LONGEST {
         return Ok(());
@@ -104,8 +105,8 @@ pub(crate) fn update_text(
     delta: &AppliedDelta,
     texts: &mut Vec<Text>,
 ) -> Result<Vec<u8>, Memory>
-    ensures text { IfOk result (λ v. (hs : List Hosted) → AreWritten hs texts.old.items → slice_get (deltas_in hs name.now) place ≡ Some delta.now → v.items ≡ frame_of (Message.Update name.now delta.now)) }
-    ensures kept { (hs : List Hosted) → AreWritten hs texts.old.items → slice_get (deltas_in hs name.now) place ≡ Some delta.now → AreWritten hs texts.new.items }
+    ensures text { IfOk result (λ v. (f : Key → List DeltaOf) → AreWritten f texts.old.items → slice_get (f name.now) place ≡ Some delta.now → v.items ≡ frame_of (Message.Update name.now delta.now)) }
+    ensures kept { (f : Key → List DeltaOf) → AreWritten f texts.old.items → slice_get (f name.now) place ≡ Some delta.now → AreWritten f texts.new.items }
 {
     match find(texts.as_slice(), name, place) {
         Some(text) => Vec::from_slice(alloc, text.bytes.as_slice()),

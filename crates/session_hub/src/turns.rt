@@ -1,5 +1,5 @@
 // Turns at one shard.
-ghost use Rattle.std.specs.Prelude.{◌≡◌, ℕ, [], map, true, false, length, IfOk, IfErr, OnOk, OnErr, option_copied};
+ghost use Rattle.std.specs.Prelude.{◌≡◌, ℕ, [], map, true, length, IfOk, IfErr, OnOk, OnErr, option_copied};
 ghost use mathlib.Core.List.{IsPrefix};
 ghost use Rattle.doc_items.specs.Maps.{Key};
 ghost use Rattle.message_json.specs.Write.{IsShort};
@@ -12,6 +12,7 @@ ghost use Rattle.turn_lock.specs.Passes.{seen, loads, added, IsOf};
 ghost use Rattle.wavelet_shelf.specs.FileNames.{shard_of};
 ghost use Rattle.shard_marks.specs.Frames.{frames_of};
 ghost use Rattle.shard_marks.specs.Marks.{is_founded, copied, shown_at};
+ghost use Rattle.shard_marks.specs.Servers.{server};
 ghost use Rattle.session_hub.specs.Robots.{MayTurnFrom, IsRoundAt, IsRoundCutAt};
 ghost use Rattle.replica_store.specs.Listings.{IsSought};
 ghost use Rattle.shard_marks.specs.Givings.{gift_mark};
@@ -33,12 +34,13 @@ use wave_base::{Domain, HashedVersion, WaveletName};
 use wave_outside::Folder;
 use wavelet_op::Submission;
 
-/// The answer to a submission in a turn of the wavelet's shard, and the length of its history then.
+/// The answer to a submission in a turn of the wavelet's shard, by these peers, and the length of its history then.
 pub(crate) fn submit<F: Folder + Drop, R: Wait>(
     rt: &R,
     alloc: Global,
     cell: &TurnCell<Shard<F>>,
     pass: &mut Pass<Shard<F>>,
+    peers: &[Domain],
     name: &WaveletName,
     submission: &Submission,
     time: u64,
@@ -49,12 +51,13 @@ pub(crate) fn submit<F: Folder + Drop, R: Wait>(
     ensures later { IsPrefix (seen pass.old) (seen pass.new) }
     ensures looked { loads pass.new ≡ loads pass.old }
     ensures length { IfOk result (λ r. r.0 ≡ length (seen pass.new)) }
-    ensures answered { IfOk result (λ r. (d : Key) → is_founded d (shard_of name.now) (seen pass.old) ≡ true → IsAnsweredBy pass.old pass.new d (shard_of name.now) name.now submission.now time r.1) }
+    ensures answered { IfOk result (λ r. (d : Key) → is_founded d (shard_of name.now) (seen pass.old) ≡ true
+        → IsAnsweredBy pass.old pass.new (server d peers.now) (shard_of name.now) name.now submission.now time r.1) }
     ensures unadded { OnErr result (added pass.new ≡ added pass.old) }
     ensures fault { IfErr result (IsFault pass.new) }
 {
     let mut guard = pass.enter(rt, cell)?;
-    let answer = guard.value().submit(alloc, name, submission, time);
+    let answer = guard.value().submit(alloc, peers, name, submission, time);
     guard.leave();
     Ok(answer?)
 }
@@ -128,7 +131,6 @@ pub(crate) fn deliver<F: Folder + Drop, R: Wait>(
     session: &mut Session,
 ) -> Result<(u64, Vec<Vec<u8>>), HubFault>
     requires own { IsOf cell.now pass.old }
-    requires client { has_peer session.old ≡ false }
     ensures own { IsOf cell.now pass.new }
     ensures later { IsPrefix (seen pass.old) (seen pass.new) }
     ensures looked { loads pass.new ≡ loads pass.old }
@@ -137,7 +139,6 @@ pub(crate) fn deliver<F: Folder + Drop, R: Wait>(
     ensures frames { IfOk result (λ r. (d : Key) (k : ℕ) → is_founded d k (seen pass.old) ≡ true → map (λ v. v.items) r.1.items ≡ frames_of (delivered (shown_at d k (seen pass.new)) session.old)) }
     ensures after { OnOk result ((d : Key) (k : ℕ) → is_founded d k (seen pass.old) ≡ true → session.new ≡ after_delivery (shown_at d k (seen pass.new)) session.old) }
     ensures told { OnOk result ((d : Key) (k : ℕ) → is_founded d k (seen pass.old) ≡ true → delivered (shown_at d k (seen pass.new)) session.new ≡ []) }
-    ensures client { has_peer session.new ≡ false }
     ensures fault { IfErr result (IsFault pass.new) }
 {
     let mut guard = pass.enter(rt, cell)?;

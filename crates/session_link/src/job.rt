@@ -3,7 +3,7 @@ ghost use Rattle.std.specs.Prelude.{◌≡◌, ℕ, length, true, IsTrue};
 ghost use Rattle.std.specs.Arc.{arc_value};
 ghost use Rattle.wave_outside.specs.Counts.{Rose};
 ghost use Rattle.turn_cells.specs.Cells.{Begins};
-ghost use Rattle.session_hub.specs.Hubs.{AreOfHub, AreOfHub-prop};
+ghost use Rattle.session_hub.specs.Hubs.{AreOfHub, AreOfHub-prop, server_of};
 ghost use Rattle.session_steps.specs.Jobs.{IsEnded};
 ghost use Rattle.session_steps.specs.declared.end.EndCause.TheVariants.{Closed, Failed};
 
@@ -115,7 +115,7 @@ impl<L: Link, F: Folder + Drop, C: Clock + Drop, G: Gate + Drop> Job for LinkJob
     type End = LinkEnd<L, F>;
 
     ghost may_give = { λ j e. AreOfHub (arc_value j.hub) e.passes × Begins j.passes e.passes
-        × (IsTrue L.tells → (after : ℕ → ℕ) × IsEnded (arc_value j.hub).domain j.passes e.passes C.tells (C.readings j.clock) after (L.events e.link) e.cause)
+        × (IsTrue L.tells → (after : ℕ → ℕ) × IsEnded (server_of (arc_value j.hub)) j.passes e.passes C.tells (C.readings j.clock) after (L.events e.link) e.cause)
         × (e.cause ≡ Closed → L.closed e.link ≡ true) × (e.cause ≡ Failed → Rose (L.faults j.link) (L.faults e.link)) };
 
     #[tactic(auto, using(session_steps::proofs::Serving::no_events))]

@@ -4,8 +4,8 @@ ghost use Rattle.turn_cells.specs.Cells.{AreOthersSame, loads_at};
 ghost use Rattle.turn_lock.specs.Turns.{turn_limit};
 ghost use Rattle.wave_outside.specs.Counts.{Rose};
 ghost use Rattle.shard_marks.specs.Passes.{marks_of};
-ghost use Rattle.session_hub.specs.Hubs.{AreOfHub};
-ghost use Rattle.session_steps.specs.Clients.{IsClient, AreSentTo, AreSentAll};
+ghost use Rattle.session_hub.specs.Hubs.{AreOfHub, server_of};
+ghost use Rattle.session_steps.specs.Clients.{IsSessionOf, AreSentTo, AreSentAll};
 ghost use Rattle.session_steps.specs.Going.{Grow, Origin, GoesOn, HasBroken};
 ghost use Rattle.session_steps.specs.Served.{poll_count};
 ghost use Rattle.session_link.specs.Opened.{AreUnopened};
@@ -36,7 +36,7 @@ fn deliver<R: Wait, F: Folder + Drop, L: Link, C: Clock, G: Gate>(
 ) -> Result<(), EndCause>
     requires own { AreOfHub hub.now passes.old }
     requires shard { shard < 16 }
-    requires client { IsClient hub.now.domain client.old.session }
+    requires client { IsSessionOf (server_of hub.now) client.old.session }
     requires sent { AreSentTo hub.now.domain (marks_of passes.old) client.old.session client.old.sent }
     requires quiet { AreUnopened hub.now.domain client.old.session client.old.opened }
     requires opened { slice_index_or client.old.opened shard false ≡ true }
@@ -44,15 +44,15 @@ fn deliver<R: Wait, F: Folder + Drop, L: Link, C: Clock, G: Gate>(
     ensures later { Grow (marks_of passes.old) (marks_of passes.new) }
     ensures others { AreOthersSame shard passes.old passes.new }
     ensures looked { (k : ℕ) → loads_at passes.new k ≡ loads_at passes.old k }
-    ensures client { OnOk result (IsClient hub.now.domain client.new.session) }
+    ensures client { OnOk result (IsSessionOf (server_of hub.now) client.new.session) }
     ensures sent { OnOk result (AreSentTo hub.now.domain (marks_of passes.new) client.new.session client.new.sent) }
     ensures quiet { OnOk result (AreUnopened hub.now.domain client.new.session client.new.opened) }
     ensures here { OnOk result (slice_index_or client.new.sent shard 0 ≡ length (marks_of passes.new shard)) }
     ensures there { (k : ℕ) → k ≢ shard → slice_index_or client.new.sent k 0 ≡ slice_index_or client.old.sent k 0 }
-    ensures going { (o : Origin) → GoesOn C.Clock L.Link o hub.now.domain passes.old link.old clock.now client.old.session
-        → OnOk result (GoesOn C.Clock L.Link o hub.now.domain passes.new link.new clock.now client.new.session) }
-    ensures broken { (o : Origin) → GoesOn C.Clock L.Link o hub.now.domain passes.old link.old clock.now client.old.session
-        → OnErr result (HasBroken C.Clock L.Link o hub.now.domain passes.new link.new clock.now) }
+    ensures going { (o : Origin) → GoesOn C.Clock L.Link o (server_of hub.now) passes.old link.old clock.now client.old.session
+        → OnOk result (GoesOn C.Clock L.Link o (server_of hub.now) passes.new link.new clock.now client.new.session) }
+    ensures broken { (o : Origin) → GoesOn C.Clock L.Link o (server_of hub.now) passes.old link.old clock.now client.old.session
+        → OnErr result (HasBroken C.Clock L.Link o (server_of hub.now) passes.new link.new clock.now) }
     ensures polls { IsTrue L.tells → poll_count (L.events link.new) ≡ poll_count (L.events link.old) }
     ensures unclosed { L.closed link.new ≡ L.closed link.old }
     ensures cause { IfErr result (λ c. c ≢ EndCause.Closed) }
@@ -90,22 +90,22 @@ fn catch_up<R: Wait, F: Folder + Drop, L: Link, C: Clock, G: Gate>(
 ) -> Result<(), EndCause>
     requires own { AreOfHub hub.now passes.old }
     requires shard { shard < 16 }
-    requires client { IsClient hub.now.domain client.old.session }
+    requires client { IsSessionOf (server_of hub.now) client.old.session }
     requires sent { AreSentTo hub.now.domain (marks_of passes.old) client.old.session client.old.sent }
     requires quiet { AreUnopened hub.now.domain client.old.session client.old.opened }
     ensures own { AreOfHub hub.now passes.new }
     ensures later { Grow (marks_of passes.old) (marks_of passes.new) }
     ensures others { AreOthersSame shard passes.old passes.new }
     ensures looked { loads_at passes.new shard ≡ loads_at passes.old shard + 1 }
-    ensures client { OnOk result (IsClient hub.now.domain client.new.session) }
+    ensures client { OnOk result (IsSessionOf (server_of hub.now) client.new.session) }
     ensures sent { OnOk result (AreSentTo hub.now.domain (marks_of passes.new) client.new.session client.new.sent) }
     ensures quiet { OnOk result (AreUnopened hub.now.domain client.new.session client.new.opened) }
     ensures here { OnOk result (slice_index_or client.new.sent shard 0 ≡ length (marks_of passes.new shard)) }
     ensures there { (k : ℕ) → k ≢ shard → slice_index_or client.new.sent k 0 ≡ slice_index_or client.old.sent k 0 }
-    ensures going { (o : Origin) → GoesOn C.Clock L.Link o hub.now.domain passes.old link.old clock.now client.old.session
-        → OnOk result (GoesOn C.Clock L.Link o hub.now.domain passes.new link.new clock.now client.new.session) }
-    ensures broken { (o : Origin) → GoesOn C.Clock L.Link o hub.now.domain passes.old link.old clock.now client.old.session
-        → OnErr result (HasBroken C.Clock L.Link o hub.now.domain passes.new link.new clock.now) }
+    ensures going { (o : Origin) → GoesOn C.Clock L.Link o (server_of hub.now) passes.old link.old clock.now client.old.session
+        → OnOk result (GoesOn C.Clock L.Link o (server_of hub.now) passes.new link.new clock.now client.new.session) }
+    ensures broken { (o : Origin) → GoesOn C.Clock L.Link o (server_of hub.now) passes.old link.old clock.now client.old.session
+        → OnErr result (HasBroken C.Clock L.Link o (server_of hub.now) passes.new link.new clock.now) }
     ensures polls { IsTrue L.tells → poll_count (L.events link.new) ≡ poll_count (L.events link.old) }
     ensures unclosed { L.closed link.new ≡ L.closed link.old }
     ensures cause { IfErr result (λ c. c ≢ EndCause.Closed) }
@@ -140,21 +140,21 @@ pub(crate) fn catch_up_all<R: Wait, F: Folder + Drop, L: Link, C: Clock, G: Gate
     client: &mut Client,
 ) -> Result<(), EndCause>
     requires own { AreOfHub hub.now passes.old }
-    requires client { IsClient hub.now.domain client.old.session }
+    requires client { IsSessionOf (server_of hub.now) client.old.session }
     requires sent { AreSentTo hub.now.domain (marks_of passes.old) client.old.session client.old.sent }
     requires quiet { AreUnopened hub.now.domain client.old.session client.old.opened }
     ensures own { AreOfHub hub.now passes.new }
     ensures later { Grow (marks_of passes.old) (marks_of passes.new) }
     ensures looked { (k : ℕ) → k < 16 → OnOk result (loads_at passes.old k + 1 ≤ loads_at passes.new k) }
     ensures loads { (k : ℕ) → loads_at passes.old k ≤ loads_at passes.new k }
-    ensures client { OnOk result (IsClient hub.now.domain client.new.session) }
+    ensures client { OnOk result (IsSessionOf (server_of hub.now) client.new.session) }
     ensures sent { OnOk result (AreSentTo hub.now.domain (marks_of passes.new) client.new.session client.new.sent) }
     ensures quiet { OnOk result (AreUnopened hub.now.domain client.new.session client.new.opened) }
     ensures all { OnOk result (AreSentAll (marks_of passes.new) 16 client.new.sent) }
-    ensures going { (o : Origin) → GoesOn C.Clock L.Link o hub.now.domain passes.old link.old clock.now client.old.session
-        → OnOk result (GoesOn C.Clock L.Link o hub.now.domain passes.new link.new clock.now client.new.session) }
-    ensures broken { (o : Origin) → GoesOn C.Clock L.Link o hub.now.domain passes.old link.old clock.now client.old.session
-        → OnErr result (HasBroken C.Clock L.Link o hub.now.domain passes.new link.new clock.now) }
+    ensures going { (o : Origin) → GoesOn C.Clock L.Link o (server_of hub.now) passes.old link.old clock.now client.old.session
+        → OnOk result (GoesOn C.Clock L.Link o (server_of hub.now) passes.new link.new clock.now client.new.session) }
+    ensures broken { (o : Origin) → GoesOn C.Clock L.Link o (server_of hub.now) passes.old link.old clock.now client.old.session
+        → OnErr result (HasBroken C.Clock L.Link o (server_of hub.now) passes.new link.new clock.now) }
     ensures polls { IsTrue L.tells → poll_count (L.events link.new) ≡ poll_count (L.events link.old) }
     ensures unclosed { L.closed link.new ≡ L.closed link.old }
     ensures cause { IfErr result (λ c. c ≢ EndCause.Closed) }

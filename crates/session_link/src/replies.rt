@@ -1,14 +1,14 @@
 // Replies to messages.
-ghost use Rattle.std.specs.Prelude.{◌≡◌, ◌≢◌, ◌≤◌, ℕ, true, IfOk, IfErr, OnOk, OnErr, option_copied};
+ghost use Rattle.std.specs.Prelude.{◌≡◌, ◌≢◌, ◌≤◌, ℕ, true, false, None, IfOk, IfSome, IfErr, OnOk, OnErr, option_copied, option_map};
 ghost use Rattle.turn_cells.specs.Cells.{loads_at};
 ghost use Rattle.turn_lock.specs.Turns.{turn_limit};
 ghost use Rattle.message_json.specs.Write.{IsShort};
 ghost use Rattle.session_core.specs.News.{reply_message};
-ghost use Rattle.session_core.specs.Rules.{has_user, taken_bytes};
+ghost use Rattle.session_core.specs.Rules.{has_user, has_peer, is_new, taken_bytes};
 ghost use Rattle.session_core.specs.declared.request.Request.TheVariants as ask;
 ghost use Rattle.shard_marks.specs.Passes.{marks_of};
-ghost use Rattle.session_hub.specs.Hubs.{AreOfHub};
-ghost use Rattle.session_steps.specs.Clients.{IsClient, AsksAsClient, AreSentTo};
+ghost use Rattle.session_hub.specs.Hubs.{AreOfHub, server_of};
+ghost use Rattle.session_steps.specs.Clients.{IsSessionOf, MayAsk, AreSentTo};
 ghost use Rattle.session_steps.specs.Going.{Grow, HasReplied, HasHalted};
 ghost use Rattle.session_link.specs.Opened.{AreUnopened};
 
@@ -36,23 +36,23 @@ fn open<R: Wait, F: Folder + Drop, C: Clock, G: Gate>(
     client: &mut Client,
     name: &WaveletName,
     from: Option<&HashedVersion>,
-) -> Result<Reply, EndCause>
+) -> Result<Option<Reply>, EndCause>
     requires own { AreOfHub hub.now passes.old }
-    requires client { IsClient hub.now.domain client.old.session }
+    requires client { IsSessionOf (server_of hub.now) client.old.session }
     requires user { has_user client.old.session ≡ true }
     requires sent { AreSentTo hub.now.domain (marks_of passes.old) client.old.session client.old.sent }
     requires quiet { AreUnopened hub.now.domain client.old.session client.old.opened }
     ensures own { AreOfHub hub.now passes.new }
     ensures later { Grow (marks_of passes.old) (marks_of passes.new) }
     ensures looked { (k : ℕ) → loads_at passes.new k ≡ loads_at passes.old k }
-    ensures client { OnOk result (IsClient hub.now.domain client.new.session) }
+    ensures client { OnOk result (IsSessionOf (server_of hub.now) client.new.session) }
     ensures sent { OnOk result (AreSentTo hub.now.domain (marks_of passes.new) client.new.session client.new.sent) }
     ensures quiet { OnOk result (AreUnopened hub.now.domain client.new.session client.new.opened) }
-    ensures replied { IfOk result (λ r. HasReplied C.Clock hub.now.domain passes.old passes.new clock.now clock.now
-        (client.old.session, ask.Attach name.now (option_copied from.entry)) client.new.session (reply_message r)) }
-    ensures halted { OnErr result (HasHalted C.Clock hub.now.domain passes.old passes.new clock.now clock.now
+    ensures replied { IfOk result (λ r. HasReplied C.Clock (server_of hub.now) passes.old passes.new clock.now clock.now
+        (client.old.session, ask.Attach name.now (option_copied from.entry)) client.new.session (option_map reply_message r)) }
+    ensures halted { OnErr result (HasHalted C.Clock (server_of hub.now) passes.old passes.new clock.now clock.now
         (client.old.session, ask.Attach name.now (option_copied from.entry))) }
-    ensures short { IfOk result (λ r. IsShort (reply_message r)) }
+    ensures short { IfOk result (λ r. IfSome r (λ m. IsShort (reply_message m))) }
     ensures cause { IfErr result (λ c. (c ≢ EndCause.Closed) × (c ≢ EndCause.Failed)) }
     ensures spent { IfErr result (λ c. (s : Spent) → c ≡ EndCause.Spent s → turn_limit ≤ s.ticket) }
 {
@@ -63,13 +63,13 @@ fn open<R: Wait, F: Folder + Drop, C: Clock, G: Gate>(
     match attached {
         Ok(attached) => {
             client.note_opened(shard);
-            Ok(attached.into_reply())
+            Ok(Some(attached.into_reply()))
         }
         Err(fault) => Err(hub_cause(fault)),
     }
 }
 
-// Tells the others where the answer to a submission came with a new delta, or may have.
+// Tells the others where the answer to a submission came with a new delta, or may have, and where one waits, which is to be relayed.
 fn tell<G: Gate>(gate: &mut G, number: u64, placed: &Placed) {
     match placed.answer {
         SubmitAnswer::Verdict(verdict) => {
@@ -77,7 +77,7 @@ fn tell<G: Gate>(gate: &mut G, number: u64, placed: &Placed) {
                 gate.news(number, placed.look.shard);
             }
         }
-        SubmitAnswer::Queued => {}
+        SubmitAnswer::Queued => gate.news(number, placed.look.shard),
         SubmitAnswer::NoHost => {}
         SubmitAnswer::Store => {}
     }
@@ -95,22 +95,23 @@ fn submit<R: Wait, F: Folder + Drop, C: Clock, G: Gate>(
     client: &mut Client,
     name: &WaveletName,
     submission: &Submission,
-) -> Result<Reply, EndCause>
+) -> Result<Option<Reply>, EndCause>
     requires own { AreOfHub hub.now passes.old }
-    requires client { IsClient hub.now.domain client.old.session }
+    requires client { IsSessionOf (server_of hub.now) client.old.session }
+    requires known { is_new client.old.session ≡ false }
     requires sent { AreSentTo hub.now.domain (marks_of passes.old) client.old.session client.old.sent }
     requires quiet { AreUnopened hub.now.domain client.old.session client.old.opened }
     ensures own { AreOfHub hub.now passes.new }
     ensures later { Grow (marks_of passes.old) (marks_of passes.new) }
     ensures looked { (k : ℕ) → loads_at passes.new k ≡ loads_at passes.old k }
-    ensures client { OnOk result (IsClient hub.now.domain client.new.session) }
+    ensures client { OnOk result (IsSessionOf (server_of hub.now) client.new.session) }
     ensures sent { OnOk result (AreSentTo hub.now.domain (marks_of passes.new) client.new.session client.new.sent) }
     ensures quiet { OnOk result (AreUnopened hub.now.domain client.new.session client.new.opened) }
-    ensures replied { IfOk result (λ r. HasReplied C.Clock hub.now.domain passes.old passes.new clock.old clock.new
-        (client.old.session, ask.Submit name.now submission.now) client.new.session (reply_message r)) }
-    ensures halted { OnErr result (HasHalted C.Clock hub.now.domain passes.old passes.new clock.old clock.new
+    ensures replied { IfOk result (λ r. HasReplied C.Clock (server_of hub.now) passes.old passes.new clock.old clock.new
+        (client.old.session, ask.Submit name.now submission.now) client.new.session (option_map reply_message r)) }
+    ensures halted { OnErr result (HasHalted C.Clock (server_of hub.now) passes.old passes.new clock.old clock.new
         (client.old.session, ask.Submit name.now submission.now)) }
-    ensures short { IfOk result (λ r. IsShort (reply_message r)) }
+    ensures short { IfOk result (λ r. IfSome r (λ m. IsShort (reply_message m))) }
     ensures cause { IfErr result (λ c. (c ≢ EndCause.Closed) × (c ≢ EndCause.Failed)) }
     ensures spent { IfErr result (λ c. (s : Spent) → c ≡ EndCause.Spent s → turn_limit ≤ s.ticket) }
 {
@@ -126,7 +127,10 @@ fn submit<R: Wait, F: Folder + Drop, C: Clock, G: Gate>(
                 .session
                 .answer_submit(alloc, name, &submission.id, &placed.answer)
             {
-                Ok(message) => Ok(Reply::Message(message)),
+                Ok(message) => {
+                    client.note_answer(shard, &placed.answer);
+                    Ok(Some(Reply::Message(message)))
+                }
                 Err(_) => Err(EndCause::Memory),
             }
         }
@@ -134,7 +138,52 @@ fn submit<R: Wait, F: Folder + Drop, C: Clock, G: Gate>(
     }
 }
 
-// The reply to what a message asked for.
+// Notes up to where a peer has a wavelet, which is due from there. There is no reply.
+fn have<R: Wait, F: Folder + Drop, C: Clock, G: Gate>(
+    rt: &R,
+    alloc: Global,
+    hub: &Hub<F>,
+    passes: &mut Passes<F>,
+    clock: &C,
+    gate: &mut G,
+    number: u64,
+    client: &mut Client,
+    name: &WaveletName,
+    from: &HashedVersion,
+) -> Result<Option<Reply>, EndCause>
+    requires own { AreOfHub hub.now passes.old }
+    requires client { IsSessionOf (server_of hub.now) client.old.session }
+    requires peer { has_peer client.old.session ≡ true }
+    requires sent { AreSentTo hub.now.domain (marks_of passes.old) client.old.session client.old.sent }
+    requires quiet { AreUnopened hub.now.domain client.old.session client.old.opened }
+    ensures own { AreOfHub hub.now passes.new }
+    ensures later { Grow (marks_of passes.old) (marks_of passes.new) }
+    ensures looked { (k : ℕ) → loads_at passes.new k ≡ loads_at passes.old k }
+    ensures client { OnOk result (IsSessionOf (server_of hub.now) client.new.session) }
+    ensures sent { OnOk result (AreSentTo hub.now.domain (marks_of passes.new) client.new.session client.new.sent) }
+    ensures quiet { OnOk result (AreUnopened hub.now.domain client.new.session client.new.opened) }
+    ensures replied { IfOk result (λ r. HasReplied C.Clock (server_of hub.now) passes.old passes.new clock.now clock.now
+        (client.old.session, ask.Have name.now from.now) client.new.session (option_map reply_message r)) }
+    ensures halted { OnErr result (HasHalted C.Clock (server_of hub.now) passes.old passes.new clock.now clock.now
+        (client.old.session, ask.Have name.now from.now)) }
+    ensures short { IfOk result (λ r. IfSome r (λ m. IsShort (reply_message m))) }
+    ensures cause { IfErr result (λ c. (c ≢ EndCause.Closed) × (c ≢ EndCause.Failed)) }
+    ensures spent { IfErr result (λ c. (s : Spent) → c ≡ EndCause.Spent s → turn_limit ≤ s.ticket) }
+{
+    let shard = wavelet_shelf::shard(name);
+    gate.before(number, shard);
+    let noted = hub.have(rt, alloc, passes, &mut client.session, name, from);
+    gate.after(number, shard);
+    match noted {
+        Ok(_) => {
+            client.note_opened(shard);
+            Ok(None)
+        }
+        Err(fault) => Err(hub_cause(fault)),
+    }
+}
+
+// The reply to what a message asked for; what a peer has, has none.
 fn reply<R: Wait, F: Folder + Drop, C: Clock, G: Gate>(
     rt: &R,
     alloc: Global,
@@ -145,27 +194,27 @@ fn reply<R: Wait, F: Folder + Drop, C: Clock, G: Gate>(
     number: u64,
     client: &mut Client,
     request: Request,
-) -> Result<Reply, EndCause>
+) -> Result<Option<Reply>, EndCause>
     requires own { AreOfHub hub.now passes.old }
-    requires client { IsClient hub.now.domain client.old.session }
-    requires asks { AsksAsClient client.old.session request }
+    requires client { IsSessionOf (server_of hub.now) client.old.session }
+    requires asks { MayAsk client.old.session request }
     requires sent { AreSentTo hub.now.domain (marks_of passes.old) client.old.session client.old.sent }
     requires quiet { AreUnopened hub.now.domain client.old.session client.old.opened }
     ensures own { AreOfHub hub.now passes.new }
     ensures later { Grow (marks_of passes.old) (marks_of passes.new) }
     ensures looked { (k : ℕ) → loads_at passes.new k ≡ loads_at passes.old k }
-    ensures client { OnOk result (IsClient hub.now.domain client.new.session) }
+    ensures client { OnOk result (IsSessionOf (server_of hub.now) client.new.session) }
     ensures sent { OnOk result (AreSentTo hub.now.domain (marks_of passes.new) client.new.session client.new.sent) }
     ensures quiet { OnOk result (AreUnopened hub.now.domain client.new.session client.new.opened) }
-    ensures replied { IfOk result (λ r. HasReplied C.Clock hub.now.domain passes.old passes.new clock.old clock.new
-        (client.old.session, request) client.new.session (reply_message r)) }
-    ensures halted { OnErr result (HasHalted C.Clock hub.now.domain passes.old passes.new clock.old clock.new (client.old.session, request)) }
-    ensures short { IfOk result (λ r. IsShort (reply_message r)) }
+    ensures replied { IfOk result (λ r. HasReplied C.Clock (server_of hub.now) passes.old passes.new clock.old clock.new
+        (client.old.session, request) client.new.session (option_map reply_message r)) }
+    ensures halted { OnErr result (HasHalted C.Clock (server_of hub.now) passes.old passes.new clock.old clock.new (client.old.session, request)) }
+    ensures short { IfOk result (λ r. IfSome r (λ m. IsShort (reply_message m))) }
     ensures cause { IfErr result (λ c. (c ≢ EndCause.Closed) × (c ≢ EndCause.Failed)) }
     ensures spent { IfErr result (λ c. (s : Spent) → c ≡ EndCause.Spent s → turn_limit ≤ s.ticket) }
 {
     match request {
-        Request::Reply(message) => Ok(Reply::Message(message)),
+        Request::Reply(message) => Ok(Some(Reply::Message(message))),
         Request::Attach { name, at } => {
             open(
                 rt,
@@ -194,11 +243,15 @@ fn reply<R: Wait, F: Folder + Drop, C: Clock, G: Gate>(
                 &submission,
             )
         }
-        Request::Have { name: _, at: _ } => unreachable!(),
+        Request::Have { name, at } => {
+            have(
+                rt, alloc, hub, passes, clock, gate, number, client, &name, &at,
+            )
+        }
     }
 }
 
-/// The reply to a message.
+/// The reply to a message, if it has one.
 pub(crate) fn reply_to<R: Wait, F: Folder + Drop, C: Clock, G: Gate>(
     rt: &R,
     alloc: Global,
@@ -209,25 +262,25 @@ pub(crate) fn reply_to<R: Wait, F: Folder + Drop, C: Clock, G: Gate>(
     number: u64,
     client: &mut Client,
     bytes: &[u8],
-) -> Result<Reply, EndCause>
+) -> Result<Option<Reply>, EndCause>
     requires own { AreOfHub hub.now passes.old }
-    requires client { IsClient hub.now.domain client.old.session }
+    requires client { IsSessionOf (server_of hub.now) client.old.session }
     requires sent { AreSentTo hub.now.domain (marks_of passes.old) client.old.session client.old.sent }
     requires quiet { AreUnopened hub.now.domain client.old.session client.old.opened }
     ensures own { AreOfHub hub.now passes.new }
     ensures later { Grow (marks_of passes.old) (marks_of passes.new) }
     ensures looked { (k : ℕ) → loads_at passes.new k ≡ loads_at passes.old k }
-    ensures client { OnOk result (IsClient hub.now.domain client.new.session) }
+    ensures client { OnOk result (IsSessionOf (server_of hub.now) client.new.session) }
     ensures sent { OnOk result (AreSentTo hub.now.domain (marks_of passes.new) client.new.session client.new.sent) }
     ensures quiet { OnOk result (AreUnopened hub.now.domain client.new.session client.new.opened) }
-    ensures replied { IfOk result (λ r. HasReplied C.Clock hub.now.domain passes.old passes.new clock.old clock.new
-        (taken_bytes client.old.session bytes.now) client.new.session (reply_message r)) }
-    ensures halted { OnErr result (HasHalted C.Clock hub.now.domain passes.old passes.new clock.old clock.new (taken_bytes client.old.session bytes.now)) }
-    ensures short { IfOk result (λ r. IsShort (reply_message r)) }
+    ensures replied { IfOk result (λ r. HasReplied C.Clock (server_of hub.now) passes.old passes.new clock.old clock.new
+        (taken_bytes client.old.session bytes.now) client.new.session (option_map reply_message r)) }
+    ensures halted { OnErr result (HasHalted C.Clock (server_of hub.now) passes.old passes.new clock.old clock.new (taken_bytes client.old.session bytes.now)) }
+    ensures short { IfOk result (λ r. IfSome r (λ m. IsShort (reply_message m))) }
     ensures cause { IfErr result (λ c. (c ≢ EndCause.Closed) × (c ≢ EndCause.Failed)) }
     ensures spent { IfErr result (λ c. (s : Spent) → c ≡ EndCause.Spent s → turn_limit ≤ s.ticket) }
 {
-    match client.session.take_message(alloc, bytes) {
+    match client.take(alloc, bytes) {
         Ok(request) => reply(rt, alloc, hub, passes, clock, gate, number, client, request),
         Err(_) => Err(EndCause::Memory),
     }

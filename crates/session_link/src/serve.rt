@@ -1,16 +1,15 @@
 // One session.
-ghost use Rattle.std.specs.Prelude.{◌≡◌, ◌≢◌, ◌<◌, ◌≤◌, ◌+◌, ◌++◌, ◌∷◌, [], ℕ, true, false, IsTrue, IfErr, OnOk, OnErr, MatchResult};
+ghost use Rattle.std.specs.Prelude.{◌≡◌, ◌≢◌, ◌<◌, ◌≤◌, ◌+◌, ◌++◌, [], ℕ, true, false, option_map, IsTrue, IfSome, IfErr, OnOk, OnErr, MatchResult};
 ghost use Rattle.turn_cells.specs.Cells.{Begins, loads_at};
 ghost use Rattle.turn_lock.specs.Turns.{turn_limit};
 ghost use Rattle.wave_outside.specs.Counts.{Rose};
 ghost use Rattle.wave_outside.specs.Links.{received, sent};
 ghost use Rattle.message_json.specs.Write.{IsShort};
 ghost use Rattle.session_core.specs.News.{reply_message};
-ghost use Rattle.shard_marks.specs.Frames.{frame_of};
 ghost use Rattle.shard_marks.specs.Passes.{marks_of};
-ghost use Rattle.session_hub.specs.Hubs.{AreOfHub};
-ghost use Rattle.session_steps.specs.Clients.{IsClient, AreSentTo, AreSentAll};
-ghost use Rattle.session_steps.specs.Going.{Grow, Origin, HaveLooked, GoesOn, HasEnded};
+ghost use Rattle.session_hub.specs.Hubs.{AreOfHub, server_of};
+ghost use Rattle.session_steps.specs.Clients.{IsSessionOf, AreSentTo, AreSentAll};
+ghost use Rattle.session_steps.specs.Going.{Grow, Origin, HaveLooked, GoesOn, HasEnded, reply_frames};
 ghost use Rattle.session_steps.specs.Jobs.{IsEnded};
 ghost use Rattle.session_steps.specs.Served.{poll_count};
 ghost use Rattle.session_steps.specs.declared.end.EndCause.TheVariants.{Closed, Failed};
@@ -28,11 +27,11 @@ use std::sync::Wait;
 use turn_lock::Spent;
 use wave_outside::{Clock, Folder, Gate, Link, Polled};
 
-// Sends a reply.
+// Sends a reply, where there is one.
 #[tactic(auto, using(session_steps::proofs::Events::received_same, session_steps::proofs::Events::polls_same, session_steps::proofs::Events::sent_text))]
-fn send_reply<L: Link>(alloc: Global, link: &mut L, reply: Reply) -> Result<(), EndCause>
-    requires { IsShort (reply_message reply) }
-    ensures sent { IsTrue L.tells → OnOk result (sent (L.events link.new) ≡ sent (L.events link.old) ++ frame_of (reply_message reply) ∷ []) }
+fn send_reply<L: Link>(alloc: Global, link: &mut L, reply: Option<Reply>) -> Result<(), EndCause>
+    requires { IfSome reply (λ r. IsShort (reply_message r)) }
+    ensures sent { IsTrue L.tells → OnOk result (sent (L.events link.new) ≡ sent (L.events link.old) ++ reply_frames (option_map reply_message reply)) }
     ensures unsent { IsTrue L.tells → OnErr result (sent (L.events link.new) ≡ sent (L.events link.old)) }
     ensures received { IsTrue L.tells → received (L.events link.new) ≡ received (L.events link.old) }
     ensures polls { IsTrue L.tells → poll_count (L.events link.new) ≡ poll_count (L.events link.old) }
@@ -41,6 +40,9 @@ fn send_reply<L: Link>(alloc: Global, link: &mut L, reply: Reply) -> Result<(), 
     ensures failed { IfErr result (λ c. c ≡ EndCause.Failed → Rose (L.faults link.old) (L.faults link.new)) }
     ensures faults { L.faults link.old ≤ L.faults link.new }
 {
+    let Some(reply) = reply else {
+        return Ok(());
+    };
     let text = match frame(alloc, reply) {
         Ok(text) => text,
         Err(_) => return Err(EndCause::Memory),
@@ -64,20 +66,20 @@ fn look<R: Wait, F: Folder + Drop, L: Link, C: Clock, G: Gate>(
     client: &mut Client,
 ) -> Result<(), EndCause>
     requires own { AreOfHub hub.now passes.old }
-    requires client { IsClient hub.now.domain client.old.session }
+    requires client { IsSessionOf (server_of hub.now) client.old.session }
     requires sent { AreSentTo hub.now.domain (marks_of passes.old) client.old.session client.old.sent }
     requires quiet { AreUnopened hub.now.domain client.old.session client.old.opened }
     requires all { AreSentAll (marks_of passes.old) 16 client.old.sent }
     ensures own { AreOfHub hub.now passes.new }
     ensures later { Grow (marks_of passes.old) (marks_of passes.new) }
     ensures looked { (k : ℕ) → loads_at passes.new k ≡ loads_at passes.old k }
-    ensures client { OnOk result (IsClient hub.now.domain client.new.session) }
+    ensures client { OnOk result (IsSessionOf (server_of hub.now) client.new.session) }
     ensures sent { OnOk result (AreSentTo hub.now.domain (marks_of passes.new) client.new.session client.new.sent) }
     ensures quiet { OnOk result (AreUnopened hub.now.domain client.new.session client.new.opened) }
-    ensures going { (o : Origin) → GoesOn C.Clock L.Link o hub.now.domain passes.old link.old clock.old client.old.session
-        → OnOk result (GoesOn C.Clock L.Link o hub.now.domain passes.new link.new clock.new client.new.session) }
-    ensures ended { (o : Origin) → GoesOn C.Clock L.Link o hub.now.domain passes.old link.old clock.old client.old.session
-        → IfErr result (λ c. HasEnded C.Clock L.Link o hub.now.domain passes.new link.new clock.new c) }
+    ensures going { (o : Origin) → GoesOn C.Clock L.Link o (server_of hub.now) passes.old link.old clock.old client.old.session
+        → OnOk result (GoesOn C.Clock L.Link o (server_of hub.now) passes.new link.new clock.new client.new.session) }
+    ensures ended { (o : Origin) → GoesOn C.Clock L.Link o (server_of hub.now) passes.old link.old clock.old client.old.session
+        → IfErr result (λ c. HasEnded C.Clock L.Link o (server_of hub.now) passes.new link.new clock.new c) }
     ensures polls { IsTrue L.tells → poll_count (L.events link.new) ≤ poll_count (L.events link.old) + 1 }
     ensures closed { IfErr result (λ c. c ≡ EndCause.Closed → L.closed link.new ≡ true) }
     ensures unclosed { L.closed link.old ≡ false → MatchResult result (λ _. L.closed link.new ≡ false) (λ c. c ≢ EndCause.Closed → L.closed link.new ≡ false) }
@@ -124,19 +126,19 @@ fn turn<R: Wait, F: Folder + Drop, L: Link, C: Clock, G: Gate>(
     client: &mut Client,
 ) -> Result<(), EndCause>
     requires own { AreOfHub hub.now passes.old }
-    requires client { IsClient hub.now.domain client.old.session }
+    requires client { IsSessionOf (server_of hub.now) client.old.session }
     requires sent { AreSentTo hub.now.domain (marks_of passes.old) client.old.session client.old.sent }
     requires quiet { AreUnopened hub.now.domain client.old.session client.old.opened }
     ensures own { AreOfHub hub.now passes.new }
     ensures later { Grow (marks_of passes.old) (marks_of passes.new) }
     ensures looked { IsTrue L.tells → HaveLooked (loads_at passes.old) (L.events link.old) (loads_at passes.new) (L.events link.new) }
-    ensures client { OnOk result (IsClient hub.now.domain client.new.session) }
+    ensures client { OnOk result (IsSessionOf (server_of hub.now) client.new.session) }
     ensures sent { OnOk result (AreSentTo hub.now.domain (marks_of passes.new) client.new.session client.new.sent) }
     ensures quiet { OnOk result (AreUnopened hub.now.domain client.new.session client.new.opened) }
-    ensures going { (o : Origin) → GoesOn C.Clock L.Link o hub.now.domain passes.old link.old clock.old client.old.session
-        → OnOk result (GoesOn C.Clock L.Link o hub.now.domain passes.new link.new clock.new client.new.session) }
-    ensures ended { (o : Origin) → GoesOn C.Clock L.Link o hub.now.domain passes.old link.old clock.old client.old.session
-        → IfErr result (λ c. HasEnded C.Clock L.Link o hub.now.domain passes.new link.new clock.new c) }
+    ensures going { (o : Origin) → GoesOn C.Clock L.Link o (server_of hub.now) passes.old link.old clock.old client.old.session
+        → OnOk result (GoesOn C.Clock L.Link o (server_of hub.now) passes.new link.new clock.new client.new.session) }
+    ensures ended { (o : Origin) → GoesOn C.Clock L.Link o (server_of hub.now) passes.old link.old clock.old client.old.session
+        → IfErr result (λ c. HasEnded C.Clock L.Link o (server_of hub.now) passes.new link.new clock.new c) }
     ensures closed { IfErr result (λ c. c ≡ EndCause.Closed → L.closed link.new ≡ true) }
     ensures unclosed { L.closed link.old ≡ false → MatchResult result (λ _. L.closed link.new ≡ false) (λ c. c ≢ EndCause.Closed → L.closed link.new ≡ false) }
     ensures failed { IfErr result (λ c. c ≡ EndCause.Failed → Rose (L.faults link.old) (L.faults link.new)) }
@@ -166,14 +168,15 @@ pub fn serve_link<R: Wait, F: Folder + Drop, L: Link, C: Clock, G: Gate>(
     requires unused { L.events link.old ≡ [] }
     ensures own { AreOfHub hub.now passes.new }
     ensures later { Begins passes.old passes.new }
-    ensures ended { IsTrue L.tells → IsEnded hub.now.domain passes.old passes.new C.tells (C.readings clock.old) (C.readings clock.new) (L.events link.new) result }
+    ensures ended { IsTrue L.tells → IsEnded (server_of hub.now) passes.old passes.new C.tells (C.readings clock.old) (C.readings clock.new)
+        (L.events link.new) result }
     ensures closed { result ≡ Closed → L.closed link.new ≡ true }
     ensures unclosed { L.closed link.old ≡ false → result ≢ Closed → L.closed link.new ≡ false }
     ensures failed { result ≡ Failed → Rose (L.faults link.old) (L.faults link.new) }
     ensures faults { L.faults link.old ≤ L.faults link.new }
     ensures spent { (s : Spent) → result ≡ EndCause.Spent s → turn_limit ≤ s.ticket }
 {
-    let mut client = match Client::new(alloc, hub.domain()) {
+    let mut client = match Client::new(alloc, hub.domain(), hub.peers()) {
         Ok(client) => client,
         Err(_) => return EndCause::Memory,
     };

@@ -1,28 +1,47 @@
 -- Shards have no wavelet in common, and what a session was sent of one stays sent whatever it is sent of another.
---     uncopied          of a wavelet of another shard there is no copy
---     apart             of each wavelet there is a copy at one of two shards at most
+--     lacking           of a wavelet of another shard nothing is shown
+--     apart             no wavelet is shown at two shards
 --     sent_taken        after a message that asks for no look
---     sent_opened       after an `open`, where its shard is due then
+--     sent_about        after a call about one wavelet, where its shard is due then
 --     sent_delivered    after news
 --     nothing_left      where a session was sent all of each shard
-use Rattle.std.proofs.Common.{◌≡◌, ◌≢◌, ◌⊎◌, inl, inr, ◌<◌, ℕ, arith, Bool, true, false, cond, nat_eq, List, [], ◌∷◌, length, get_or, None, refl, sym, ap, subst, ◌∙◌, true≢false}
+use Rattle.std.proofs.Common.{◌≡◌, ◌≢◌, ◌⊎◌, inl, inr, ◌<◌, ℕ, arith, Bool, true, false, cond, nat_eq, List, [], ◌∷◌, length, get_or, None, Some, option_map, unwrap_or, refl, sym, ap, subst, ◌∙◌, true≢false}
 use Rattle.std.proofs.lemmas.Bool.{and_parts}
 use Rattle.std.proofs.lemmas.Bool.Decides.{nat_tests}
+use Rattle.std.specs.Cmp.Lexicographic.{slice_cmp}
+use Rattle.std.specs.FinMap.{get, insert, empty, get-empty}
+use Rattle.std.specs.List.{AllByRecursion}
+use Rattle.std.specs.Ordering.{nat_cmp}
 use Rattle.doc_items.specs.Maps.{Key}
-use Rattle.message_json.specs.declared.message.Message.{Message}
+use Rattle.doc_items.proofs.Maps.{tie, tied}
+use Rattle.wave_base.specs.Versions.{IdOf}
+use Rattle.delta_history.specs.Copying.{kept_in}
+use Rattle.delta_history.specs.Points.{start}
+use Rattle.delta_history.specs.Verdicts.{kept}
 use Rattle.session_core.specs.declared.session.Session.{Session}
+use Rattle.session_core.specs.Access.{Shown}
 use Rattle.session_core.specs.Deliveries.{delivered, after_delivery}
-use Rattle.session_core.specs.Rules.{Taken}
+use Rattle.session_core.specs.Rules.{Taken, has_peer}
 use Rattle.wavelet_shelf.specs.FileNames.{shard_of}
-use Rattle.wavelet_shelf.specs.Hosting.{Hosted, deltas_in, grown_in, copy_of}
+use Rattle.wavelet_shelf.specs.Hosting.{Hosted, names_of, deltas_in, grown_in, copy_of}
+use Rattle.wavelet_shelf.specs.Shelves.{acknowledged}
 use Rattle.wavelet_shelf.proofs.Growing.{grows_alone}
+use Rattle.wavelet_shelf.proofs.Names.{decided}
 use Rattle.shard_marks.specs.declared.mark.Mark.{Mark}
 use Rattle.shard_marks.specs.declared.mark.Mark.TheVariants.{Began, Applied, Fault, Queued, Answered, Dropped}
-use Rattle.shard_marks.specs.Marks.{is_of, is_founded, after_mark, replayed_on, shown_at}
-use Rattle.session_steps.specs.Clients.{IsClient, IsSentTo, AreSentTo, AreSentAll}
+use Rattle.replica_store.specs.Settling.{outcome_kept}
+use Rattle.replica_store.specs.Worlds.{WorldOf, empty_world, Worlds, world_at, outcome_at, world_taken, world_queued, world_settled, dropped}
+use Rattle.replica_store.proofs.Stored.{get_put}
+use Rattle.hosted_copies.specs.Domains.{is_hosted_by}
+use Rattle.hosted_copies.specs.Shown.{outcome_in}
+use Rattle.shard_marks.specs.Marks.{is_of, is_copied, is_founded, after_mark, replayed_on, replayed, with_mark, copied_on, copied, shown_at}
+use Rattle.shard_marks.specs.Servers.{ServerOf}
+use Rattle.shard_marks.proofs.Following.{of_replayed}
+use Rattle.session_steps.specs.Clients.{IsSentTo, AreSentTo, AreSentAll}
 use Rattle.session_steps.specs.Served.{HaveNothingLeft}
 use Rattle.session_steps.proofs.Growing.{prefix_self, prefix_whole}
-use Rattle.session_steps.proofs.Taking.{IsTaken, IsAttached, after_quiet}
+use Rattle.session_steps.proofs.Taking.{IsTaken, IsLacking, IsAbout, AreApart, after_quiet}
+use Rattle.session_steps.proofs.Telling.{IsNoneOf}
 
 same_number : (a b : ℕ) → nat_eq a b ≡ true → a ≡ b
 same_number a b e = grind (arith, nat_tests)
@@ -40,35 +59,90 @@ module _ (d : Key) (k : ℕ) (n : Key) (other : shard_of n ≢ k) where
       go true e = grows_alone.others hs x delta n (λ same. other (ap shard_of same ∙ same_number (shard_of x) k (and_parts _ _ e).1)) ∙ none
       go false e = none
 
+  changed : (cs : Worlds) (x : Key) (w : WorldOf) → world_at cs n ≡ empty_world → world_at (cond (is_copied d k x) (insert cs x w) cs) n ≡ empty_world
+  changed cs x w none = go (is_copied d k x) refl
+    where
+      go : (t : Bool) → is_copied d k x ≡ t → world_at (cond t (insert cs x w) cs) n ≡ empty_world
+      go false e = none
+      go true e = ap (λ o. unwrap_or o empty_world) (get_put cs x w n) ∙ apart_from (tie n x) refl
+        where
+          apart_from : (b : Bool) → tie n x ≡ b → unwrap_or (cond b (Some w) (get cs n)) empty_world ≡ empty_world
+          apart_from false f = none
+          apart_from true f = absurd (other (ap shard_of (tied n x f) ∙ same_number (shard_of x) k (and_parts _ _ e).1))
+
   replayed_none : (ms : List Mark) (hs : List Hosted) → deltas_in hs n ≡ [] → deltas_in (replayed_on d k hs ms) n ≡ []
   replayed_none [] hs none = none
   replayed_none (m ∷ ms) hs none = replayed_none ms (after_mark d k hs m) (mark_none hs m none)
 
-  pub uncopied : (ms : List Mark) → (shown_at d k ms).copy n ≡ None
-  uncopied ms = ap (copy_of n) (replayed_none ms [] refl)
+  -- so there is no copy
+  world_none : (cs : Worlds) (m : Mark) → world_at cs n ≡ empty_world → world_at (with_mark d k cs m) n ≡ empty_world
+  world_none cs (Began e j) none = none
+  world_none cs (Applied x delta) none = changed cs x (world_taken (world_at cs x) delta) none
+  world_none cs (Fault x i) none = none
+  world_none cs (Queued x s) none = changed cs x (world_queued (world_at cs x) s) none
+  world_none cs (Answered x i v) none = changed cs x (world_settled (world_at cs x) i v) none
+  world_none cs (Dropped x) none = changed cs x (dropped (world_at cs x)) none
+
+  copied_none : (ms : List Mark) (cs : Worlds) → world_at cs n ≡ empty_world → world_at (copied_on d k cs ms) n ≡ empty_world
+  copied_none [] cs none = none
+  copied_none (m ∷ ms) cs none = copied_none ms (with_mark d k cs m) (world_none cs m none)
+
+  no_deltas : (ms : List Mark) → deltas_in (replayed d k ms) n ≡ []
+  no_deltas ms = replayed_none ms [] refl
+
+  no_world : (ms : List Mark) → world_at (copied d k ms) n ≡ empty_world
+  no_world ms = copied_none ms empty (ap (λ o. unwrap_or o empty_world) (get-empty (slice_cmp nat_cmp) n))
+
+  -- the hosts' names are of the shard
+  none_of : (hs : List Hosted) → AllByRecursion (λ h. is_of d k h.name ≡ true) hs → IsNoneOf n (names_of hs)
+  none_of [] all = tt
+  none_of (h ∷ hs) all = (decided n h.name (λ e. other (ap shard_of e ∙ same_number (shard_of h.name) k (and_parts _ _ all.0).1)), none_of hs all.1)
+
+  pub lacking : (ms : List Mark) → IsLacking (shown_at d k ms) n
+  lacking ms = record {
+    copy = ap (copy_of n) (no_copy (is_hosted_by d n));
+    outcome = λ i. no_outcome i (is_hosted_by d n);
+    unhosted = none_of (replayed d k ms) (of_replayed d k ms);
+  }
+    where
+      no_copy : (b : Bool) → cond b (deltas_in (replayed d k ms) n) (world_at (copied d k ms) n).replica.deltas ≡ []
+      no_copy true = no_deltas ms
+      no_copy false = ap (λ (w : WorldOf). w.replica.deltas) (no_world ms)
+
+      no_outcome : (i : IdOf) (b : Bool) → cond b (outcome_in (replayed d k ms) n i) (outcome_at (copied d k ms) n i) ≡ None
+      no_outcome i true = ap (λ ds. option_map acknowledged (kept_in (copy_of n ds) i)) (no_deltas ms)
+      no_outcome i false = ap (λ (w : WorldOf). outcome_kept i w.noted (kept i (start n) w.replica.deltas)) (no_world ms)
 
 same_or_not : (j k : ℕ) → (j ≡ k) ⊎ (j ≢ k)
 same_or_not j k = grind arith
 
-pub apart : (d : Key) (j k : ℕ) → j ≢ k → (ms ns : List Mark) (n : Key) → ((shown_at d j ms).copy n ≡ None) ⊎ ((shown_at d k ns).copy n ≡ None)
-apart d j k differ ms ns n = go (same_or_not (shard_of n) j)
+pub apart : (d : Key) (j k : ℕ) → j ≢ k → (ms ns : List Mark) → AreApart (shown_at d j ms) (shown_at d k ns)
+apart d j k differ ms ns = record { copies = λ n. go n (same_or_not (shard_of n) j); hosts = each (replayed d j ms) (of_replayed d j ms) }
   where
-    go : (shard_of n ≡ j) ⊎ (shard_of n ≢ j) → ((shown_at d j ms).copy n ≡ None) ⊎ ((shown_at d k ns).copy n ≡ None)
-    go (inl e) = inr (uncopied d k n (λ f. differ (sym e ∙ f)) ns)
-    go (inr e) = inl (uncopied d j n e ms)
+    go : (n : Key) → (shard_of n ≡ j) ⊎ (shard_of n ≢ j) → ((shown_at d k ns).copy n ≡ None) ⊎ ((shown_at d j ms).copy n ≡ None)
+    go n (inl e) = inl (lacking d k n (λ f. differ (sym e ∙ f)) ns).copy
+    go n (inr e) = inr (lacking d j n e ms).copy
+
+    each : (hs : List Hosted) → AllByRecursion (λ h. is_of d j h.name ≡ true) hs → AllByRecursion (λ h. IsNoneOf h (shown_at d k ns).hosts) (names_of hs)
+    each [] all = tt
+    each (h ∷ hs) all = ((lacking d k h.name (λ f. differ (sym (same_number (shard_of h.name) j (and_parts _ _ all.0).1) ∙ f)) ns).unhosted, each hs all.1)
 
 module _ (d : Key) (m : ℕ → List Mark) (s : Session) (lengths : List ℕ) (sent : AreSentTo d m s lengths) where
-  pub sent_taken : (r : Taken) → IsTaken d s r → AreSentTo d m r.0 lengths
-  sent_taken r t k below = let here = sent k below in record {
+  -- what is quiet for the one session is quiet for the other
+  sent_as : (x : Session) → ((c : Shown) → delivered c s ≡ [] → delivered c x ≡ []) → AreSentTo d m x lengths
+  sent_as x quiet k below = let here = sent k below in record {
     within = here.within;
-    quiet = λ cut begins whole some. t.quiet (shown_at d k cut) (here.quiet cut begins whole some);
+    quiet = λ cut begins whole some. quiet (shown_at d k cut) (here.quiet cut begins whole some);
   }
 
+  pub sent_taken : (v : ServerOf) (r : Taken) → IsTaken v s r → has_peer r.0 ≡ has_peer s → AreSentTo d m r.0 lengths
+  sent_taken v r t same = sent_as r.0 (t.quiet same)
+
   module _ (now : List ℕ) (j : ℕ) (others : (k : ℕ) → k ≢ j → get_or now k 0 ≡ get_or lengths k 0) where
-    pub sent_opened : (name : Key) (r : Session × Message) → j ≡ shard_of name → get_or now j 0 ≡ 0 → IsAttached d s name r → AreSentTo d m r.0 now
-    sent_opened name r at due a k below = go (same_or_not k j)
+    pub sent_about : (v : ServerOf) (name : Key) (x : Session) → j ≡ shard_of name → get_or now j 0 ≡ 0 → IsAbout v s name x → AreSentTo d m x now
+    sent_about v name x at due a k below = go (same_or_not k j)
       where
-        go : (k ≡ j) ⊎ (k ≢ j) → IsSentTo d k (m k) r.0 (get_or now k 0)
+        go : (k ≡ j) ⊎ (k ≢ j) → IsSentTo d k (m k) x (get_or now k 0)
         go (inl e) =
             let zero_here : get_or now k 0 ≡ 0 = ap (λ i. get_or now i 0) e ∙ due in record {
               within = omega (arith, zero_here);
@@ -78,11 +152,11 @@ module _ (d : Key) (m : ℕ → List Mark) (s : Session) (lengths : List ℕ) (s
             let here = sent k below in
             let same = others k n in record {
               within = omega (arith, here.within, same);
-              quiet = λ cut begins whole some. a.quiet (shown_at d k cut) (uncopied d k name (λ e. n (sym e ∙ sym at)) cut) (here.quiet cut begins (whole ∙ same) (λ z. some (same ∙ z)));
+              quiet = λ cut begins whole some. a.quiet (shown_at d k cut) (lacking d k name (λ e. n (sym e ∙ sym at)) cut) (here.quiet cut begins (whole ∙ same) (λ z. some (same ∙ z)));
             }
 
-    pub sent_delivered : IsClient d s → (x : Session) → x ≡ after_delivery (shown_at d j (m j)) s → delivered (shown_at d j (m j)) x ≡ [] → get_or now j 0 ≡ length (m j) → AreSentTo d m x now
-    sent_delivered p x is told length_is k below = go (same_or_not k j)
+    pub sent_delivered : (x : Session) → x ≡ after_delivery (shown_at d j (m j)) s → delivered (shown_at d j (m j)) x ≡ [] → get_or now j 0 ≡ length (m j) → AreSentTo d m x now
+    sent_delivered x is told length_is k below = go (same_or_not k j)
       where
         go : (k ≡ j) ⊎ (k ≢ j) → IsSentTo d k (m k) x (get_or now k 0)
         go (inl e) =
@@ -95,7 +169,7 @@ module _ (d : Key) (m : ℕ → List Mark) (s : Session) (lengths : List ℕ) (s
             let same = others k n in record {
               within = omega (arith, here.within, same);
               quiet = λ cut begins whole some. ap (delivered (shown_at d k cut)) is
-                  ∙ after_quiet d s p (shown_at d j (m j)) (shown_at d k cut) (apart d k j n cut (m j)) (here.quiet cut begins (whole ∙ same) (λ z. some (same ∙ z)));
+                  ∙ after_quiet s (shown_at d j (m j)) (shown_at d k cut) (apart d j k (λ e. n (sym e)) (m j) cut) (here.quiet cut begins (whole ∙ same) (λ z. some (same ∙ z)));
             }
 
   some_marks : (k : ℕ) (ms : List Mark) → is_founded d k ms ≡ true → length ms ≢ 0

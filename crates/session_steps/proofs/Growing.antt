@@ -16,6 +16,7 @@ use Rattle.shard_marks.specs.declared.look.Look.{Look}
 use Rattle.shard_marks.specs.declared.mark.Mark.{Mark}
 use Rattle.shard_marks.specs.Passes.{HaveTurned, marks_of}
 use Rattle.shard_marks.specs.Looks.{IsCut}
+use Rattle.shard_marks.specs.Servers.{ServerOf}
 use Rattle.session_steps.specs.declared.step.LinkStep.{LinkStep}
 use Rattle.session_steps.specs.declared.step.LinkStep.TheVariants.{Read, Delivered}
 use Rattle.session_steps.specs.Clients.{AreSentTo}
@@ -85,15 +86,15 @@ module _ {T : Type 0} (ps qs : Passes T Mark) where
 
 -- ---- steps
 
-module _ (d : Key) (m n : ℕ → List Mark) (grown : Grow m n) (begun : ℕ → ℕ) where
+module _ (v : ServerOf) (m n : ℕ → List Mark) (grown : Grow m n) (begun : ℕ → ℕ) where
   cut_later : (l : Look) (cut : List Mark) → IsCut m l cut → IsCut n l cut
   cut_later l cut c = record { begins = prefix_more cut (m l.shard) (n l.shard) c.begins (grown l.shard); whole = c.whole }
 
   module _ (ss : List LinkStep) where
-    at_later : (k : ℕ) (l : Look) (cut : List Mark) → IsAt d m begun ss k l cut → IsAt d n begun ss k l cut
+    at_later : (k : ℕ) (l : Look) (cut : List Mark) → IsAt v m begun ss k l cut → IsAt v n begun ss k l cut
     at_later k l cut a = record { shard = a.shard; cut_is = cut_later l cut a.cut_is; later = a.later }
 
-    asked_later : (x : Session × Request) (look : Option Look) (reading : Option ℕ) (w : Work) → IsAsked d m begun ss x look reading w → IsAsked d n begun ss x look reading w
+    asked_later : (x : Session × Request) (look : Option Look) (reading : Option ℕ) (w : Work) → IsAsked v m begun ss x look reading w → IsAsked v n begun ss x look reading w
     asked_later (s, ask.Reply t) look reading w a = record { unlooked = a.unlooked; unread = a.unread; session = a.session; frames = a.frames; added = a.added }
     asked_later (s, ask.Attach name from) look reading w a = record {
       at = a.at;
@@ -131,11 +132,11 @@ module _ (d : Key) (m n : ℕ → List Mark) (grown : Grow m n) (begun : ℕ →
       added = a.added;
     }
 
-    readings_same : (o : Option ℕ) → reading_of d m begun ss o ≡ reading_of d n begun ss o
+    readings_same : (o : Option ℕ) → reading_of v m begun ss o ≡ reading_of v n begun ss o
     readings_same None = refl
     readings_same (Some t) = refl
 
-    step_later : (st : LinkStep) (a b : Progress) → IsStep d m begun ss st a b → IsStep d n begun ss st a b
+    step_later : (st : LinkStep) (a b : Progress) → IsStep v m begun ss st a b → IsStep v n begun ss st a b
     step_later (Read look reading) a b s = record {
       bytes = s.bytes;
       work = s.work;
@@ -156,7 +157,7 @@ module _ (d : Key) (m n : ℕ → List Mark) (grown : Grow m n) (begun : ℕ →
       added = s.added;
     }
 
-  pub walk_later : (ss : List LinkStep) (a : Progress) → IsWalk d m begun ss a → IsWalk d n begun ss a
+  pub walk_later : (ss : List LinkStep) (a : Progress) → IsWalk v m begun ss a → IsWalk v n begun ss a
   walk_later [] a w = w
   walk_later (st ∷ ss) a w = (w.0, walk_later ss w.0 w.1, step_later ss st w.0 a w.2)
 

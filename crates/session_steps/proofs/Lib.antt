@@ -2,6 +2,7 @@ pub mod Events
 pub mod Counting
 pub mod Growing
 pub mod Walking
+pub mod Telling
 pub mod Taking
 pub mod Apart
 pub mod Serving

@@ -9,8 +9,9 @@
 --     looked_turn           looks at lengths and polls over one turn
 --     ended_of, ended_unbegun               at the end of the loop, and where it never began
 --     no_events             a list that is empty
+--     session_new, sent_new                 a new session, and one to which all is due
 --     looked_next, loads_next, all_next     one shard more was looked at
-use Rattle.std.proofs.Common.{sym, ap, refl, subst, ◌∙◌, ◌≡◌, ◌≢◌, ◌⊎◌, inl, inr, ◌+◌, ◌<◌, ◌≤◌, ℕ, Bool, arith, List, [], ◌∷◌, ◌++◌, length, append-nil, get_or, Some}
+use Rattle.std.proofs.Common.{sym, ap, refl, subst, ◌∙◌, ◌≡◌, ◌≢◌, ◌⊎◌, inl, inr, ◌+◌, ◌<◌, ◌≤◌, ℕ, Bool, arith, List, [], ◌∷◌, ◌++◌, length, append-nil, get_or, Option, Some}
 use mathlib.Core.List.{IsPrefix}
 use Rattle.doc_items.specs.Maps.{Key}
 use Rattle.message_json.specs.declared.message.Message.{Message}
@@ -24,14 +25,15 @@ use Rattle.wave_outside.specs.declared.link.LinkEvent.{LinkEvent}
 use Rattle.wave_outside.specs.declared.link.LinkEvent.TheVariants.{Received, Idle, Ended}
 use Rattle.shard_marks.specs.declared.look.Look.{Look}
 use Rattle.shard_marks.specs.declared.mark.Mark.{Mark}
-use Rattle.shard_marks.specs.Frames.{frame_of, frames_of}
+use Rattle.shard_marks.specs.Frames.{frames_of}
 use Rattle.shard_marks.specs.Passes.{HaveTurned, marks_of}
 use Rattle.shard_marks.specs.Looks.{IsLook}
 use Rattle.shard_marks.specs.Marks.{shown_at}
+use Rattle.shard_marks.specs.Servers.{ServerOf}
 use Rattle.session_steps.specs.declared.end.EndCause.{EndCause}
 use Rattle.session_steps.specs.declared.end.EndCause.TheVariants.{Closed}
-use Rattle.session_steps.specs.Clients.{IsClient, AreSentTo, AreSentAll}
-use Rattle.session_steps.specs.Going.{Origin, Grow, IsReaching, HasWorked, IsUnasked, Since}
+use Rattle.session_steps.specs.Clients.{IsSessionOf, AreSentTo, AreSentAll}
+use Rattle.session_steps.specs.Going.{Origin, Grow, IsReaching, HasWorked, IsUnasked, Since, reply_frames}
 use Rattle.session_steps.specs.Jobs.{IsEnded}
 use Rattle.session_steps.specs.Served.{IsBroken, IsOver, HaveNothingLeft, total, poll_count}
 use Rattle.session_steps.proofs.Counting.{total_same, total_one, taken_none, taken_more}
@@ -85,65 +87,65 @@ module _ (o : Origin) (is_told : Bool) (r : ℕ → ℕ) where
 
 -- ---- calls
 
-module _ {T : Type 0} (d : Key) (o : Origin) (is_told : Bool) (r : ℕ → ℕ) (ps qs : Passes T Mark) where
+module _ {T : Type 0} (v : ServerOf) (o : Origin) (is_told : Bool) (r : ℕ → ℕ) (ps qs : Passes T Mark) where
   abbrev count : Passes T Mark → ℕ
   count xs = total 16 (λ k. added_at xs k)
 
   abbrev IsOn : Passes T Mark → List LinkEvent → Session → Type 0
-  IsOn xs es s = Since o is_told r (count xs) (λ read gained. IsReaching d (marks_of xs) o.begun es s read gained)
+  IsOn xs es s = Since o is_told r (count xs) (λ read gained. IsReaching v (marks_of xs) o.begun es s read gained)
 
   abbrev IsOff : Passes T Mark → List LinkEvent → Type 0
-  IsOff xs es = Since o is_told r (count xs) (λ read gained. IsBroken d (marks_of xs) o.begun es read gained)
+  IsOff xs es = Since o is_told r (count xs) (λ read gained. IsBroken v (marks_of xs) o.begun es read gained)
 
   module _ (es fs : List LinkEvent) (s : Session) where
     -- passes saw more, and nothing else was done
     pub goes_later : Grow (marks_of ps) (marks_of qs) → count qs ≡ count ps → IsOn ps es s → IsOn qs es s
-    goes_later grown same on = since_same o is_told r (count ps) (count qs) _ _ same (λ read gained x. reaching_later d (marks_of ps) (marks_of qs) grown o.begun es s read gained x) on
+    goes_later grown same on = since_same o is_told r (count ps) (count qs) _ _ same (λ read gained x. reaching_later v (marks_of ps) (marks_of qs) grown o.begun es s read gained x) on
 
     pub turn_breaks : Grow (marks_of ps) (marks_of qs) → count qs ≡ count ps → IsOn ps es s → IsOff qs es
     turn_breaks grown same on = since_same o is_told r (count ps) (count qs) _ _ same
-        (λ read gained x. broken_now d (marks_of qs) o.begun es es s read gained (reaching_later d (marks_of ps) (marks_of qs) grown o.begun es s read gained x) refl refl) on
+        (λ read gained x. broken_now v (marks_of qs) o.begun es es s read gained (reaching_later v (marks_of ps) (marks_of qs) grown o.begun es s read gained x) refl refl) on
 
     module _ (k : ℕ) (l : Look) (turned : HaveTurned k ps qs) (unadded : added_at qs k ≡ added_at ps k) (at : IsLook k (marks_of qs k) l) (came : received fs ≡ received es) where
-      pub news_goes : (x : Session) → x ≡ after_delivery (shown_at d k (marks_of qs k)) s → (texts : List (List ℕ)) → texts ≡ frames_of (delivered (shown_at d k (marks_of qs k)) s)
+      pub news_goes : (x : Session) → x ≡ after_delivery (shown_at v.domain k (marks_of qs k)) s → (texts : List (List ℕ)) → texts ≡ frames_of (delivered (shown_at v.domain k (marks_of qs k)) s)
           → sent fs ≡ sent es ++ texts → IsOn ps es s → IsOn qs fs x
       news_goes x is texts are went on = subst (λ y. IsOn qs fs y) (sym is)
           (since_same o is_told r (count ps) (count qs) _ _ (added_same ps qs k turned.others unadded)
-          (λ read gained y. reaching_sent d (marks_of qs) o.begun es fs s read gained (reaching_later d (marks_of ps) (marks_of qs) (turned_grow ps qs k turned) o.begun es s read gained y) k l at
+          (λ read gained y. reaching_sent v (marks_of qs) o.begun es fs s read gained (reaching_later v (marks_of ps) (marks_of qs) (turned_grow ps qs k turned) o.begun es s read gained y) k l at
           came (went ∙ ap (λ t. sent es ++ t) are)) on)
 
-      pub news_breaks : (texts : List (List ℕ)) → texts ≡ frames_of (delivered (shown_at d k (marks_of qs k)) s)
+      pub news_breaks : (texts : List (List ℕ)) → texts ≡ frames_of (delivered (shown_at v.domain k (marks_of qs k)) s)
           → IsPrefix (sent es) (sent fs) × IsPrefix (sent fs) (sent es ++ texts) → IsOn ps es s → IsOff qs fs
       news_breaks texts are part on =
           since_same o is_told r (count ps) (count qs) _ _ (added_same ps qs k turned.others unadded)
-          (λ read gained y. broken_sent d (marks_of qs) o.begun es fs s read gained (reaching_later d (marks_of ps) (marks_of qs) (turned_grow ps qs k turned) o.begun es s read gained y) k l at
+          (λ read gained y. broken_sent v (marks_of qs) o.begun es fs s read gained (reaching_later v (marks_of ps) (marks_of qs) (turned_grow ps qs k turned) o.begun es s read gained y) k l at
           came part.0 (subst (λ t. IsPrefix (sent fs) (sent es ++ t)) are part.1)) on
 
     -- polls that gave no message
     pub idle_goes : fs ≡ es ++ Idle ∷ [] → IsOn ps es s → IsOn ps fs s
     idle_goes is on = let a = after_idle es fs is in
-        since_same o is_told r (count ps) (count ps) _ _ refl (λ read gained x. reaching_idle d (marks_of ps) o.begun es fs s read gained x (a.received ∙ append-nil (received es)) (a.sent ∙ append-nil (sent es))) on
+        since_same o is_told r (count ps) (count ps) _ _ refl (λ read gained x. reaching_idle v (marks_of ps) o.begun es fs s read gained x (a.received ∙ append-nil (received es)) (a.sent ∙ append-nil (sent es))) on
 
     abbrev IsDone : Passes T Mark → EndCause → Type 0
-    IsDone xs c = Since o is_told r (count xs) (λ read gained. IsOver d (marks_of xs) o.begun fs read gained c)
+    IsDone xs c = Since o is_told r (count xs) (λ read gained. IsOver v (marks_of xs) o.begun fs read gained c)
 
-    pub close_ends : fs ≡ es ++ Ended ∷ [] → HaveNothingLeft d (marks_of ps) s → IsOn ps es s → IsDone ps Closed
+    pub close_ends : fs ≡ es ++ Ended ∷ [] → HaveNothingLeft v.domain (marks_of ps) s → IsOn ps es s → IsDone ps Closed
     close_ends is left on = let a = after_ended es fs is in
         since_same o is_told r (count ps) (count ps) _ _ refl
-        (λ read gained x. whole_closed d (marks_of ps) o.begun es fs s read gained x (a.received ∙ append-nil (received es)) (a.sent ∙ append-nil (sent es)) (es, is) left) on
+        (λ read gained x. whole_closed v (marks_of ps) o.begun es fs s read gained x (a.received ∙ append-nil (received es)) (a.sent ∙ append-nil (sent es)) (es, is) left) on
 
     pub fail_ends : (c : EndCause) → c ≢ Closed → fs ≡ es ++ [] → IsOn ps es s → IsDone ps c
     fail_ends c other is on = let a = after_nothing es fs is in
         since_same o is_told r (count ps) (count ps) _ _ refl
-        (λ read gained x. over_broken d (marks_of ps) o.begun fs read gained c other
-        (broken_now d (marks_of ps) o.begun es fs s read gained x (a.received ∙ append-nil (received es)) (a.sent ∙ append-nil (sent es)))) on
+        (λ read gained x. over_broken v (marks_of ps) o.begun fs read gained c other
+        (broken_now v (marks_of ps) o.begun es fs s read gained x (a.received ∙ append-nil (received es)) (a.sent ∙ append-nil (sent es)))) on
 
-  pub break_ends : (fs : List LinkEvent) (c : EndCause) → c ≢ Closed → IsOff ps fs → Since o is_told r (count ps) (λ read gained. IsOver d (marks_of ps) o.begun fs read gained c)
-  break_ends fs c other off = since_same o is_told r (count ps) (count ps) _ _ refl (λ read gained x. over_broken d (marks_of ps) o.begun fs read gained c other x) off
+  pub break_ends : (fs : List LinkEvent) (c : EndCause) → c ≢ Closed → IsOff ps fs → Since o is_told r (count ps) (λ read gained. IsOver v (marks_of ps) o.begun fs read gained c)
+  break_ends fs c other off = since_same o is_told r (count ps) (count ps) _ _ refl (λ read gained x. over_broken v (marks_of ps) o.begun fs read gained c other x) off
 
 -- ---- answers
 
-module _ {T : Type 0} (d : Key) (o : Origin) (is_told : Bool) (r q : ℕ → ℕ) (ps qs : Passes T Mark) (grown : Grow (marks_of ps) (marks_of qs)) (es fs gs : List LinkEvent) (s : Session) (bytes : List ℕ)
+module _ {T : Type 0} (v : ServerOf) (o : Origin) (is_told : Bool) (r q : ℕ → ℕ) (ps qs : Passes T Mark) (grown : Grow (marks_of ps) (marks_of qs)) (es fs gs : List LinkEvent) (s : Session) (bytes : List ℕ)
     (came : fs ≡ es ++ Received bytes ∷ []) (kept : received gs ≡ received fs) where
   abbrev counted : Passes T Mark → ℕ
   counted xs = total 16 (λ k. added_at xs k)
@@ -152,7 +154,7 @@ module _ {T : Type 0} (d : Key) (o : Origin) (is_told : Bool) (r q : ℕ → ℕ
   began = record { begun = λ k. length (marks_of ps k); readings = r; added = counted ps }
 
   abbrev IsThere : Type 0
-  IsThere = Since o is_told r (counted ps) (λ read gained. IsReaching d (marks_of ps) o.begun es s read gained)
+  IsThere = Since o is_told r (counted ps) (λ read gained. IsReaching v (marks_of ps) o.begun es s read gained)
 
   came_all : received gs ≡ received es ++ bytes ∷ []
   came_all = kept ∙ (after_received es fs bytes came).received
@@ -160,31 +162,31 @@ module _ {T : Type 0} (d : Key) (o : Origin) (is_told : Bool) (r q : ℕ → ℕ
   went_none : sent fs ≡ sent es
   went_none = (after_received es fs bytes came).sent ∙ append-nil (sent es)
 
-  pub reply_goes : (x : Session) (message : Message) → Since began is_told q (counted qs) (λ more gain. HasWorked d (marks_of ps) (marks_of qs) (taken_bytes s bytes) more gain x message)
-      → sent gs ≡ sent fs ++ frame_of message ∷ [] → IsThere → Since o is_told q (counted qs) (λ read gained. IsReaching d (marks_of qs) o.begun gs x read gained)
+  pub reply_goes : (x : Session) (message : Option Message) → Since began is_told q (counted qs) (λ more gain. HasWorked v (marks_of ps) (marks_of qs) (taken_bytes s bytes) more gain x message)
+      → sent gs ≡ sent fs ++ reply_frames message → IsThere → Since o is_told q (counted qs) (λ read gained. IsReaching v (marks_of qs) o.begun gs x read gained)
   reply_goes x message worked went there = since_more o is_told r began.begun (counted ps) (counted qs) q _ _ _
-      (λ read gained more gain y w. reaching_replied d (marks_of ps) (marks_of qs) grown o.begun es s read gained y gs bytes more gain x message w came_all
-      (went ∙ ap (λ l. l ++ frame_of message ∷ []) went_none)) there worked
+      (λ read gained more gain y w. reaching_replied v (marks_of ps) (marks_of qs) grown o.begun es s read gained y gs bytes more gain x message w came_all
+      (went ∙ ap (λ l. l ++ reply_frames message) went_none)) there worked
 
-  pub reply_breaks : (c : EndCause) → c ≢ Closed → (x : Session) (message : Message) → Since began is_told q (counted qs) (λ more gain. HasWorked d (marks_of ps) (marks_of qs) (taken_bytes s bytes) more gain x message)
-      → sent gs ≡ sent fs → IsThere → Since o is_told q (counted qs) (λ read gained. IsOver d (marks_of qs) o.begun gs read gained c)
+  pub reply_breaks : (c : EndCause) → c ≢ Closed → (x : Session) (message : Option Message) → Since began is_told q (counted qs) (λ more gain. HasWorked v (marks_of ps) (marks_of qs) (taken_bytes s bytes) more gain x message)
+      → sent gs ≡ sent fs → IsThere → Since o is_told q (counted qs) (λ read gained. IsOver v (marks_of qs) o.begun gs read gained c)
   reply_breaks c other x message worked went there = since_more o is_told r began.begun (counted ps) (counted qs) q _ _ _
-      (λ read gained more gain y w. over_broken d (marks_of qs) o.begun gs (read ++ more) (gained + gain) c other
-      (broken_untold d (marks_of ps) (marks_of qs) grown o.begun es s read gained y gs bytes more gain x message w came_all (went ∙ went_none))) there worked
+      (λ read gained more gain y w. over_broken v (marks_of qs) o.begun gs (read ++ more) (gained + gain) c other
+      (broken_untold v (marks_of ps) (marks_of qs) grown o.begun es s read gained y gs bytes more gain x message w came_all (went ∙ went_none))) there worked
 
   pub halt_breaks : (c : EndCause) → c ≢ Closed
-      → Since began is_told q (counted qs) (λ more gain. IsUnasked more gain ⊎ ((x : Session) × ((message : Message) × HasWorked d (marks_of ps) (marks_of qs) (taken_bytes s bytes) more gain x message)))
-      → sent gs ≡ sent fs → IsThere → Since o is_told q (counted qs) (λ read gained. IsOver d (marks_of qs) o.begun gs read gained c)
+      → Since began is_told q (counted qs) (λ more gain. IsUnasked more gain ⊎ ((x : Session) × ((message : Option Message) × HasWorked v (marks_of ps) (marks_of qs) (taken_bytes s bytes) more gain x message)))
+      → sent gs ≡ sent fs → IsThere → Since o is_told q (counted qs) (λ read gained. IsOver v (marks_of qs) o.begun gs read gained c)
   halt_breaks c other halted went there = since_more o is_told r began.begun (counted ps) (counted qs) q _ _ _ go there halted
     where
-      go : (read : List ℕ) (gained : ℕ) (more : List ℕ) (gain : ℕ) → IsReaching d (marks_of ps) o.begun es s read gained
-          → IsUnasked more gain ⊎ ((x : Session) × ((message : Message) × HasWorked d (marks_of ps) (marks_of qs) (taken_bytes s bytes) more gain x message))
-          → IsOver d (marks_of qs) o.begun gs (read ++ more) (gained + gain) c
-      go read gained more gain y (inl u) = subst (λ n. IsOver d (marks_of qs) o.begun gs (read ++ more) n c) (none_more gained gain u.1)
-          (over_broken d (marks_of qs) o.begun gs (read ++ more) gained c other
-          (broken_unread d (marks_of qs) o.begun es gs s read gained (reaching_later d (marks_of ps) (marks_of qs) grown o.begun es s read gained y) (read ++ more) more (bytes ∷ []) (omega arith) u.0 came_all (went ∙ went_none) refl))
-      go read gained more gain y (inr w) = over_broken d (marks_of qs) o.begun gs (read ++ more) (gained + gain) c other
-          (broken_untold d (marks_of ps) (marks_of qs) grown o.begun es s read gained y gs bytes more gain w.0 w.1.0 w.1.1 came_all (went ∙ went_none))
+      go : (read : List ℕ) (gained : ℕ) (more : List ℕ) (gain : ℕ) → IsReaching v (marks_of ps) o.begun es s read gained
+          → IsUnasked more gain ⊎ ((x : Session) × ((message : Option Message) × HasWorked v (marks_of ps) (marks_of qs) (taken_bytes s bytes) more gain x message))
+          → IsOver v (marks_of qs) o.begun gs (read ++ more) (gained + gain) c
+      go read gained more gain y (inl u) = subst (λ n. IsOver v (marks_of qs) o.begun gs (read ++ more) n c) (none_more gained gain u.1)
+          (over_broken v (marks_of qs) o.begun gs (read ++ more) gained c other
+          (broken_unread v (marks_of qs) o.begun es gs s read gained (reaching_later v (marks_of ps) (marks_of qs) grown o.begun es s read gained y) (read ++ more) more (bytes ∷ []) (omega arith) u.0 came_all (went ∙ went_none) refl))
+      go read gained more gain y (inr w) = over_broken v (marks_of qs) o.begun gs (read ++ more) (gained + gain) c other
+          (broken_untold v (marks_of ps) (marks_of qs) grown o.begun es s read gained y gs bytes more gain w.0 w.1.0 w.1.1 came_all (went ∙ went_none))
 
 -- ---- the loop
 
@@ -200,12 +202,12 @@ pub no_events : (es : List LinkEvent) → length es ≡ 0 → es ≡ []
 no_events [] e = refl
 no_events (x ∷ es) e = absurd (omega (arith, e))
 
-module _ {T : Type 0} (d : Key) (is_told : Bool) (ps qs : Passes T Mark) (r q : ℕ → ℕ) (es fs : List LinkEvent) (c : EndCause) (none : es ≡ []) where
+module _ {T : Type 0} (v : ServerOf) (is_told : Bool) (ps qs : Passes T Mark) (r q : ℕ → ℕ) (es fs : List LinkEvent) (c : EndCause) (none : es ≡ []) where
   abbrev start_of : Origin
   start_of = record { begun = λ k. length (marks_of ps k); readings = r; added = total 16 (λ k. added_at ps k) }
 
   pub ended_of : ((k : ℕ) → k < 16 → loads_at ps k + poll_count fs ≤ loads_at qs k + poll_count es)
-      → Since start_of is_told q (total 16 (λ k. added_at qs k)) (λ read gained. IsOver d (marks_of qs) start_of.begun fs read gained c) → IsEnded d ps qs is_told r q fs c
+      → Since start_of is_told q (total 16 (λ k. added_at qs k)) (λ read gained. IsOver v (marks_of qs) start_of.begun fs read gained c) → IsEnded v ps qs is_told r q fs c
   ended_of looked s = record {
     readings = s.read;
     added = s.gained;
@@ -216,27 +218,27 @@ module _ {T : Type 0} (d : Key) (is_told : Bool) (ps qs : Passes T Mark) (r q : 
   }
 
 -- a session that has nothing received and sent
-pub going_unbegun : {T : Type 0} (d : Key) (is_told : Bool) (ps : Passes T Mark) (r : ℕ → ℕ) (es : List LinkEvent) (s : Session) → es ≡ [] → s ≡ fresh (Some d) []
+pub going_unbegun : {T : Type 0} (v : ServerOf) (is_told : Bool) (ps : Passes T Mark) (r : ℕ → ℕ) (es : List LinkEvent) (s : Session) → es ≡ [] → s ≡ fresh (Some v.domain) v.peers
     → Since (record { begun = λ k. length (marks_of ps k); readings = r; added = total 16 (λ k. added_at ps k) }) is_told r (total 16 (λ k. added_at ps k))
-    (λ read gained. IsReaching d (marks_of ps) (λ k. length (marks_of ps k)) es s read gained)
-going_unbegun d is_told ps r es s none new = record {
+    (λ read gained. IsReaching v (marks_of ps) (λ k. length (marks_of ps k)) es s read gained)
+going_unbegun v is_told ps r es s none new = record {
   read = [];
   gained = 0;
   timed = λ t. taken_none r;
   counted = omega arith;
-  is = reaching_start d (marks_of ps) es s none new;
+  is = reaching_start v (marks_of ps) es s none new;
 }
 
-pub ended_unbegun : {T : Type 0} (d : Key) (is_told : Bool) (ps : Passes T Mark) (r : ℕ → ℕ) (es : List LinkEvent) (c : EndCause) → c ≢ Closed → es ≡ [] → IsEnded d ps ps is_told r r es c
-ended_unbegun d is_told ps r es c other none =
-    let going = going_unbegun d is_told ps r es (fresh (Some d) []) none refl in
-    ended_of d is_told ps ps r r es es c none (λ k below. omega arith)
+pub ended_unbegun : {T : Type 0} (v : ServerOf) (is_told : Bool) (ps : Passes T Mark) (r : ℕ → ℕ) (es : List LinkEvent) (c : EndCause) → c ≢ Closed → es ≡ [] → IsEnded v ps ps is_told r r es c
+ended_unbegun v is_told ps r es c other none =
+    let going = going_unbegun v is_told ps r es (fresh (Some v.domain) v.peers) none refl in
+    ended_of v is_told ps ps r r es es c none (λ k below. omega arith)
     (since_same (record { begun = λ k. length (marks_of ps k); readings = r; added = total 16 (λ k. added_at ps k) }) is_told r (total 16 (λ k. added_at ps k)) (total 16 (λ k. added_at ps k)) _ _ refl
-    (λ read gained x. over_broken d (marks_of ps) (λ k. length (marks_of ps k)) es read gained c other
-    (broken_now d (marks_of ps) (λ k. length (marks_of ps k)) es es (fresh (Some d) []) read gained x refl refl)) going)
+    (λ read gained x. over_broken v (marks_of ps) (λ k. length (marks_of ps k)) es read gained c other
+    (broken_now v (marks_of ps) (λ k. length (marks_of ps k)) es es (fresh (Some v.domain) v.peers) read gained x refl refl)) going)
 
-pub client_new : (d : Key) (s : Session) → s ≡ fresh (Some d) [] → IsClient d s
-client_new d s is = subst (IsClient d) (sym is) (record { domain = refl; peers = refl; no_peer = refl; waiting = refl; unopened = λ e. refl })
+pub session_new : (v : ServerOf) (s : Session) → s ≡ fresh (Some v.domain) v.peers → IsSessionOf v s
+session_new v s is = subst (IsSessionOf v) (sym is) (record { domain = refl; peers = refl; unopened = λ e. refl; unqueued = λ e. refl })
 
 pub sent_new : (d : Key) (m : ℕ → List Mark) (s : Session) (lengths : List ℕ) → ((k : ℕ) → get_or lengths k 0 ≡ 0) → AreSentTo d m s lengths
 sent_new d m s lengths due k below = let z = due k in record { within = omega (arith, z); quiet = λ cut begins whole some. absurd (some z) }

@@ -11,7 +11,6 @@
 use Rattle.std.proofs.Common.{sym, ap, refl, subst, ◌∙◌, ◌≡◌, ◌≢◌, ◌+◌, ◌≤◌, ℕ, Bool, true, false, arith, List, [], ◌∷◌, ◌++◌, length, append_assoc, append-nil, nat_eq, cond, Option, Some, None}
 use Rattle.std.proofs.lemmas.Bool.Decides.{nat_tests}
 use mathlib.Core.List.{IsPrefix}
-use Rattle.doc_items.specs.Maps.{Key}
 use Rattle.message_json.specs.declared.message.Message.{Message}
 use Rattle.session_core.specs.declared.session.Session.{Session}
 use Rattle.session_core.specs.Deliveries.{delivered, after_delivery}
@@ -20,14 +19,15 @@ use Rattle.wave_outside.specs.Links.{received, sent}
 use Rattle.wave_outside.specs.declared.link.LinkEvent.{LinkEvent}
 use Rattle.shard_marks.specs.declared.look.Look.{Look}
 use Rattle.shard_marks.specs.declared.mark.Mark.{Mark}
-use Rattle.shard_marks.specs.Frames.{frame_of, frames_of}
+use Rattle.shard_marks.specs.Frames.{frames_of}
 use Rattle.shard_marks.specs.Looks.{IsLook}
 use Rattle.shard_marks.specs.Marks.{shown_at}
+use Rattle.shard_marks.specs.Servers.{ServerOf}
 use Rattle.session_steps.specs.declared.end.EndCause.{EndCause}
 use Rattle.session_steps.specs.declared.end.EndCause.TheVariants.{Closed, Failed, Spent, Memory}
 use Rattle.session_steps.specs.declared.step.LinkStep.{LinkStep}
 use Rattle.session_steps.specs.declared.step.LinkStep.TheVariants.{Read, Delivered}
-use Rattle.session_steps.specs.Going.{Grow, IsReaching, HasWorked, reading_list}
+use Rattle.session_steps.specs.Going.{Grow, IsReaching, HasWorked, reading_list, reply_frames}
 use Rattle.session_steps.specs.Served.{IsWalk, IsBroken, IsWhole, IsOver, HaveNothingLeft, EndsClosed}
 use Rattle.session_steps.specs.Steps.{Progress, start, Work, length_at, last_length, IsAsked, IsStep, reading_of}
 use Rattle.session_steps.proofs.Growing.{prefix_self, prefix_length, walk_later}
@@ -42,25 +42,25 @@ module _ {X : Type 0} where
   none_is : (y : X) (ys : List X) → [] ≡ y ∷ ys → ⊥
   none_is y ys e = absurd (omega (arith, ap length e))
 
-module _ (d : Key) (m : ℕ → List Mark) (begun : ℕ → ℕ) where
+module _ (v : ServerOf) (m : ℕ → List Mark) (begun : ℕ → ℕ) where
   -- ---- steps
 
   -- what was sent before a step stays sent
-  step_sent : (ss : List LinkStep) (st : LinkStep) (a b : Progress) → IsStep d m begun ss st a b → IsPrefix a.sent b.sent
+  step_sent : (ss : List LinkStep) (st : LinkStep) (a b : Progress) → IsStep v m begun ss st a b → IsPrefix a.sent b.sent
   step_sent ss (Read look reading) a b s = (s.work.frames, sym s.sent)
   step_sent ss (Delivered look) a b s = (s.work.frames, sym s.sent)
 
   -- the progress before the last step, of which a part of what was sent then is sent
-  last_sent : (steps : List LinkStep) (p : Progress) (texts : List (List ℕ)) → IsWalk d m begun steps p → IsPrefix p.sent texts
-      → (st : LinkStep) (ss : List LinkStep) → steps ≡ st ∷ ss → (before : Progress) × IsWalk d m begun ss before × IsPrefix before.sent texts
+  last_sent : (steps : List LinkStep) (p : Progress) (texts : List (List ℕ)) → IsWalk v m begun steps p → IsPrefix p.sent texts
+      → (st : LinkStep) (ss : List LinkStep) → steps ≡ st ∷ ss → (before : Progress) × IsWalk v m begun ss before × IsPrefix before.sent texts
   last_sent [] p texts w q st ss e = absurd (none_is st ss e)
   last_sent (x ∷ xs) p texts w q st ss e =
-      (w.0, subst (λ l. IsWalk d m begun l w.0) (head_is x st xs ss e) w.1, (let f = step_sent xs x w.0 p w.2 in (f.0 ++ q.0, sym (append_assoc w.0.sent f.0 q.0) ∙ ap (λ l. l ++ q.0) f.1 ∙ q.1)))
+      (w.0, subst (λ l. IsWalk v m begun l w.0) (head_is x st xs ss e) w.1, (let f = step_sent xs x w.0 p w.2 in (f.0 ++ q.0, sym (append_assoc w.0.sent f.0 q.0) ∙ ap (λ l. l ++ q.0) f.1 ∙ q.1)))
 
   -- ---- without a step
 
-  module _ (es fs : List LinkEvent) (s : Session) (read : List ℕ) (gained : ℕ) (r : IsReaching d m begun es s read gained) where
-    pub reaching_idle : received fs ≡ received es → sent fs ≡ sent es → IsReaching d m begun fs s read gained
+  module _ (es fs : List LinkEvent) (s : Session) (read : List ℕ) (gained : ℕ) (r : IsReaching v m begun es s read gained) where
+    pub reaching_idle : received fs ≡ received es → sent fs ≡ sent es → IsReaching v m begun fs s read gained
     reaching_idle came went = record {
       serving = record {
         steps = r.serving.steps;
@@ -77,7 +77,7 @@ module _ (d : Key) (m : ℕ → List Mark) (begun : ℕ → ℕ) where
 
     -- at most one message came and at most one reading was taken, and nothing more was done
     pub broken_unread : (more untold : List ℕ) (unread : List (List ℕ)) → length unread ≤ 1 → length untold ≤ 1
-        → received fs ≡ received es ++ unread → sent fs ≡ sent es → more ≡ read ++ untold → IsBroken d m begun fs more gained
+        → received fs ≡ received es ++ unread → sent fs ≡ sent es → more ≡ read ++ untold → IsBroken v m begun fs more gained
     broken_unread more untold unread one few came went told = record {
       steps = r.serving.steps;
       progress = r.serving.progress;
@@ -94,23 +94,23 @@ module _ (d : Key) (m : ℕ → List Mark) (begun : ℕ → ℕ) where
       added_is = r.serving.added_is;
     }
 
-    pub broken_now : received fs ≡ received es → sent fs ≡ sent es → IsBroken d m begun fs read gained
+    pub broken_now : received fs ≡ received es → sent fs ≡ sent es → IsBroken v m begun fs read gained
     broken_now came went = broken_unread read [] [] (omega arith) (omega arith) (came ∙ sym (append-nil (received es))) went (sym (append-nil read))
 
-    pub whole_closed : received fs ≡ received es → sent fs ≡ sent es → EndsClosed fs → HaveNothingLeft d m s → IsWhole d m begun fs read gained
+    pub whole_closed : received fs ≡ received es → sent fs ≡ sent es → EndsClosed fs → HaveNothingLeft v.domain m s → IsWhole v m begun fs read gained
     whole_closed came went closed left = record { session = s; serving = (reaching_idle came went).serving; closed = closed; nothing_left = left }
 
   -- ---- news
 
-  module _ (es fs : List LinkEvent) (s : Session) (read : List ℕ) (gained : ℕ) (r : IsReaching d m begun es s read gained) (k : ℕ) (l : Look) (at : IsLook k (m k) l) where
+  module _ (es fs : List LinkEvent) (s : Session) (read : List ℕ) (gained : ℕ) (r : IsReaching v m begun es s read gained) (k : ℕ) (l : Look) (at : IsLook k (m k) l) where
     abbrev frames : List (List ℕ)
-    frames = frames_of (delivered (shown_at d k (m k)) s)
+    frames = frames_of (delivered (shown_at v.domain k (m k)) s)
 
     abbrev was : Progress
     was = r.serving.progress
 
     abbrev news_session : Session
-    news_session = after_delivery (shown_at d k (m k)) s
+    news_session = after_delivery (shown_at v.domain k (m k)) s
 
     abbrev news_progress : Progress
     news_progress = record { session = news_session; received = was.received; sent = was.sent ++ frames; readings = was.readings; added = was.added }
@@ -118,7 +118,7 @@ module _ (d : Key) (m : ℕ → List Mark) (begun : ℕ → ℕ) where
     abbrev news_work : Work
     news_work = record { session = news_session; frames = frames; added = 0 }
 
-    news_step : IsStep d m begun r.serving.steps (Delivered l) was news_progress
+    news_step : IsStep v m begun r.serving.steps (Delivered l) was news_progress
     news_step = record {
       work = news_work;
       news = record {
@@ -128,8 +128,8 @@ module _ (d : Key) (m : ℕ → List Mark) (begun : ℕ → ℕ) where
           cut_is = record { begins = subst (λ j. IsPrefix (m k) (m j)) (sym at.shard) (prefix_self (m k)); whole = at.length };
           later = subst (λ j. last_length begun j r.serving.steps ≤ l.length) (sym at.shard) (subst (λ n. last_length begun k r.serving.steps ≤ n) (sym at.length) (r.reached k));
         };
-        session = ap (λ j. after_delivery (shown_at d j (m k)) s) (sym at.shard) ∙ ap (λ x. after_delivery (shown_at d l.shard (m k)) x) (sym r.serving.session);
-        frames = ap (λ j. frames_of (delivered (shown_at d j (m k)) s)) (sym at.shard) ∙ ap (λ x. frames_of (delivered (shown_at d l.shard (m k)) x)) (sym r.serving.session);
+        session = ap (λ j. after_delivery (shown_at v.domain j (m k)) s) (sym at.shard) ∙ ap (λ x. after_delivery (shown_at v.domain l.shard (m k)) x) (sym r.serving.session);
+        frames = ap (λ j. frames_of (delivered (shown_at v.domain j (m k)) s)) (sym at.shard) ∙ ap (λ x. frames_of (delivered (shown_at v.domain l.shard (m k)) x)) (sym r.serving.session);
         added = refl;
       };
       session = refl;
@@ -146,7 +146,7 @@ module _ (d : Key) (m : ℕ → List Mark) (begun : ℕ → ℕ) where
         go true e = let same : l.shard ≡ j = same_number l.shard j e in subst (λ i. l.length ≤ length (m i)) (sym at.shard ∙ same) (omega (arith, at.length))
         go false e = up
 
-    pub reaching_sent : received fs ≡ received es → sent fs ≡ sent es ++ frames → IsReaching d m begun fs news_session read gained
+    pub reaching_sent : received fs ≡ received es → sent fs ≡ sent es ++ frames → IsReaching v m begun fs news_session read gained
     reaching_sent came went = record {
       serving = record {
         steps = Delivered l ∷ r.serving.steps;
@@ -161,7 +161,7 @@ module _ (d : Key) (m : ℕ → List Mark) (begun : ℕ → ℕ) where
       reached = λ j. length_up j (last_length begun j r.serving.steps) (r.reached j);
     }
 
-    pub broken_sent : received fs ≡ received es → IsPrefix (sent es) (sent fs) → IsPrefix (sent fs) (sent es ++ frames) → IsBroken d m begun fs read gained
+    pub broken_sent : received fs ≡ received es → IsPrefix (sent es) (sent fs) → IsPrefix (sent fs) (sent es ++ frames) → IsBroken v m begun fs read gained
     broken_sent came more part = record {
       steps = Delivered l ∷ r.serving.steps;
       progress = news_progress;
@@ -170,7 +170,7 @@ module _ (d : Key) (m : ℕ → List Mark) (begun : ℕ → ℕ) where
       received = append-nil was.received ∙ r.serving.received ∙ sym came;
       one_message = omega arith;
       sent = subst (λ t. IsPrefix (sent fs) (t ++ frames)) (sym r.serving.sent) part;
-      sent_before = λ st ss e. (was, subst (λ x. IsWalk d m begun x was) (head_is (Delivered l) st r.serving.steps ss e) r.serving.walk, subst (λ t. IsPrefix t (sent fs)) (sym r.serving.sent) more);
+      sent_before = λ st ss e. (was, subst (λ x. IsWalk v m begun x was) (head_is (Delivered l) st r.serving.steps ss e) r.serving.walk, subst (λ t. IsPrefix t (sent fs)) (sym r.serving.sent) more);
       untold = [];
       readings_are = sym (append-nil was.readings ∙ r.serving.readings_are);
       one_reading = omega arith;
@@ -179,13 +179,13 @@ module _ (d : Key) (m : ℕ → List Mark) (begun : ℕ → ℕ) where
 
 -- ---- answers
 
-module _ (d : Key) (m n : ℕ → List Mark) (grown : Grow m n) (begun : ℕ → ℕ) (es : List LinkEvent) (s : Session) (read : List ℕ) (gained : ℕ) (r : IsReaching d m begun es s read gained) where
-  pub reaching_later : IsReaching d n begun es s read gained
+module _ (v : ServerOf) (m n : ℕ → List Mark) (grown : Grow m n) (begun : ℕ → ℕ) (es : List LinkEvent) (s : Session) (read : List ℕ) (gained : ℕ) (r : IsReaching v m begun es s read gained) where
+  pub reaching_later : IsReaching v n begun es s read gained
   reaching_later = record {
     serving = record {
       steps = r.serving.steps;
       progress = r.serving.progress;
-      walk = walk_later d m n grown begun r.serving.steps r.serving.progress r.serving.walk;
+      walk = walk_later v m n grown begun r.serving.steps r.serving.progress r.serving.walk;
       received = r.serving.received;
       sent = r.serving.sent;
       session = r.serving.session;
@@ -195,7 +195,7 @@ module _ (d : Key) (m n : ℕ → List Mark) (grown : Grow m n) (begun : ℕ →
     reached = λ k. let up = prefix_length (m k) (n k) (grown k) in omega (arith, r.reached k, up);
   }
 
-  module _ (fs : List LinkEvent) (bytes : List ℕ) (more : List ℕ) (gain : ℕ) (x : Session) (message : Message) (w : HasWorked d m n (taken_bytes s bytes) more gain x message)
+  module _ (fs : List LinkEvent) (bytes : List ℕ) (more : List ℕ) (gain : ℕ) (x : Session) (message : Option Message) (w : HasWorked v m n (taken_bytes s bytes) more gain x message)
       (came : received fs ≡ received es ++ bytes ∷ []) where
     abbrev before : Progress
     before = r.serving.progress
@@ -205,18 +205,18 @@ module _ (d : Key) (m n : ℕ → List Mark) (grown : Grow m n) (begun : ℕ →
       session = w.work.session;
       received = before.received ++ bytes ∷ [];
       sent = before.sent ++ w.work.frames;
-      readings = before.readings ++ reading_of d n begun r.serving.steps w.reading;
+      readings = before.readings ++ reading_of v n begun r.serving.steps w.reading;
       added = before.added + w.work.added;
     }
 
     abbrev answer_step : LinkStep
     answer_step = Read w.look w.reading
 
-    answered_step : IsStep d n begun r.serving.steps answer_step before answer_progress
+    answered_step : IsStep v n begun r.serving.steps answer_step before answer_progress
     answered_step = record {
       bytes = bytes;
       work = w.work;
-      asked = subst (λ y. IsAsked d n begun r.serving.steps (taken_bytes y bytes) w.look w.reading w.work) (sym r.serving.session) (w.done begun r.serving.steps r.reached);
+      asked = subst (λ y. IsAsked v n begun r.serving.steps (taken_bytes y bytes) w.look w.reading w.work) (sym r.serving.session) (w.done begun r.serving.steps r.reached);
       session = refl;
       received = refl;
       sent = refl;
@@ -224,15 +224,15 @@ module _ (d : Key) (m n : ℕ → List Mark) (grown : Grow m n) (begun : ℕ →
       added = refl;
     }
 
-    answered_walk : IsWalk d n begun (answer_step ∷ r.serving.steps) answer_progress
-    answered_walk = (before, walk_later d m n grown begun r.serving.steps before r.serving.walk, answered_step)
+    answered_walk : IsWalk v n begun (answer_step ∷ r.serving.steps) answer_progress
+    answered_walk = (before, walk_later v m n grown begun r.serving.steps before r.serving.walk, answered_step)
 
-    readings_same : (o : Option ℕ) → reading_of d n begun r.serving.steps o ≡ reading_list o
+    readings_same : (o : Option ℕ) → reading_of v n begun r.serving.steps o ≡ reading_list o
     readings_same None = refl
     readings_same (Some t) = refl
 
     answer_readings : answer_progress.readings ≡ read ++ more
-    answer_readings = ap (λ l. l ++ reading_of d n begun r.serving.steps w.reading) r.serving.readings_are ∙ ap (λ l. read ++ l) (readings_same w.reading ∙ sym w.reading_is)
+    answer_readings = ap (λ l. l ++ reading_of v n begun r.serving.steps w.reading) r.serving.readings_are ∙ ap (λ l. read ++ l) (readings_same w.reading ∙ sym w.reading_is)
 
     answer_added : answer_progress.added ≡ gained + gain
     answer_added = (λ i. r.serving.added_is i + w.added i)
@@ -248,7 +248,7 @@ module _ (d : Key) (m n : ℕ → List Mark) (grown : Grow m n) (begun : ℕ →
         go true f = subst (λ i. l.length ≤ length (n i)) (same_number l.shard j f) (w.within l e)
         go false f = let g = prefix_length (m j) (n j) (grown j) in omega (arith, up, g)
 
-    pub reaching_replied : sent fs ≡ sent es ++ frame_of message ∷ [] → IsReaching d n begun fs x (read ++ more) (gained + gain)
+    pub reaching_replied : sent fs ≡ sent es ++ reply_frames message → IsReaching v n begun fs x (read ++ more) (gained + gain)
     reaching_replied went = record {
       serving = record {
         steps = answer_step ∷ r.serving.steps;
@@ -263,7 +263,7 @@ module _ (d : Key) (m n : ℕ → List Mark) (grown : Grow m n) (begun : ℕ →
       reached = λ j. looked_up j w.look refl (r.reached j);
     }
 
-    pub broken_untold : sent fs ≡ sent es → IsBroken d n begun fs (read ++ more) (gained + gain)
+    pub broken_untold : sent fs ≡ sent es → IsBroken v n begun fs (read ++ more) (gained + gain)
     broken_untold went = record {
       steps = answer_step ∷ r.serving.steps;
       progress = answer_progress;
@@ -274,7 +274,7 @@ module _ (d : Key) (m n : ℕ → List Mark) (grown : Grow m n) (begun : ℕ →
       sent = (w.work.frames, ap (λ l. l ++ w.work.frames) (went ∙ sym r.serving.sent));
       sent_before = λ st ss e. (
         before,
-        subst (λ l. IsWalk d n begun l before) (head_is answer_step st r.serving.steps ss e) (walk_later d m n grown begun r.serving.steps before r.serving.walk),
+        subst (λ l. IsWalk v n begun l before) (head_is answer_step st r.serving.steps ss e) (walk_later v m n grown begun r.serving.steps before r.serving.walk),
         subst (λ l. IsPrefix before.sent l) (r.serving.sent ∙ sym went) (prefix_self before.sent),
       );
       untold = [];
@@ -285,17 +285,17 @@ module _ (d : Key) (m n : ℕ → List Mark) (grown : Grow m n) (begun : ℕ →
 
 -- ---- ends
 
-pub over_broken : (d : Key) (m : ℕ → List Mark) (begun : ℕ → ℕ) (es : List LinkEvent) (read : List ℕ) (gained : ℕ) (c : EndCause) → c ≢ Closed → IsBroken d m begun es read gained → IsOver d m begun es read gained c
-over_broken d m begun es read gained Closed other b = absurd (other refl)
-over_broken d m begun es read gained Failed other b = b
-over_broken d m begun es read gained (Spent s) other b = b
-over_broken d m begun es read gained Memory other b = b
+pub over_broken : (v : ServerOf) (m : ℕ → List Mark) (begun : ℕ → ℕ) (es : List LinkEvent) (read : List ℕ) (gained : ℕ) (c : EndCause) → c ≢ Closed → IsBroken v m begun es read gained → IsOver v m begun es read gained c
+over_broken v m begun es read gained Closed other b = absurd (other refl)
+over_broken v m begun es read gained Failed other b = b
+over_broken v m begun es read gained (Spent s) other b = b
+over_broken v m begun es read gained Memory other b = b
 
-pub reaching_start : (d : Key) (m : ℕ → List Mark) (es : List LinkEvent) (s : Session) → es ≡ [] → s ≡ fresh (Some d) [] → IsReaching d m (λ k. length (m k)) es s [] 0
-reaching_start d m es s none new = record {
+pub reaching_start : (v : ServerOf) (m : ℕ → List Mark) (es : List LinkEvent) (s : Session) → es ≡ [] → s ≡ fresh (Some v.domain) v.peers → IsReaching v m (λ k. length (m k)) es s [] 0
+reaching_start v m es s none new = record {
   serving = record {
     steps = [];
-    progress = start d;
+    progress = start v;
     walk = refl;
     received = sym (ap received none);
     sent = sym (ap sent none);

@@ -1,6 +1,6 @@
--- Sessions of clients.
---     IsClient d s         a session of the domain that is of no peer and has none; nothing waits, and one without a user has nothing open
---     AsksAsClient s r     what such a session asks for: no peer's matter, and only with a user that a wavelet is opened
+-- Sessions of a server, of clients and of peers.
+--     IsSessionOf v s      a session of this server; one that is nobody's yet has nothing open, and nothing waits in it
+--     MayAsk s r           what such a session asks for: to open a wavelet with a user alone, and what a peer has with a peer alone
 --     IsSentTo d k ms s n  of the shard with these marks, the session was sent all that there is at their length n; 0 says nothing
 --     AreSentTo d ms s ns  so it is with each shard
 --     AreSentAll ms i ns   of the first i shards, these are the lengths
@@ -12,22 +12,22 @@ use Rattle.session_core.specs.declared.request.Request.{Request}
 use Rattle.session_core.specs.declared.request.Request.TheVariants as ask
 use Rattle.session_core.specs.declared.session.Session.{Session}
 use Rattle.session_core.specs.Deliveries.{delivered}
-use Rattle.session_core.specs.Rules.{has_user, has_peer}
+use Rattle.session_core.specs.Rules.{has_user, has_peer, is_new}
 use Rattle.shard_marks.specs.declared.mark.Mark.{Mark}
 use Rattle.shard_marks.specs.Marks.{shown_at}
+use Rattle.shard_marks.specs.Servers.{ServerOf}
 
-pub record IsClient (d : Key) (s : Session) : Type 0 where
-  pub domain : s.domain ≡ Some d
-  pub peers : s.peers ≡ []
-  pub no_peer : has_peer s ≡ false
-  pub waiting : s.waiting ≡ []
-  pub unopened : has_user s ≡ false → s.openings ≡ []
+pub record IsSessionOf (v : ServerOf) (s : Session) : Type 0 where
+  pub domain : s.domain ≡ Some v.domain
+  pub peers : s.peers ≡ v.peers
+  pub unopened : is_new s ≡ true → s.openings ≡ []
+  pub unqueued : is_new s ≡ true → s.waiting ≡ []
 
-abbrev pub AsksAsClient : Session → Request → Type 0
-AsksAsClient s (ask.Reply m) = IsShort m
-AsksAsClient s (ask.Attach name from) = has_user s ≡ true
-AsksAsClient s (ask.Submit name submission) = Unit {0}
-AsksAsClient s (ask.Have name from) = ⊥
+abbrev pub MayAsk : Session → Request → Type 0
+MayAsk s (ask.Reply m) = IsShort m
+MayAsk s (ask.Attach name from) = has_user s ≡ true
+MayAsk s (ask.Submit name submission) = is_new s ≡ false
+MayAsk s (ask.Have name from) = has_peer s ≡ true
 
 pub record IsSentTo (d : Key) (k : ℕ) (ms : List Mark) (s : Session) (n : ℕ) : Type 0 where
   pub within : n ≤ length ms

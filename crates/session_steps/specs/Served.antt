@@ -18,6 +18,7 @@ use Rattle.wave_outside.specs.declared.link.LinkEvent.{LinkEvent}
 use Rattle.wave_outside.specs.declared.link.LinkEvent.TheVariants.{Received, Idle, Ended, Sent}
 use Rattle.shard_marks.specs.declared.mark.Mark.{Mark}
 use Rattle.shard_marks.specs.Marks.{shown_at}
+use Rattle.shard_marks.specs.Servers.{ServerOf}
 use Rattle.session_steps.specs.declared.step.LinkStep.{LinkStep}
 use Rattle.session_steps.specs.declared.end.EndCause.{EndCause}
 use Rattle.session_steps.specs.declared.end.EndCause.TheVariants.{Closed, Failed, Spent, Memory}
@@ -41,10 +42,10 @@ HaveNothingLeft d marks s = (k : ℕ) → k < 16 → delivered (shown_at d k (ma
 abbrev pub EndsClosed : List LinkEvent → Type 0
 EndsClosed es = (before : List LinkEvent) × (es ≡ before ++ Ended ∷ [])
 
-module _ (d : Key) (marks : ℕ → List Mark) (begun : ℕ → ℕ) where
+module _ (v : ServerOf) (marks : ℕ → List Mark) (begun : ℕ → ℕ) where
   abbrev pub IsWalk : List LinkStep → Progress → Type 0
-  IsWalk [] a = a ≡ start d
-  IsWalk (st ∷ ss) a = (before : Progress) × IsWalk ss before × IsStep d marks begun ss st before a
+  IsWalk [] a = a ≡ start v
+  IsWalk (st ∷ ss) a = (before : Progress) × IsWalk ss before × IsStep v marks begun ss st before a
 
   pub record IsServing (es : List LinkEvent) (s : Session) (readings : List ℕ) (added : ℕ) : Type 0 where
     pub steps : List LinkStep
@@ -75,7 +76,7 @@ module _ (d : Key) (marks : ℕ → List Mark) (begun : ℕ → ℕ) where
     pub session : Session
     pub serving : IsServing es session readings added
     pub closed : EndsClosed es
-    pub nothing_left : HaveNothingLeft d marks session
+    pub nothing_left : HaveNothingLeft v.domain marks session
 
   abbrev pub IsOver : List LinkEvent → List ℕ → ℕ → EndCause → Type 0
   IsOver es readings added Closed = IsWhole es readings added

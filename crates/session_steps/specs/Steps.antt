@@ -4,7 +4,7 @@
 --     last_length b k ss  the length of the latest look at a shard: of the steps, the newest first, else what was seen of it at the start
 --     Progress            what a session has come to: who it is now, what it received and sent, the clock's readings that it took, and how
 --                         many marks were added for it
---     start d             at the start
+--     start v             at the start
 --     IsAt .. l k cut     a look at the shard, at a moment not before the latest one there, with the marks that were there then
 --     Work                what a step does: the session then, the texts that are sent, and how many marks were added
 --     IsAsked .. r l t w  the work for what a message asked for, with the look and the reading that the step has: a reply, by IsReplied; an
@@ -31,6 +31,7 @@ use Rattle.shard_marks.specs.Answers.{IsAnswer}
 use Rattle.shard_marks.specs.Frames.{frame_of, frames_of}
 use Rattle.shard_marks.specs.Looks.{IsCut}
 use Rattle.shard_marks.specs.Marks.{shown_at}
+use Rattle.shard_marks.specs.Servers.{ServerOf}
 use Rattle.session_steps.specs.declared.step.LinkStep.{LinkStep}
 use Rattle.session_steps.specs.declared.step.LinkStep.TheVariants.{Read, Delivered}
 
@@ -57,15 +58,15 @@ pub record Progress : Type 0 where
   pub readings : List ℕ
   pub added : ℕ
 
-abbrev pub start : Key → Progress
-start d = record { session = fresh (Some d) []; received = []; sent = []; readings = []; added = 0 }
+abbrev pub start : ServerOf → Progress
+start v = record { session = fresh (Some v.domain) v.peers; received = []; sent = []; readings = []; added = 0 }
 
 pub record Work : Type 0 where
   pub session : Session
   pub frames : List (List ℕ)
   pub added : ℕ
 
-module _ (d : Key) (marks : ℕ → List Mark) (begun : ℕ → ℕ) (ss : List LinkStep) where
+module _ (v : ServerOf) (marks : ℕ → List Mark) (begun : ℕ → ℕ) (ss : List LinkStep) where
   pub record IsAt (k : ℕ) (l : Look) (cut : List Mark) : Type 0 where
     pub shard : l.shard ≡ k
     pub cut_is : IsCut marks l cut
@@ -80,7 +81,7 @@ module _ (d : Key) (marks : ℕ → List Mark) (begun : ℕ → ℕ) (ss : List 
     pub is_look : look ≡ Some at
     pub unread : reading ≡ None
     pub moment : IsAt (shard_of name) at cut
-    pub reply : (w.session, message) ≡ attached (shown_at d (shard_of name) cut) s name from
+    pub reply : (w.session, message) ≡ attached (shown_at v.domain (shard_of name) cut) s name from
     pub frames : w.frames ≡ frame_of message ∷ []
     pub added : w.added ≡ 0
 
@@ -93,7 +94,7 @@ module _ (d : Key) (marks : ℕ → List Mark) (begun : ℕ → ℕ) (ss : List 
     pub is_look : look ≡ Some at
     pub is_read : reading ≡ Some time
     pub moment : IsAt (shard_of name) at cut
-    pub judged : IsAnswer d (shard_of name) cut name submission time answer w.added
+    pub judged : IsAnswer v (shard_of name) cut name submission time answer w.added
     pub fresh_fault : answer ≡ Store → last_length begun (shard_of name) ss < at.length
     pub reply : (w.session, message) ≡ answered s name submission.id answer
     pub frames : w.frames ≡ frame_of message ∷ []
@@ -104,7 +105,7 @@ module _ (d : Key) (marks : ℕ → List Mark) (begun : ℕ → ℕ) (ss : List 
     pub is_look : look ≡ Some at
     pub unread : reading ≡ None
     pub moment : IsAt (shard_of name) at cut
-    pub session : w.session ≡ had (shown_at d (shard_of name) cut) s name from
+    pub session : w.session ≡ had (shown_at v.domain (shard_of name) cut) s name from
     pub frames : w.frames ≡ []
     pub added : w.added ≡ 0
 
@@ -126,8 +127,8 @@ module _ (d : Key) (marks : ℕ → List Mark) (begun : ℕ → ℕ) (ss : List 
   pub record IsNews (s : Session) (look : Look) (w : Work) : Type 0 where
     pub cut : List Mark
     pub moment : IsAt look.shard look cut
-    pub session : w.session ≡ after_delivery (shown_at d look.shard cut) s
-    pub frames : w.frames ≡ frames_of (delivered (shown_at d look.shard cut) s)
+    pub session : w.session ≡ after_delivery (shown_at v.domain look.shard cut) s
+    pub frames : w.frames ≡ frames_of (delivered (shown_at v.domain look.shard cut) s)
     pub added : w.added ≡ 0
 
   -- ---- steps

@@ -2,21 +2,31 @@
 --     copied_more, copied_last            marks after others
 --     is_copy, no_copy                    a wavelet that the domain hosts has no copy; another one of the shard may have one
 --     copied_noted, copied_fault          after a submission to a hosted wavelet
+--     copied_queued, hosted_queued        the copies, and what the domain hosts, after a submission that waits at a copy
+--     waits_queued                        its id waits then
+--     own_queued, counted_queued          marks then
 --     IsGift m, gift_is, gift_name        what a copy is given: a delta, a verdict, or that no more comes
 --     copied_given, hosted_given          the copies, and what the domain hosts, after a copy was given something
 --     own_given, counted_given, one_given     marks that were added then
 --     given_at, given_nothing             the answer
-use Rattle.std.proofs.Common.{◌≡◌, ◌⊎◌, inl, inr, ℕ, ◌+◌, ◌≤◌, min, Bool, true, false, not, ◌&&◌, nat_eq, cond, List, [], ◌∷◌, ◌++◌, length, Option, Some, None, refl, sym, ap, ◌∙◌, arith, append-nil, length-append}
-use Rattle.std.specs.FinMap.{empty}
+use Rattle.std.proofs.Common.{◌≡◌, ◌⊎◌, inl, inr, ℕ, ◌+◌, ◌≤◌, min, Bool, true, false, not, ◌&&◌, ◌||◌, nat_eq, cond, unwrap_or, List, [], ◌∷◌, ◌++◌, length, Option, Some, None, refl, sym, ap, ◌∙◌, arith, append-nil, length-append}
+use Rattle.std.specs.FinMap.{empty, get, insert}
 use Rattle.std.specs.List.{list_all}
 use Rattle.std.proofs.lemmas.Bool.{eq-eqb}
+use Rattle.std.proofs.lemmas.Cmp.{nat_list_cmp_total, eq_by_cmp_equiv}
 use Rattle.doc_items.specs.Maps.{Key, same_text}
+use Rattle.doc_items.proofs.Maps.{tie}
 use Rattle.wave_base.specs.Grammar.{host_of}
-use Rattle.wave_base.specs.Versions.{IdOf}
+use Rattle.wave_base.specs.Versions.{IdOf, same_id}
+use Rattle.wave_base.proofs.Same.{same_id-refl}
 use Rattle.wavelet_op.specs.Deltas.{DeltaOf}
+use Rattle.wavelet_op.specs.declared.delta.Submission.{Submission}
+use Rattle.delta_history.specs.Legal.{has_id}
+use Rattle.follower_rules.specs.Replicas.{ReplicaOf, is_waiting, queue}
 use Rattle.peer_turns.specs.declared.absorbed.Absorbed.{Absorbed}
 use Rattle.peer_turns.specs.declared.absorbed.Absorbed.TheVariants.{Old, Gap, Diverged, NotLegal, Took}
-use Rattle.replica_store.specs.Worlds.{Worlds, with_taken, taken_by, answer_at, with_settled, settled_if, waits_at, with_dropped, dropped_if, has_more}
+use Rattle.replica_store.specs.Worlds.{WorldOf, empty_world, Worlds, world_at, world_queued, with_queued, with_taken, taken_by, answer_at, with_settled, settled_if, waits_at, with_dropped, dropped_if, has_more}
+use Rattle.replica_store.proofs.Stored.{get_put}
 use Rattle.turn_lock.specs.Passes.{IsOneMore}
 use Rattle.wavelet_shelf.specs.FileNames.{shard_of}
 use Rattle.wavelet_shelf.specs.Hosting.{Hosted, grown_in}
@@ -26,7 +36,7 @@ use Rattle.shard_marks.specs.declared.giving.Giving.{Giving}
 use Rattle.shard_marks.specs.declared.giving.Giving.TheVariants.{Delta, Answer, NoMore}
 use Rattle.shard_marks.specs.declared.mark.Mark.{Mark}
 use Rattle.shard_marks.specs.declared.mark.Mark.TheVariants.{Began, Applied, Fault, Queued, Answered, Dropped}
-use Rattle.shard_marks.specs.Givings.{gift_mark, is_took, name_of, given_in, is_taken_in, after_given, unowned, marks_if, given, is_taken, IsGivenFrom}
+use Rattle.shard_marks.specs.Givings.{gift_mark, is_took, name_of, given_in, is_taken_in, after_given, unowned, marks_if, is_taken, IsGivenFrom}
 use Rattle.shard_marks.specs.Marks.{is_of, is_copied, is_own_mark, after_mark, with_mark, replayed_on, replayed, copied_on, copied, fault_count, most_faults}
 use Rattle.shard_marks.proofs.Replaying.{noted, all_more, replayed_more, count_more}
 
@@ -61,11 +71,46 @@ none_faults true (Queued n s) g = absurd g
 none_faults true (Answered n i v) g = refl
 none_faults true (Dropped n) g = refl
 
+pub counted_queued : (ms ns : List Mark) (n : Key) (s : Submission) (a : ℕ) → ns ≡ ms ++ Queued n s ∷ [] → min (fault_count ms) most_faults ≤ a → min (fault_count ns) most_faults ≤ a
+counted_queued ms ns n s a e le =
+    let same : fault_count ns ≡ fault_count ms + 0 = ap fault_count e ∙ count_more ms (Queued n s ∷ []) in
+    omega (arith, same, le)
+
 pub counted_given : (ms ns : List Mark) (b : Bool) (m : Mark) (a : ℕ) → IsGift m → ns ≡ ms ++ marks_if b m → min (fault_count ms) most_faults ≤ a → min (fault_count ns) most_faults ≤ a
 counted_given ms ns b m a g e le =
     let same : fault_count ns ≡ fault_count ms + fault_count (marks_if b m) = ap fault_count e ∙ count_more ms (marks_if b m) in
     let none = none_faults b m g in
     omega (arith, same, none, le)
+
+-- ---- an id that waits
+
+waits_last : (i : IdOf) (ss : List Submission) (s : Submission) → same_id i s.id ≡ true → is_waiting i (ss ++ s ∷ []) ≡ true
+waits_last i [] s e = ap (λ b. b || false) e
+waits_last i (x ∷ ss) s e = go (same_id i x.id) (waits_last i ss s e)
+  where
+    go : (b : Bool) → is_waiting i (ss ++ s ∷ []) ≡ true → b || is_waiting i (ss ++ s ∷ []) ≡ true
+    go true rest = refl
+    go false rest = rest
+
+abbrev queue_if : ReplicaOf → Submission → Bool → ReplicaOf
+queue_if r s b = cond b r (record { deltas = r.deltas; waiting = r.waiting ++ s ∷ []; dropped = r.dropped })
+
+queue_waits : (r : ReplicaOf) (s : Submission) → has_id s.id r.deltas ≡ false → is_waiting s.id (queue r s).waiting ≡ true
+queue_waits r s new = ap (λ b. is_waiting s.id (queue_if r s (b || is_waiting s.id r.waiting)).waiting) new ∙ go (is_waiting s.id r.waiting) refl
+  where
+    go : (b : Bool) → is_waiting s.id r.waiting ≡ b → is_waiting s.id (queue_if r s b).waiting ≡ true
+    go true e = e
+    go false e = waits_last s.id r.waiting s (same_id-refl s.id)
+
+same_tie : (n : Key) → tie n n ≡ true
+unfolding tie
+same_tie n = (eq_by_cmp_equiv nat_list_cmp_total).refl n
+
+put_there : (cs : Worlds) (n : Key) (w : WorldOf) → world_at (insert cs n w) n ≡ w
+put_there cs n w = ap (λ o. unwrap_or o empty_world) (get_put cs n w n) ∙ ap (λ b. unwrap_or (cond b (Some w) (get cs n)) empty_world) (same_tie n)
+
+pub waits_queued : (cs : Worlds) (n : Key) (s : Submission) → has_id s.id (world_at cs n).replica.deltas ≡ false → waits_at (with_queued cs n s) n s.id ≡ true
+waits_queued cs n s new = ap (λ (w : WorldOf). is_waiting s.id w.replica.waiting) (put_there cs n (world_queued (world_at cs n) s)) ∙ queue_waits (world_at cs n).replica s new
 
 module _ (d : Key) (k : ℕ) where
   pub copied_more : (cs : Worlds) (ms ns : List Mark) → copied_on d k cs (ms ++ ns) ≡ copied_on d k (copied_on d k cs ms) ns
@@ -96,6 +141,20 @@ module _ (d : Key) (k : ℕ) where
 
   pub copied_fault : (cs : Worlds) (ms ns : List Mark) (n : Key) (i : IdOf) → ns ≡ ms ++ Fault n i ∷ [] → cs ≡ copied d k ms → cs ≡ copied d k ns
   copied_fault cs ms ns n i e is = is ∙ sym (copied_more empty ms (Fault n i ∷ [])) ∙ ap (copied d k) (sym e)
+
+  -- ---- after a submission that waits at a copy
+
+  module _ (ms ns : List Mark) (n : Key) (s : Submission) (own : is_copied d k n ≡ true) (e : ns ≡ ms ++ Queued n s ∷ []) where
+    pub copied_queued : (cs gs : Worlds) → cs ≡ copied d k ms → gs ≡ with_queued cs n s → gs ≡ copied d k ns
+    copied_queued cs gs is after =
+        after ∙ sym (ap (λ b. cond b (with_queued cs n s) cs) own) ∙ ap (λ z. copied_on d k z (Queued n s ∷ [])) is
+        ∙ sym (copied_more empty ms (Queued n s ∷ [])) ∙ ap (copied d k) (sym e)
+
+    pub hosted_queued : (hs : List Hosted) → hs ≡ replayed d k ms → hs ≡ replayed d k ns
+    hosted_queued hs is = is ∙ sym (replayed_more d k [] ms (Queued n s ∷ [])) ∙ ap (replayed d k) (sym e)
+
+    pub own_queued : list_all (is_own_mark d k) ms ≡ true → list_all (is_own_mark d k) ns ≡ true
+    own_queued all = ap (list_all (is_own_mark d k)) e ∙ all_more (is_own_mark d k) ms (Queued n s ∷ []) all (ap (λ b. b && true) own)
 
   -- ---- after a copy was given something
 

@@ -3,7 +3,7 @@
 --     outcome_later        by further marks
 --     outcome_since        since an earlier moment
 --     outcome_on_later     so since a delta was there
-use Rattle.std.proofs.Common.{◌≡◌, ◌⊎◌, inl, inr, ℕ, zero, suc, ◌<◌, Bool, true, false, cond, ◌||◌, ◌&&◌, nat_eq, List, [], ◌∷◌, ◌++◌, Contains, length, Option, Some, None, refl, sym, ap, subst, ◌∙◌, arith, append_assoc, append-nil, true≢false}
+use Rattle.std.proofs.Common.{◌≡◌, inl, inr, ℕ, zero, suc, Bool, true, false, cond, ◌||◌, ◌&&◌, nat_eq, List, [], ◌∷◌, ◌++◌, Contains, Option, Some, None, refl, sym, ap, subst, ◌∙◌, arith, append_assoc, append-nil, true≢false}
 use mathlib.Core.List.{IsPrefix}
 use Rattle.doc_items.specs.Maps.{Key, same_text}
 use Rattle.wave_base.specs.Grammar.{host_of}
@@ -24,13 +24,14 @@ use Rattle.wave_base.proofs.Same.{same_id-refl}
 use Rattle.session_core.specs.declared.request.SubmitAnswer.{SubmitAnswer}
 use Rattle.session_core.specs.declared.request.SubmitAnswer.TheVariants as answer
 use Rattle.wavelet_shelf.specs.FileNames.{shard_of}
-use Rattle.wavelet_shelf.specs.Hosting.{deltas_in, judged_in, grown_in}
+use Rattle.wavelet_shelf.specs.Hosting.{deltas_in, grown_in}
 use Rattle.wavelet_shelf.proofs.Growing.{grows_alone}
 use Rattle.shard_marks.specs.declared.mark.Mark.{Mark}
 use Rattle.shard_marks.specs.declared.mark.Mark.TheVariants.{Applied, Fault}
-use Rattle.shard_marks.specs.Answers.{IsRefusedAt, IsAcceptedAt, EndsInFault, IsAnswer}
+use Rattle.shard_marks.specs.Answers.{IsHostAnswer, IsAnswerWhere, IsAnswer}
 use Rattle.shard_marks.specs.Marks.{is_of, replayed}
-use Rattle.shard_marks.specs.Outcomes.{IsTurnedDown, HasOutcome, HasOutcomeOn}
+use Rattle.shard_marks.specs.Servers.{ServerOf, is_peer}
+use Rattle.shard_marks.specs.Outcomes.{HasOutcome, HasOutcomeOn}
 use Rattle.shard_marks.proofs.Following.{ascend_replayed, deltas_follow}
 use Rattle.shard_marks.proofs.Replaying.{replayed_more}
 
@@ -123,15 +124,15 @@ module _ (d : Key) (k : ℕ) where
       ap (λ z. deltas_in z n) (replayed_more d k [] before (Applied n x ∷ []) ∙ ap (λ b. cond b (grown_in (replayed d k before) n x) (replayed d k before)) own)
       ∙ grows_alone.there (replayed d k before) n x (ascend_replayed d k before)
 
-  pub outcome_of : (from ms : List Mark) (n : Key) (s : Submission) (t g : ℕ) (a : SubmitAnswer) → is_of d k n ≡ true → IsPrefix from ms → IsAnswer d k ms n s t a g → HasOutcome d k from ms n s
-  outcome_of from ms n s t g (answer.Verdict v) own later (inl r) = inr (inl (record { time = t; cut = ms; since = later; begins = ([], append-nil ms); nothing = r.0.nothing }))
-  outcome_of from ms n s t g (answer.Verdict v) own later (inr r) =
+  host_outcome : (from ms : List Mark) (n : Key) (s : Submission) (t g : ℕ) (a : SubmitAnswer) → is_of d k n ≡ true → IsPrefix from ms → IsHostAnswer d k ms n s t a g → HasOutcome d k from ms n s
+  host_outcome from ms n s t g (answer.Verdict v) own later (inl r) = inr (inl (record { time = t; cut = ms; since = later; begins = ([], append-nil ms); nothing = r.0.nothing }))
+  host_outcome from ms n s t g (answer.Verdict v) own later (inr r) =
       let x = r.0.delta in
       let same : x.id ≡ s.id = judged_id s t x n (deltas_in (replayed d k r.0.before) n) r.0.grown in
       inl (subst (λ z. has_id s.id (deltas_in (replayed d k z) n) ≡ true) (sym r.0.last) (ap (has_id s.id) (grown_last r.0.before n x own) ∙ id_last s.id (deltas_in (replayed d k r.0.before) n) x (subst (λ i. same_id i x.id ≡ true) same (same_id-refl x.id))))
-  outcome_of from ms n s t g answer.Queued own later a = absurd a
-  outcome_of from ms n s t g answer.NoHost own later a = absurd (true≢false (sym (first (same_text (host_of n) d) (nat_eq (shard_of n) k) own) ∙ a.0))
-  outcome_of from ms n s t g answer.Store own later a = inr (inr (subst (λ z. Contains z (Fault n s.id)) (sym a.0.last) (there_last a.0.before (Fault n s.id))))
+  host_outcome from ms n s t g answer.Queued own later a = absurd a
+  host_outcome from ms n s t g answer.NoHost own later a = absurd a
+  host_outcome from ms n s t g answer.Store own later a = inr (inr (subst (λ z. Contains z (Fault n s.id)) (sym a.0.last) (there_last a.0.before (Fault n s.id))))
 
   pub outcome_later : (from ms ns : List Mark) (n : Key) (s : Submission) → IsPrefix ms ns → HasOutcome d k from ms n s → HasOutcome d k from ns n s
   outcome_later from ms ns n s later (inl there) = let f = deltas_follow d k n ms ns later in inl (ap (has_id s.id) f.1 ∙ id_more s.id (deltas_in (replayed d k ms) n) f.0 there)
@@ -145,3 +146,8 @@ module _ (d : Key) (k : ℕ) where
 
   pub outcome_on_later : (ms ns : List Mark) (n : Key) (x : DeltaOf) (s : Submission) → IsPrefix ms ns → HasOutcomeOn d k ms n x s → HasOutcomeOn d k ns n x s
   outcome_on_later ms ns n x s later o = record { from = o.from; there = o.there; outcome = outcome_later o.from ms ns n s later o.outcome }
+
+pub outcome_of : (v : ServerOf) (k : ℕ) (from ms : List Mark) (n : Key) (s : Submission) (t g : ℕ) (a : SubmitAnswer) → is_of v.domain k n ≡ true → IsPrefix from ms → IsAnswer v k ms n s t a g → HasOutcome v.domain k from ms n s
+outcome_of v k from ms n s t g a own later is =
+    let hosted : same_text (host_of n) v.domain ≡ true = first (same_text (host_of n) v.domain) (nat_eq (shard_of n) k) own in
+    host_outcome v.domain k from ms n s t g a own later (subst (λ b. IsAnswerWhere v.domain k ms n s t b (is_peer v (host_of n)) a g) hosted is)

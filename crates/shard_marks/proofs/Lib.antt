@@ -4,3 +4,5 @@ pub mod Replaying
 pub mod Following
 pub mod Deciding
 pub mod Copying
+pub mod Judging
+pub mod Telling

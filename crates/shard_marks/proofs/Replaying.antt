@@ -2,32 +2,27 @@
 --     replayed_more                            marks after others
 --     own_of                                   a wavelet that the domain hosts, and that is of the shard
 --     noted_replay, fault_replay               what the domain hosts is what the marks give, after a submission that was judged, and after a fault
---     judged_noted, judged_fault, judged_elsewhere     the answers to submissions
 --     own_noted, own_fault                     each mark is of a wavelet of the shard
 --     noted_one                                at most one mark was added
 --     counted_noted, counted_fault             the marks that tell of faults are no more than were counted
-use Rattle.std.proofs.Common.{◌≡◌, ◌⊎◌, inl, inr, ℕ, ◌+◌, ◌≤◌, min, Bool, true, false, ◌&&◌, nat_eq, cond, List, [], ◌∷◌, ◌++◌, length, Option, Some, None, option_map, refl, sym, ap, ◌∙◌, arith, append-nil, length-append}
+use Rattle.std.proofs.Common.{◌≡◌, ◌⊎◌, inl, inr, ℕ, ◌+◌, ◌≤◌, min, Bool, true, false, ◌&&◌, nat_eq, cond, List, [], ◌∷◌, ◌++◌, Option, Some, None, option_map, refl, sym, ap, ◌∙◌, arith, append-nil}
 use Rattle.std.specs.List.{list_all}
 use Rattle.std.proofs.lemmas.Bool.{eq-eqb, and_parts}
 use Rattle.doc_items.specs.Maps.{Key}
 use Rattle.wave_base.specs.Versions.{IdOf}
 use Rattle.wavelet_op.specs.Deltas.{DeltaOf}
 use Rattle.wavelet_op.specs.declared.delta.Submission.{Submission}
-use Rattle.wavelet_op.specs.declared.verdict.Verdict.{Verdict}
 use Rattle.delta_history.specs.Copying.{AreAscending}
-use Rattle.delta_history.specs.Verdicts.{Judged}
-use Rattle.session_core.specs.declared.request.SubmitAnswer.TheVariants as answer
 use Rattle.turn_lock.specs.Passes.{IsOneMore}
 use Rattle.wave_outside.specs.Counts.{Rose}
 use Rattle.wavelet_shelf.specs.FileNames.{shard_of}
 use Rattle.wavelet_shelf.specs.Hosting.{Hosted, names_of, grown_in, with_added, judged_in, after_submission}
 use Rattle.hosted_copies.specs.Domains.{is_hosted_by, hosted_by, one_of}
-use Rattle.hosted_copies.proofs.Hosts.{own_judged, own_added}
+use Rattle.hosted_copies.proofs.Hosts.{own_added}
 use Rattle.shard_marks.specs.declared.mark.Mark.{Mark}
 use Rattle.shard_marks.specs.declared.mark.Mark.TheVariants.{Applied, Fault}
 use Rattle.shard_marks.specs.Marks.{is_of, is_own_mark, after_mark, replayed_on, replayed, fault_count}
 use Rattle.shard_marks.specs.Marks.{most_faults}
-use Rattle.shard_marks.specs.Answers.{IsJudged}
 
 -- the marks of a delta, if any
 abbrev pub noted : Key → Option DeltaOf → List Mark
@@ -95,27 +90,5 @@ module _ (d : Key) (k : ℕ) where
         ap (hosted_by d) after ∙ own_added d hs n o ascend own ∙ ap (λ l. with_added l n o) is ∙ sym (one_more (replayed d k ms) n o (own_of n own shard))
         ∙ sym (replayed_more [] ms (noted n o)) ∙ ap (replayed d k) (sym e)
 
-    pub judged_noted : (v : Verdict) → ns ≡ ms ++ noted n (judged_in hs n s t).1 → v ≡ (judged_in hs n s t).0 → IsJudged d k ms ns n s t (answer.Verdict v)
-    judged_noted v e f = go (judged_in hs n s t).1 refl
-      where
-        same : judged_in (replayed d k ms) n s t ≡ judged_in hs n s t
-        same = ap (λ gs. judged_in gs n s t) (sym is) ∙ own_judged d hs n s t own
-
-        go : (o : Option DeltaOf) → (judged_in hs n s t).1 ≡ o → IsJudged d k ms ns n s t (answer.Verdict v)
-        go None g =
-            let stays : ns ≡ ms = e ∙ ap (λ o. ms ++ noted n o) g ∙ append-nil ms in
-            let now : judged_in (replayed d k ns) n s t ≡ judged_in hs n s t = ap (λ l. judged_in (replayed d k l) n s t) stays ∙ same in
-            let even : length ns ≡ length ms = ap length stays in
-            record { gained = 0; longer = omega (arith, even); answer = inl (record { verdict = f ∙ sym (ap (λ (j : Judged). j.0) now); nothing = ap (λ (j : Judged). j.1) now ∙ g }, refl) }
-        go (Some x) g =
-            let last : ns ≡ ms ++ Applied n x ∷ [] = e ∙ ap (λ o. ms ++ noted n o) g in
-            record { gained = 1; longer = ap length last ∙ length-append ms (Applied n x ∷ []); answer = inr (record { before = ms; delta = x; last = last; verdict = f ∙ sym (ap (λ (j : Judged). j.0) same); grown = ap (λ (j : Judged). j.1) same ∙ g }, refl) }
-
   pub fault_replay : (ms ns : List Mark) (hs : List Hosted) (n : Key) (i : IdOf) → hosted_by d hs ≡ replayed d k ms → ns ≡ ms ++ Fault n i ∷ [] → hosted_by d hs ≡ replayed d k ns
   fault_replay ms ns hs n i is e = is ∙ sym (replayed_more [] ms (Fault n i ∷ [])) ∙ ap (replayed d k) (sym e)
-
-  pub judged_fault : (ms ns : List Mark) (n : Key) (s : Submission) (t : ℕ) → ns ≡ ms ++ Fault n s.id ∷ [] → IsJudged d k ms ns n s t answer.Store
-  judged_fault ms ns n s t e = record { gained = 1; longer = ap length e ∙ length-append ms (Fault n s.id ∷ []); answer = (record { before = ms; last = e }, refl) }
-
-  pub judged_elsewhere : (ms : List Mark) (n : Key) (s : Submission) (t : ℕ) → is_hosted_by d n ≡ false → IsJudged d k ms ms n s t answer.NoHost
-  judged_elsewhere ms n s t other = record { gained = 0; longer = omega arith; answer = (other, refl) }

@@ -13,23 +13,28 @@ use Rattle.session_core.specs.Answers.{attached, had}
 use Rattle.session_core.specs.Current.{are_sent}
 use Rattle.session_core.specs.Deliveries.{delivered, after_delivery}
 use Rattle.wavelet_shelf.specs.Hosting.{Hosted}
-use Rattle.hosted_copies.specs.Shown.{shown_in, IsSameShown}
+use Rattle.hosted_copies.specs.Shown.{IsSameShown}
 use Rattle.hosted_copies.proofs.Alike.{attached_alike, delivered_alike, after_alike, told_alike, had_alike}
 use Rattle.shard_marks.specs.declared.mark.Mark.{Mark}
-use Rattle.shard_marks.specs.Marks.{replayed, shown_at}
+use Rattle.replica_store.specs.Worlds.{Worlds}
+use Rattle.shard_copies.specs.Shown.{shown_among}
+use Rattle.shard_marks.specs.Marks.{replayed, copied, shown_at}
 
-module _ (c : Shown) (d : Key) (k : ℕ) (ms : List Mark) (hs : List Hosted) (same : IsSameShown c (shown_in hs)) (is : hs ≡ replayed d k ms) where
+module _ (c : Shown) (d : Key) (k : ℕ) (ms : List Mark) (hs : List Hosted) (cs : Worlds) (same : IsSameShown c (shown_among d hs cs)) (replay : hs ≡ replayed d k ms) (copies : cs ≡ copied d k ms) where
+  seen : shown_among d hs cs ≡ shown_at d k ms
+  seen i = shown_among d (replay i) (copies i)
+
   pub attached_at : (s : Session) (name : Key) (from : Option VersionAt) → attached c s name from ≡ attached (shown_at d k ms) s name from
-  attached_at s name from = attached_alike c (shown_in hs) same s name from ∙ ap (λ gs. attached (shown_in gs) s name from) is
+  attached_at s name from = attached_alike c (shown_among d hs cs) same s name from ∙ ap (λ x. attached x s name from) seen
 
   pub delivered_at : (s : Session) → delivered c s ≡ delivered (shown_at d k ms) s
-  delivered_at s = delivered_alike c (shown_in hs) same s ∙ ap (λ gs. delivered (shown_in gs) s) is
+  delivered_at s = delivered_alike c (shown_among d hs cs) same s ∙ ap (λ x. delivered x s) seen
 
   pub after_at : (s : Session) → after_delivery c s ≡ after_delivery (shown_at d k ms) s
-  after_at s = after_alike c (shown_in hs) same s ∙ ap (λ gs. after_delivery (shown_in gs) s) is
+  after_at s = after_alike c (shown_among d hs cs) same s ∙ ap (λ x. after_delivery x s) seen
 
   pub sent_at : (s : Session) → are_sent c s ≡ are_sent (shown_at d k ms) s
-  sent_at s = told_alike c (shown_in hs) same s ∙ ap (λ gs. are_sent (shown_in gs) s) is
+  sent_at s = told_alike c (shown_among d hs cs) same s ∙ ap (λ x. are_sent x s) seen
 
   pub had_at : (s : Session) (name : Key) (from : VersionAt) → had c s name from ≡ had (shown_at d k ms) s name from
-  had_at s name from = had_alike c (shown_in hs) same s name from ∙ ap (λ gs. had (shown_in gs) s name from) is
+  had_at s name from = had_alike c (shown_among d hs cs) same s name from ∙ ap (λ x. had x s name from) seen

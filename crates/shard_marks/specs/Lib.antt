@@ -2,6 +2,7 @@ pub mod Marks
 pub mod Histories
 pub mod Looks
 pub mod Frames
+pub mod Servers
 pub mod Answers
 pub mod Outcomes
 pub mod Passes

@@ -22,7 +22,7 @@ use Rattle.session_core.specs.Access.{Shown}
 use Rattle.wavelet_shelf.specs.FileNames.{shard_of}
 use Rattle.wavelet_shelf.specs.Hosting.{Hosted, grown_in}
 use Rattle.wavelet_shelf.specs.Parts.{is_in}
-use Rattle.hosted_copies.specs.Shown.{shown_in}
+use Rattle.shard_copies.specs.Shown.{shown_among}
 use Rattle.shard_marks.specs.declared.mark.Mark.{Mark}
 use Rattle.shard_marks.specs.declared.mark.Mark.TheVariants.{Began, Applied, Fault, Queued, Answered, Dropped}
 
@@ -92,7 +92,7 @@ abbrev pub copied : Key → ℕ → List Mark → Worlds
 copied d k ms = copied_on d k empty ms
 
 abbrev pub shown_at : Key → ℕ → List Mark → Shown
-shown_at d k ms = shown_in (replayed d k ms)
+shown_at d k ms = shown_among d (replayed d k ms) (copied d k ms)
 
 -- ---- marks of what was loaded
 

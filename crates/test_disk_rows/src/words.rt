@@ -1,7 +1,7 @@
 // The program's words.
 use crate::Fault;
 use crate::text::put;
-use command_words::{Command, WordsFault, read_words};
+use command_words::{Command, PeerList, WordsFault, read_words};
 use std::alloc::Global;
 
 /// Words, apart by spaces; `.` stands for the empty word.
@@ -33,6 +33,17 @@ fn place_of(alloc: Global, store: Option<&str>) -> Result<String, Fault> {
     }
 }
 
+// The servers of other domains.
+fn peers_of(alloc: Global, peers: &PeerList) -> Result<String, Fault> {
+    let mut text = String::new(alloc);
+    for (domain, address) in peers.as_slice() {
+        let domain = domain.text();
+        let address = address.as_str();
+        text.push_str(format!(in alloc; " with {domain} at {address}")?.as_str())?;
+    }
+    Ok(text)
+}
+
 fn shown(alloc: Global, words: &[String]) -> Result<String, Fault> {
     Ok(match read_words(alloc, words) {
         Ok(Command::Pipe { store: None }) => String::from_str(alloc, "pipe")?,
@@ -54,6 +65,7 @@ fn shown(alloc: Global, words: &[String]) -> Result<String, Fault> {
             Command::Serve {
                 domain,
                 listen,
+                peers,
                 sessions,
                 store,
                 echo,
@@ -62,8 +74,9 @@ fn shown(alloc: Global, words: &[String]) -> Result<String, Fault> {
             let echo = if echo { " with echo" } else { "" };
             let sessions = count_of(alloc, sessions)?;
             let store = place_of(alloc, store)?;
+            let peers = peers_of(alloc, &peers)?;
             let domain = domain.text();
-            format!(in alloc; "serve {domain} at {listen}{sessions}{store}{echo}")?
+            format!(in alloc; "serve {domain} at {listen}{peers}{sessions}{store}{echo}")?
         }
         Ok(
             Command::Edit {

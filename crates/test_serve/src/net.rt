@@ -8,11 +8,12 @@ use std::alloc::{AllocError, Global};
 use std::sync::Arc;
 use wave_outside::{Accepted, Faults, Net, NetFault};
 
-/// A net that accepts a link for each script, and nothing after the last. It dials nobody.
+/// A net that accepts a link for each script of those, and nothing after the last, and dials one for each script of the others, in its turn.
 pub struct StagedNet {
     stage: Arc<Stage, Global>,
     // The last one is the next.
     scripts: Vec<Script>,
+    dials: Vec<Script>,
     is_shut: bool,
     door: Faults,
     line: Faults,
@@ -28,6 +29,7 @@ impl Drop for StagedNet {
         let StagedNet {
             stage: _stage,
             scripts: _scripts,
+            dials: _dials,
             is_shut: _is_shut,
             door: _door,
             line: _line,
@@ -40,16 +42,18 @@ impl Drop for StagedNet {
 }
 
 impl StagedNet {
-    /// Of the scripts the last one comes first. A door that is shut can't be opened.
+    /// Of the scripts the last one comes first: of those that are accepted, and of those that are dialled. A door that is shut can't be opened.
     pub fn new(
         alloc: Global,
         stage: Arc<Stage, Global>,
         scripts: Vec<Script>,
+        dials: Vec<Script>,
         is_shut: bool,
     ) -> StagedNet {
         StagedNet {
             stage,
             scripts,
+            dials,
             is_shut,
             door: Faults::none(),
             line: Faults::none(),
@@ -83,6 +87,28 @@ impl StagedNet {
         ensures same { (self.new.door ≡ self.old.door) × (self.new.line ≡ self.old.line) × (self.new.looks ≡ self.old.looks) }
     {
         self.scripts.pop()
+    }
+
+    // Whether the turn is on in which the next link is dialled, at this address.
+    fn may_dial(&self, address: &str) -> bool {
+        match self.dials.last() {
+            Some(script) => match script.dial {
+                Some(turn) => script.address.as_str() == address && self.stage.is_on(turn.number),
+                None => false,
+            },
+            None => false,
+        }
+    }
+
+    // The next script that is dialled, in its turn.
+    fn next_dial(&mut self, address: &str) -> Option<Script>
+        ensures back { (self.new.back ≡ self.old.back) × (self.new.out ≡ self.old.out) × (self.new.accepted ≡ self.old.accepted) }
+        ensures same { (self.new.door ≡ self.old.door) × (self.new.line ≡ self.old.line) × (self.new.looks ≡ self.old.looks) }
+    {
+        if !self.may_dial(address) {
+            return None;
+        }
+        self.dials.pop()
     }
 }
 
@@ -130,8 +156,16 @@ impl Net for StagedNet {
         }
     }
 
-    fn dial(&mut self, _alloc: Global, _address: &str) -> Result<StagedLink, NetFault> {
-        Err(self.line.raise().into())
+    fn dial(&mut self, alloc: Global, address: &str) -> Result<StagedLink, NetFault> {
+        self.reserve()?;
+        let stage = Arc::try_clone(&self.stage)?;
+        match self.next_dial(address) {
+            Some(script) => {
+                self.out += 1;
+                Ok(script.into_link(alloc, stage))
+            }
+            None => Err(self.line.raise().into()),
+        }
     }
 
     fn rest(&mut self) {

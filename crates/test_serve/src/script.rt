@@ -1,5 +1,5 @@
 //! What a link of a talk receives.
-ghost use Rattle.std.specs.Prelude.{◌≡◌};
+ghost use Rattle.std.specs.Prelude.{◌≡◌, false};
 ghost use Rattle.wave_outside.specs.MemoryLinks.{IsUnusedLink};
 
 use crate::link::StagedLink;
@@ -20,6 +20,10 @@ pub struct Script {
     pub is_closed: bool,
     /// Whether it takes no turns of the talk: its polls wait for nobody.
     pub is_free: bool,
+    /// The turn in which the server dials it. None for a link that is accepted.
+    pub dial: Option<Turn>,
+    /// The address that is dialled then.
+    pub address: String,
 }
 
 impl Drop for Script {
@@ -32,6 +36,8 @@ impl Drop for Script {
             failing: _failing,
             is_closed: _is_closed,
             is_free: _is_free,
+            dial: _dial,
+            address: _address,
         } = self;
     }
 }
@@ -50,8 +56,11 @@ impl Script {
         name: &str,
         place: usize,
         is_free: bool,
+        dial: Option<Turn>,
+        address: &str,
     ) -> Result<Script, AllocError> {
         let name = String::from_str(alloc, name)?;
+        let address = String::from_str(alloc, address)?;
         Ok(Script {
             name,
             place,
@@ -60,6 +69,8 @@ impl Script {
             failing: Vec::new(alloc),
             is_closed: false,
             is_free,
+            dial,
+            address,
         })
     }
 
@@ -87,12 +98,14 @@ impl Script {
             failing: Vec::from_slice(alloc, self.failing.as_slice())?,
             is_closed: self.is_closed,
             is_free: self.is_free,
+            dial: self.dial,
+            address: String::from_str(alloc, self.address.as_str())?,
         })
     }
 
     /// The link.
     pub fn into_link(self, alloc: Global, stage: Arc<Stage, Global>) -> StagedLink
-        ensures { IsUnusedLink result.link × (result.faults.count ≡ 0) }
+        ensures { IsUnusedLink result.link × (result.faults.count ≡ 0) × (result.has_closed ≡ false) }
     {
         let Script {
             name,
@@ -102,6 +115,8 @@ impl Script {
             failing,
             is_closed: _is_closed,
             is_free: _is_free,
+            dial,
+            address: _address,
         } = self;
         let mut turns = turns;
         turns.reverse();
@@ -110,6 +125,7 @@ impl Script {
             place,
             stage,
             turns,
+            dial,
             MemoryLink::new(alloc, polls, failing),
         )
     }

@@ -50,7 +50,7 @@ impl<R: Wait + Drop> Work for StagedThread<R> {
     type End = StagedEnd;
 
     ghost may_end = { λ w e. AreOfHub (arc_value w.job.hub) e.passes × Begins w.job.passes e.passes
-        × (e.cause ≡ Closed → e.link.link.closed ≡ true) × (e.cause ≡ Failed → Rose w.job.link.faults.count e.link.faults.count) };
+        × (e.cause ≡ Closed → e.link.has_closed ≡ true) × (e.cause ≡ Failed → Rose w.job.link.faults.count e.link.faults.count) };
 
     fn run(self) -> StagedEnd {
         let StagedThread { rt, alloc, job } = self;

@@ -105,6 +105,15 @@ impl Stage {
         self.reading.store(turn.reading, Ordering::SeqCst);
     }
 
+    /// Whether this turn is on.
+    pub fn is_on(&self, number: u64) -> bool {
+        let on = self.turn.load(Ordering::SeqCst);
+        if on != number && self.is_over(on) {
+            self.end(on);
+        }
+        on == number
+    }
+
     /// Ends this turn, if it is on.
     pub fn end(&self, number: u64) {
         let next = number.wrapping_add(1);

@@ -206,13 +206,31 @@ impl Talk {
         Err(Fault::BadRow)
     }
 
-    /// `+ LINK DOMAIN`: a link that takes its turns in the talk. `free LINK`: one that waits for nobody.
+    // The turn in which a link is dialled.
+    fn dial_turn(&mut self, place: usize) -> Result<Turn, Fault> {
+        let number = self.owners.len() as u64;
+        self.owners.push(place)?;
+        self.awaited.push(0)?;
+        Ok(Turn {
+            number,
+            reading: READING,
+        })
+    }
+
+    /// `+ LINK DOMAIN`: a link that takes its turns in the talk; `+ LINK DOMAIN dials ADDRESS` one that the server dials in a turn of its own.
+    /// `free LINK`: one that waits for nobody.
     fn link(&mut self, alloc: Global, rest: &str, is_free: bool) -> Result<(), Fault> {
-        let (name, _domain) = first_word(rest);
+        let (name, rest) = first_word(rest);
+        let (_domain, rest) = first_word(rest);
+        let (verb, address) = first_word(rest);
         let place = self.scripts.len();
+        let dial = match verb {
+            "dials" => Some(self.dial_turn(place)?),
+            _ => None,
+        };
         Ok(
             self.scripts
-                .push(Script::new(alloc, name, place, is_free)?)?,
+                .push(Script::new(alloc, name, place, is_free, dial, address)?)?,
         )
     }
 
@@ -328,11 +346,13 @@ impl Talk {
         Ok(())
     }
 
-    // The scripts once more; the last one comes first.
-    fn scripts(&self, alloc: Global) -> Result<Vec<Script>, AllocError> {
+    // The scripts once more, of links that are dialled or of the others; the last one comes first.
+    fn scripts(&self, alloc: Global, dialled: bool) -> Result<Vec<Script>, AllocError> {
         let mut scripts = Vec::new(alloc);
         for script in &self.scripts {
-            scripts.push(script.copy(alloc)?)?;
+            if script.dial.is_some() == dialled {
+                scripts.push(script.copy(alloc)?)?;
+            }
         }
         scripts.reverse();
         Ok(scripts)
@@ -345,7 +365,13 @@ impl Talk {
         let bells = Arc::new(alloc, Bells::new(alloc, 0)?)?;
         let on = Arc::try_clone(&stage)?;
         Ok(Server {
-            net: StagedNet::new(alloc, stage, self.scripts(alloc)?, self.is_shut),
+            net: StagedNet::new(
+                alloc,
+                stage,
+                self.scripts(alloc, false)?,
+                self.scripts(alloc, true)?,
+                self.is_shut,
+            ),
             spawner: StagedSpawner {
                 starter: ThreadStarter::new(bells),
                 refuses: self.refuses,

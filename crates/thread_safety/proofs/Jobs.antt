@@ -29,6 +29,12 @@ domain_send = search (sendable, crosses) depth 40
 pub domain_sync : IsSync domain.the_row
 domain_sync = search (sendable, crosses) depth 40
 
+domains_send : IsSend (Vec.the_row domain.the_row Heap.the_row ghosts)
+domains_send = search (sendable, crosses, domain_send) depth 20
+
+domains_sync : IsSync (Vec.the_row domain.the_row Heap.the_row ghosts)
+domains_sync = search (sendable, crosses, domain_sync) depth 20
+
 pub record_send : IsSend record_row.the_row
 record_send = variants_send record_row.enum (search (sendable, crosses) depth 40)
 
@@ -94,14 +100,17 @@ module _ (F K : RattleType) (f : folder.Ghosts F.Denot K.Denot) (g : disk.Ghosts
   )
 
   hub_send : IsSend F → IsSend K → IsSend (hub.the_row F K f g)
-  hub_send s k = let h = shard_send s k in declared_send (hub.the_type F K f g) (domain_send, (search (cells_send, h), tt))
+  hub_send s k = let h = shard_send s k in declared_send (hub.the_type F K f g) (
+    domain_send,
+    (as_row_send (Vec.the_field domain.the_row Heap.the_row ghosts) domains_send, (search (cells_send, h), tt)),
+  )
 
   hub_sync : IsSend F → IsSend K → IsSync F → IsSync K → IsSync (hub.the_row F K f g)
   hub_sync s k y z = let h = shard_send s k in
       let v = shard_sync y z in
       declared_sync (hub.the_type F K f g) (
         domain_sync,
-        (search (cells_sync, h, v), tt),
+        (as_row_sync (Vec.the_field domain.the_row Heap.the_row ghosts) domains_sync, (search (cells_sync, h, v), tt)),
       )
 
 module _ (L F C G K : RattleType) (l : link.Ghosts L.Denot) (f : folder.Ghosts F.Denot K.Denot) (g : disk.Ghosts K.Denot) (c : clock.Ghosts C.Denot) where

@@ -41,13 +41,13 @@ fn main(rt: HostRuntime) -> ExitCode {
     let Ok((for_net, for_spawner, for_gate)) = bells(alloc) else {
         return ExitCode::from(OUT_OF_MEMORY);
     };
-    let net = SocketNet::new(
-        rt,
-        alloc,
-        for_net,
-        Limits::for_clients(),
-        Patience::of_terminal(),
-    );
+    let Ok(words) = words(&rt, alloc) else {
+        return ExitCode::from(OUT_OF_MEMORY);
+    };
+    let Ok(Manner { patience, echo }) = manner_of(alloc, &words) else {
+        return ExitCode::from(OUT_OF_MEMORY);
+    };
+    let net = SocketNet::new(rt, alloc, for_net, Limits::for_clients(), patience);
     let starter = ThreadStarter::new(for_spawner);
     let mut outside = Outside {
         source: ReaderSource::new(rt.reader()),
@@ -63,12 +63,6 @@ fn main(rt: HostRuntime) -> ExitCode {
             spent: None,
         },
     };
-    let Ok(words) = words(&rt, alloc) else {
-        return ExitCode::from(OUT_OF_MEMORY);
-    };
-    let Ok(echo) = echo_of(alloc, &words) else {
-        return ExitCode::from(OUT_OF_MEMORY);
-    };
     let mut robots = RobotHost::new(alloc);
     let status = match echo {
         Some(robot) => match robots.add(alloc, robot) {
@@ -80,19 +74,34 @@ fn main(rt: HostRuntime) -> ExitCode {
     ExitCode::from(status)
 }
 
-// The robot `echo` of the server that the words name, where they ask for it.
-fn echo_of(alloc: Global, words: &Vec<String>) -> Result<Option<Box<Echo>>, AllocError> {
+// What the words decide of the objects: how long a look at a dialled link waits, and the robot `echo` where they ask for it.
+struct Manner {
+    patience: Patience,
+    echo: Option<Box<Echo>>,
+}
+
+// The links that `serve` dials end its rest at the door, and don't wait by themselves; that of `edit` waits for its user and its server.
+fn manner_of(alloc: Global, words: &Vec<String>) -> Result<Manner, AllocError> {
     match read_words(alloc, words.as_slice()) {
         Ok(Command::Serve { domain, echo, .. }) => {
-            if echo {
-                let robot = Echo::new(alloc, &domain)?;
-                Ok(Some(Box::new(alloc, robot)?))
-            } else {
-                Ok(None)
+            let patience = Patience::none();
+            if !echo {
+                return Ok(Manner {
+                    patience,
+                    echo: None,
+                });
             }
+            let robot = Echo::new(alloc, &domain)?;
+            let echo = Some(Box::new(alloc, robot)?);
+            Ok(Manner { patience, echo })
         }
-        Ok(_) => Ok(None),
-        Err(WordsFault::Usage) => Ok(None),
+        Ok(_) | Err(WordsFault::Usage) => {
+            let patience = Patience::of_terminal();
+            Ok(Manner {
+                patience,
+                echo: None,
+            })
+        }
         Err(WordsFault::Memory) => Err(AllocError),
     }
 }

@@ -5,8 +5,9 @@ use Rattle.std.specs.Cmp.Lexicographic.{pointwise}
 use Rattle.clap.specs.Words.{Text, first_of, subcommand_of}
 use Rattle.clap.specs.Walk.{Row, is_empty}
 use Rattle.clap.specs.Faults.{fault_of}
-use Rattle.command_words.specs.Commands.{digits, number, is_digit, max_load, max_client, loaded, stored, checked, given, perhaps, flag, both, paired, folder, session_number, played, inboxed, served, served_by, client_key, edited, edited_by, named_net, named_past, named, wave, is_cut, accepted, command_of, CommandOf, Pipe, Load, Play, Inbox, Serve, Edit}
-use Rattle.wave_base.specs.Grammar.{is_address, is_domain, is_wavelet_name}
+use Rattle.command_words.specs.Commands.{digits, number, is_digit, max_load, max_client, loaded, stored, checked, given, perhaps, flag, both, host, paired, folder, session_number, played, inboxed, served, served_by, edited, edited_by, named_net, named_past, named, wave, is_cut, accepted, command_of, CommandOf, Pipe, Load, Play, Inbox, Serve, Edit}
+use Rattle.command_words.specs.Peers.{Peer}
+use Rattle.wave_base.specs.Grammar.{is_address, is_wavelet_name}
 use Rattle.wave_program.specs.declared.service.Service.{Service}
 
 abbrev IsUpTo : ℕ → Option ℕ → Type 0
@@ -40,7 +41,7 @@ IsCapped (Some (Pipe folder)) = Unit {0}
 IsCapped (Some (Load n)) = n ≤ 100000
 IsCapped (Some (Play folder wavelet)) = Unit {0}
 IsCapped (Some (Inbox folder user)) = Unit {0}
-IsCapped (Some (Serve domain listen sessions folder echo)) = Unit {0}
+IsCapped (Some (Serve domain listen peers sessions folder echo)) = Unit {0}
 IsCapped (Some (Edit user client connect)) = client ≤ max_client
 
 either : (x y : Option CommandOf) (b : Bool) → IsCapped x → IsCapped y → IsCapped (cond b x y)
@@ -65,9 +66,9 @@ stored_capped store = made_capped Pipe (λ x. tt) (perhaps folder store)
 paired_capped : {X Y : Type 0} (make : X → Y → CommandOf) → ((x : X) (y : Y) → IsCapped (Some (make x y))) → (a : Option X) (b : Option Y) → IsCapped (paired make a b)
 paired_capped make free a b = made_capped (λ p. make p.0 p.1) (λ p. free p.0 p.1) (both a b)
 
-served_capped : (listen domain sessions store : Option (List ℕ)) (echo : Bool) → IsCapped (served listen domain sessions store echo)
-served_capped listen domain sessions store echo =
-    paired_capped (λ (d : List ℕ × List ℕ) (b : Option ℕ × Option (List ℕ)). Serve d.1 d.0 b.0 b.1 echo) (λ d b. tt) (both (given listen) (checked is_domain domain)) (both (perhaps session_number sessions) (perhaps folder store))
+served_capped : (listen domain peers sessions store : Option (List ℕ)) (echo : Bool) → IsCapped (served listen domain peers sessions store echo)
+served_capped listen domain peers sessions store echo =
+    paired_capped (λ (h : List ℕ × List ℕ × List Peer) (b : Option ℕ × Option (List ℕ)). Serve h.1 h.0 h.2 b.0 b.1 echo) (λ h b. tt) (host listen domain peers) (both (perhaps session_number sessions) (perhaps folder store))
 
 keyed : (w : Option (List ℕ × List ℕ)) (x : Option ℕ) → IsUpTo max_client x → IsCapped (paired (λ p k. Edit p.1 k p.0) w x)
 keyed None x h = tt
@@ -82,7 +83,7 @@ net_capped : (p : Text × List Row) → IsCapped (named_net p)
 net_capped p =
     either (edited_by p.1) (served_by p.1) (pointwise ◌==◌ p.0 (codes "edit"))
     (edited_capped (first_of (codes "connect") p.1) (first_of (codes "user") p.1) (first_of (codes "client") p.1))
-    (served_capped (first_of (codes "listen") p.1) (first_of (codes "domain") p.1) (first_of (codes "sessions") p.1) (first_of (codes "store") p.1) (flag (first_of (codes "echo") p.1)))
+    (served_capped (first_of (codes "listen") p.1) (first_of (codes "domain") p.1) (first_of (codes "peer") p.1) (first_of (codes "sessions") p.1) (first_of (codes "store") p.1) (flag (first_of (codes "echo") p.1)))
 
 past_capped : (p : Text × List Row) → IsCapped (named_past p)
 past_capped p =

@@ -19,7 +19,7 @@ IfEdit (Some (Pipe folder)) P = Unit {0}
 IfEdit (Some (Load n)) P = Unit {0}
 IfEdit (Some (Play folder wavelet)) P = Unit {0}
 IfEdit (Some (Inbox folder user)) P = Unit {0}
-IfEdit (Some (Serve domain listen sessions folder echo)) P = Unit {0}
+IfEdit (Some (Serve domain listen peers sessions folder echo)) P = Unit {0}
 IfEdit (Some (Edit user client connect)) P = P user client connect
 
 abbrev pub IsClient : Option CommandOf → Type 0
@@ -28,7 +28,7 @@ IsClient (Some (Pipe folder)) = ⊥
 IsClient (Some (Load n)) = ⊥
 IsClient (Some (Play folder wavelet)) = ⊥
 IsClient (Some (Inbox folder user)) = ⊥
-IsClient (Some (Serve domain listen sessions folder echo)) = ⊥
+IsClient (Some (Serve domain listen peers sessions folder echo)) = ⊥
 IsClient (Some (Edit user client connect)) = Unit {0}
 
 abbrev pub HasNetCause : Option CommandOf → (door line : Type 0) → Type 0
@@ -37,7 +37,7 @@ HasNetCause (Some (Pipe folder)) door line = ⊥
 HasNetCause (Some (Load n)) door line = ⊥
 HasNetCause (Some (Play folder wavelet)) door line = ⊥
 HasNetCause (Some (Inbox folder user)) door line = ⊥
-HasNetCause (Some (Serve domain listen sessions folder echo)) door line = door
+HasNetCause (Some (Serve domain listen peers sessions folder echo)) door line = door
 HasNetCause (Some (Edit user client connect)) door line = line
 
 module _ {N L : Type 0} (net : net_of.Ghosts N L) (link : link_of.Ghosts L) (connect : List ℕ) (n m : N) where

@@ -9,19 +9,20 @@ use Rattle.doc_items.specs.Maps.{Key}
 use Rattle.disk_model.specs.declared.disk.Disk as disk_of
 use Rattle.wave_outside.specs.declared.folder.Folder as folder_of
 use Rattle.wave_outside.specs.Folders.{Entry, IsReadAlike}
+use Rattle.command_words.specs.Peers.{Peer}
 use Rattle.command_words.specs.Commands.{CommandOf, Pipe, Load, Play, Inbox, Serve, Edit}
 use Rattle.wavelet_shelf.specs.Hosting.{Hosted}
 use Rattle.shard_marks.specs.declared.mark.Mark.{Mark}
 use Rattle.wave_server.specs.Running.{BeginWith}
 use Rattle.wave_program.specs.Store.{AreStanding}
 
-abbrev pub IfServe : Option CommandOf → ((domain listen : List ℕ) → (sessions : Option ℕ) → (store : Option (List ℕ)) → Type 0) → Type 0
+abbrev pub IfServe : Option CommandOf → ((domain listen : List ℕ) → (peers : List Peer) → (sessions : Option ℕ) → (store : Option (List ℕ)) → Type 0) → Type 0
 IfServe None P = Unit {0}
 IfServe (Some (Pipe folder)) P = Unit {0}
 IfServe (Some (Load n)) P = Unit {0}
 IfServe (Some (Play folder wavelet)) P = Unit {0}
 IfServe (Some (Inbox folder user)) P = Unit {0}
-IfServe (Some (Serve domain listen sessions folder echo)) P = P domain listen sessions folder
+IfServe (Some (Serve domain listen peers sessions folder echo)) P = P domain listen peers sessions folder
 IfServe (Some (Edit user client connect)) P = Unit {0}
 
 abbrev pub IsServer : Option CommandOf → Type 0
@@ -30,7 +31,7 @@ IsServer (Some (Pipe folder)) = ⊥
 IsServer (Some (Load n)) = ⊥
 IsServer (Some (Play folder wavelet)) = ⊥
 IsServer (Some (Inbox folder user)) = ⊥
-IsServer (Some (Serve domain listen sessions folder echo)) = Unit {0}
+IsServer (Some (Serve domain listen peers sessions folder echo)) = Unit {0}
 IsServer (Some (Edit user client connect)) = ⊥
 
 -- the folder before and after it

@@ -21,7 +21,7 @@ service_of (Some (words.Pipe (Some folder))) = Some (folder, Lines)
 service_of (Some (words.Load n)) = None
 service_of (Some (words.Play folder wavelet)) = Some (folder, Play wavelet)
 service_of (Some (words.Inbox folder user)) = Some (folder, Inbox user)
-service_of (Some (words.Serve domain listen sessions folder echo)) = None
+service_of (Some (words.Serve domain listen peers sessions folder echo)) = None
 service_of (Some (words.Edit user client connect)) = None
 
 module _ {F D K : Type 0} {folder : folder_of.Ghosts F D} {disk : disk_of.Ghosts D} (clock : clock_of.Ghosts K) where

@@ -1,12 +1,16 @@
 // The commands over a net: a server, and its clients.
-ghost use Rattle.std.specs.Prelude.{◌≡◌, ◌<◌, ◌⊎◌, ◌+◌, ◌-◌, ◌^◌, ℕ, List, min, vec_len, true, false, [], ◌≤◌, Some, None, is_some, option_map, IsTrue, IsSome, IfSome};
+ghost use Rattle.std.specs.Prelude.{◌≡◌, ◌<◌, ◌⊎◌, ◌+◌, ◌-◌, ◌^◌, ℕ, List, length, map, min, vec_len, true, false, [], ◌≤◌, Some, None, is_some, option_map, IsTrue, IsSome, IfSome};
 ghost use denote.Param.Send.{IsSend};
 ghost use Rattle.command_words.specs.Commands.{needs_net, Edit};
 ghost use Rattle.command_words.specs.Shown.{shown};
 ghost use Rattle.doc_items.specs.Limits.{max_count};
 ghost use Rattle.wave_outside.specs.Counts.{Rose};
+ghost use Rattle.peer_rounds.specs.Peers.{names_by};
+ghost use Rattle.peer_rounds.specs.Stands.{AreDialled};
 ghost use Rattle.shard_marks.specs.Passes.{marks_of};
+ghost use Rattle.shard_marks.specs.Servers.{server as server_by};
 ghost use Rattle.robot_host.specs.Hosts.{host_as, IsNew};
+ghost use Rattle.wave_server.specs.Meeting.{HasMet};
 ghost use Rattle.wave_server.specs.Robots.{WereServed};
 ghost use Rattle.wave_server.specs.Running.{BeginWith, HasServed};
 ghost use Rattle.wave_server.specs.Statuses.{IsServerStatus};
@@ -20,6 +24,7 @@ use crate::edit::edit_over;
 use crate::outside::Outside;
 use crate::store::{put_back, tell};
 use command_words::Command;
+use doc_items::Text;
 use robot_host::{Robot, RobotHost};
 use session_link::LinkJob;
 use std::alloc::Global;
@@ -53,24 +58,30 @@ pub fn net_command<
     requires net { needs_net (shown command) ≡ true }
     requires key { (user connect : List ℕ) (k : ℕ) → shown command ≡ Edit user k connect → k ≤ max_count }
     requires empty { (vec_len outside.old.server.ended ≡ 0) × (is_some outside.old.server.spent ≡ false) × (is_some outside.old.server.passes ≡ false) }
-    ensures served { IfServe (Some (shown command.entry)) (λ domain listen sessions store.
-        IfSome outside.new.server.passes (λ p. HasServed N.Link.tells N.Link.events N.Link.faults N.Link.closed domain (marks_of p) (is_some sessions) (is_some outside.new.server.spent) (N.back outside.old.server.net) (N.back outside.new.server.net) outside.new.server.ended.items)) }
-    ensures done { IfServe (Some (shown command.entry)) (λ domain listen sessions store.
+    ensures served { IfServe (Some (shown command.entry)) (λ domain listen peers sessions store.
+        IfSome outside.new.server.passes (λ p. HasServed N.Link.Link (server_by domain (map (λ a. a.0) peers)) (marks_of p)
+        (is_some outside.new.server.spent) (N.back outside.old.server.net) (N.back outside.new.server.net) outside.new.server.ended.items)) }
+    ensures done { IfServe (Some (shown command.entry)) (λ domain listen peers sessions store.
         result ≡ 0 → (n : ℕ) × (sessions ≡ Some n) × (vec_len outside.new.server.ended ≡ n) × (is_some outside.new.server.passes ≡ true)
         × (N.accepted outside.old.server.net < 2 ^ 64 → N.accepted outside.new.server.net ≡ min (N.accepted outside.old.server.net + n) (2 ^ 64 - 1))) }
-    ensures robots { IfServe (Some (shown command.entry)) (λ domain listen sessions store.
+    ensures met { IfServe (Some (shown command.entry)) (λ domain listen peers sessions store.
+        result ≡ 0 → HasMet N.Link.Link (N.back outside.old.server.net) (N.back outside.new.server.net) (N.line outside.old.server.net)
+        (N.line outside.new.server.net) domain (length peers) outside.new.server.ended.items) }
+    ensures dialled { IfServe (Some (shown command.entry)) (λ domain listen peers sessions store.
+        result ≡ 0 → IsTrue N.tells → AreDialled (N.asked outside.new.server.net) (names_by domain peers)) }
+    ensures robots { IfServe (Some (shown command.entry)) (λ domain listen peers sessions store.
         result ≡ 0 → IfSome outside.new.server.passes (λ p. WereServed domain (marks_of p) (host_as ⟦<dyn Robot as Robot>⟧ robots.new))) }
     ensures robots_left { (IsServer (Some (shown command.entry)) → ⊥) → robots.new ≡ robots.old }
-    ensures plain { IfServe (Some (shown command.entry)) (λ domain listen sessions store. store ≡ None → IfSome outside.new.server.passes (λ p. BeginWith domain [] (marks_of p))) }
+    ensures plain { IfServe (Some (shown command.entry)) (λ domain listen peers sessions store. store ≡ None → IfSome outside.new.server.passes (λ p. BeginWith domain [] (marks_of p))) }
     ensures alone { (IsStoring (Some (shown command.entry)) → ⊥) → outside.new.folder ≡ outside.old.folder }
-    ensures silent { IfServe (Some (shown command.entry)) (λ domain listen sessions store. (result ≡ 6 → ⊥) → outside.new.sink ≡ outside.old.sink) }
-    ensures entered { IfServe (Some (shown command.entry)) (λ domain listen sessions store. IfSome store (λ path. IsTrue F.tells
+    ensures silent { IfServe (Some (shown command.entry)) (λ domain listen peers sessions store. (result ≡ 6 → ⊥) → outside.new.sink ≡ outside.old.sink) }
+    ensures entered { IfServe (Some (shown command.entry)) (λ domain listen peers sessions store. IfSome store (λ path. IsTrue F.tells
         → IsEntered F.Folder (entered_at F.Folder path outside.old.folder) outside.old.folder outside.new.folder result)) }
-    ensures stored { IfServe (Some (shown command.entry)) (λ domain listen sessions store. IfSome store (λ path. IsTrue F.tells → IsTrue F.Disk.tells
+    ensures stored { IfServe (Some (shown command.entry)) (λ domain listen peers sessions store. IfSome store (λ path. IsTrue F.tells → IsTrue F.Disk.tells
         → IfSome outside.new.server.passes (λ p. IsServedFrom F.Folder F.Disk.Disk domain (marks_of p) (entered_at F.Folder path outside.old.folder) outside.old.folder outside.new.folder))) }
-    ensures unloaded { IfServe (Some (shown command.entry)) (λ domain listen sessions store. IfSome store (λ path. IsTrue F.tells → IsTrue F.Disk.tells → (result ≡ 5) ⊎ (result ≡ 6)
+    ensures unloaded { IfServe (Some (shown command.entry)) (λ domain listen peers sessions store. IfSome store (λ path. IsTrue F.tells → IsTrue F.Disk.tells → (result ≡ 5) ⊎ (result ≡ 6)
         → IsUnloaded F.Folder F.Disk.Disk (entered_at F.Folder path outside.old.folder) outside.old.folder outside.new.folder (W.written outside.old.sink) (W.written outside.new.sink) (W.faults outside.old.sink) (W.faults outside.new.sink) result)) }
-    ensures left { IfServe (Some (shown command.entry)) (λ domain listen sessions store. IsTrue F.tells → IsTrue F.Disk.tells → is_some outside.new.server.passes ≡ false
+    ensures left { IfServe (Some (shown command.entry)) (λ domain listen peers sessions store. IsTrue F.tells → IsTrue F.Disk.tells → is_some outside.new.server.passes ≡ false
         → AreLeft F.Folder F.Disk.Disk outside.old.folder outside.new.folder) }
     ensures edited { IfEdit (Some (shown command.entry)) (λ user client connect.
         IsEditRun N.Net N.Link.Link connect outside.old.server.net outside.new.server.net S.left W.written user client outside.old.source outside.new.source outside.old.sink outside.new.sink result) }
@@ -83,9 +94,9 @@ pub fn net_command<
     ensures sink_failed { result ≡ 4 → Rose (W.faults outside.old.sink) (W.faults outside.new.sink) }
     ensures refused { result ≡ 9 → Rose (P.refused outside.old.server.spawner) (P.refused outside.new.server.spawner) }
     ensures spent { (result ≡ 12 → is_some outside.new.server.spent ≡ true) × (is_some outside.new.server.spent ≡ true → result ≡ 12) }
-    ensures source { IfServe (Some (shown command.entry)) (λ domain listen sessions store. outside.new.source ≡ outside.old.source) }
+    ensures source { IfServe (Some (shown command.entry)) (λ domain listen peers sessions store. outside.new.source ≡ outside.old.source) }
     ensures store_failed { result ≡ 5 → Rose (F.faults outside.old.folder) (F.faults outside.new.folder) }
-    ensures served_status { IfServe (Some (shown command.entry)) (λ domain listen sessions store. IsServerStatus result ⊎ ((result ≡ 5) ⊎ (result ≡ 6))) }
+    ensures served_status { IfServe (Some (shown command.entry)) (λ domain listen peers sessions store. IsServerStatus result ⊎ ((result ≡ 5) ⊎ (result ≡ 6))) }
     ensures known { IsStatus result × (result ≡ 2 → ⊥) }
     ensures damaged { result ≡ 6 → IsStoring (Some (shown command.entry)) }
 {
@@ -93,10 +104,21 @@ pub fn net_command<
         Command::Serve {
             domain,
             listen,
+            peers,
             sessions,
             store,
             echo: _echo,
-        } => serve_net(rt, alloc, domain, listen, sessions, store, outside, robots),
+        } => serve_net(
+            rt,
+            alloc,
+            domain,
+            peers.as_slice(),
+            listen,
+            sessions,
+            store,
+            outside,
+            robots,
+        ),
         Command::Edit {
             user,
             client,
@@ -127,6 +149,7 @@ fn serve_net<
     rt: &R,
     alloc: Global,
     domain: Domain,
+    peers: &[(Domain, Text)],
     listen: &str,
     sessions: Option<u64>,
     store: Option<&str>,
@@ -136,9 +159,13 @@ fn serve_net<
     requires sends { IsSend R.row }
     requires new { IsNew (host_as ⟦<dyn Robot as Robot>⟧ robots.old) }
     requires empty { (vec_len outside.old.server.ended ≡ 0) × (is_some outside.old.server.spent ≡ false) × (is_some outside.old.server.passes ≡ false) }
-    ensures served { IfSome outside.new.server.passes (λ p. HasServed N.Link.tells N.Link.events N.Link.faults N.Link.closed domain (marks_of p) (is_some sessions) (is_some outside.new.server.spent) (N.back outside.old.server.net) (N.back outside.new.server.net) outside.new.server.ended.items) }
+    ensures served { IfSome outside.new.server.passes (λ p. HasServed N.Link.Link (server_by domain (map (λ a. a.0) peers.now)) (marks_of p)
+        (is_some outside.new.server.spent) (N.back outside.old.server.net) (N.back outside.new.server.net) outside.new.server.ended.items) }
     ensures done { result ≡ 0 → (n : ℕ) × (sessions ≡ Some n) × (vec_len outside.new.server.ended ≡ n) × (is_some outside.new.server.passes ≡ true)
         × (N.accepted outside.old.server.net < 2 ^ 64 → N.accepted outside.new.server.net ≡ min (N.accepted outside.old.server.net + n) (2 ^ 64 - 1)) }
+    ensures met { result ≡ 0 → HasMet N.Link.Link (N.back outside.old.server.net) (N.back outside.new.server.net) (N.line outside.old.server.net)
+        (N.line outside.new.server.net) domain (length peers.now) outside.new.server.ended.items }
+    ensures dialled { result ≡ 0 → IsTrue N.tells → AreDialled (N.asked outside.new.server.net) (names_by domain peers.now) }
     ensures robots { result ≡ 0 → IfSome outside.new.server.passes (λ p. WereServed domain (marks_of p) (host_as ⟦<dyn Robot as Robot>⟧ robots.new)) }
     ensures door { result ≡ 7 → Rose (N.door outside.old.server.net) (N.door outside.new.server.net) }
     ensures refused { result ≡ 9 → Rose (P.refused outside.old.server.spawner) (P.refused outside.new.server.spawner) }
@@ -165,6 +192,7 @@ fn serve_net<
                 rt,
                 alloc,
                 domain,
+                peers,
                 listen,
                 sessions,
                 Shelf::new(alloc),
@@ -173,7 +201,9 @@ fn serve_net<
                 server,
             )
         }
-        Some(path) => serve_path(rt, alloc, domain, listen, sessions, path, outside, robots),
+        Some(path) => serve_path(
+            rt, alloc, domain, peers, listen, sessions, path, outside, robots,
+        ),
     }
 }
 
@@ -191,6 +221,7 @@ fn serve_path<
     rt: &R,
     alloc: Global,
     domain: Domain,
+    peers: &[(Domain, Text)],
     listen: &str,
     sessions: Option<u64>,
     path: &str,
@@ -200,9 +231,13 @@ fn serve_path<
     requires sends { IsSend R.row }
     requires new { IsNew (host_as ⟦<dyn Robot as Robot>⟧ robots.old) }
     requires empty { (vec_len outside.old.server.ended ≡ 0) × (is_some outside.old.server.spent ≡ false) × (is_some outside.old.server.passes ≡ false) }
-    ensures served { IfSome outside.new.server.passes (λ p. HasServed N.Link.tells N.Link.events N.Link.faults N.Link.closed domain (marks_of p) (is_some sessions) (is_some outside.new.server.spent) (N.back outside.old.server.net) (N.back outside.new.server.net) outside.new.server.ended.items) }
+    ensures served { IfSome outside.new.server.passes (λ p. HasServed N.Link.Link (server_by domain (map (λ a. a.0) peers.now)) (marks_of p)
+        (is_some outside.new.server.spent) (N.back outside.old.server.net) (N.back outside.new.server.net) outside.new.server.ended.items) }
     ensures done { result ≡ 0 → (n : ℕ) × (sessions ≡ Some n) × (vec_len outside.new.server.ended ≡ n) × (is_some outside.new.server.passes ≡ true)
         × (N.accepted outside.old.server.net < 2 ^ 64 → N.accepted outside.new.server.net ≡ min (N.accepted outside.old.server.net + n) (2 ^ 64 - 1)) }
+    ensures met { result ≡ 0 → HasMet N.Link.Link (N.back outside.old.server.net) (N.back outside.new.server.net) (N.line outside.old.server.net)
+        (N.line outside.new.server.net) domain (length peers.now) outside.new.server.ended.items }
+    ensures dialled { result ≡ 0 → IsTrue N.tells → AreDialled (N.asked outside.new.server.net) (names_by domain peers.now) }
     ensures robots { result ≡ 0 → IfSome outside.new.server.passes (λ p. WereServed domain (marks_of p) (host_as ⟦<dyn Robot as Robot>⟧ robots.new)) }
     ensures door { result ≡ 7 → Rose (N.door outside.old.server.net) (N.door outside.new.server.net) }
     ensures refused { result ≡ 9 → Rose (P.refused outside.old.server.spawner) (P.refused outside.new.server.spawner) }
@@ -218,7 +253,7 @@ fn serve_path<
     ensures known { IsServerStatus result ⊎ ((result ≡ 5) ⊎ (result ≡ 6)) }
 {
     match outside.folder.enter(alloc, path) {
-        Ok(()) => serve_folder(rt, alloc, domain, listen, sessions, outside, robots),
+        Ok(()) => serve_folder(rt, alloc, domain, peers, listen, sessions, outside, robots),
         Err(FolderFault::Failed) => 5,
         Err(FolderFault::Memory) => 8,
     }
@@ -238,6 +273,7 @@ fn serve_folder<
     rt: &R,
     alloc: Global,
     domain: Domain,
+    peers: &[(Domain, Text)],
     listen: &str,
     sessions: Option<u64>,
     outside: &mut Outside<S, W, F, C, N, P, G>,
@@ -246,9 +282,13 @@ fn serve_folder<
     requires sends { IsSend R.row }
     requires new { IsNew (host_as ⟦<dyn Robot as Robot>⟧ robots.old) }
     requires empty { (vec_len outside.old.server.ended ≡ 0) × (is_some outside.old.server.spent ≡ false) × (is_some outside.old.server.passes ≡ false) }
-    ensures served { IfSome outside.new.server.passes (λ p. HasServed N.Link.tells N.Link.events N.Link.faults N.Link.closed domain (marks_of p) (is_some sessions) (is_some outside.new.server.spent) (N.back outside.old.server.net) (N.back outside.new.server.net) outside.new.server.ended.items) }
+    ensures served { IfSome outside.new.server.passes (λ p. HasServed N.Link.Link (server_by domain (map (λ a. a.0) peers.now)) (marks_of p)
+        (is_some outside.new.server.spent) (N.back outside.old.server.net) (N.back outside.new.server.net) outside.new.server.ended.items) }
     ensures done { result ≡ 0 → (n : ℕ) × (sessions ≡ Some n) × (vec_len outside.new.server.ended ≡ n) × (is_some outside.new.server.passes ≡ true)
         × (N.accepted outside.old.server.net < 2 ^ 64 → N.accepted outside.new.server.net ≡ min (N.accepted outside.old.server.net + n) (2 ^ 64 - 1)) }
+    ensures met { result ≡ 0 → HasMet N.Link.Link (N.back outside.old.server.net) (N.back outside.new.server.net) (N.line outside.old.server.net)
+        (N.line outside.new.server.net) domain (length peers.now) outside.new.server.ended.items }
+    ensures dialled { result ≡ 0 → IsTrue N.tells → AreDialled (N.asked outside.new.server.net) (names_by domain peers.now) }
     ensures robots { result ≡ 0 → IfSome outside.new.server.passes (λ p. WereServed domain (marks_of p) (host_as ⟦<dyn Robot as Robot>⟧ robots.new)) }
     ensures door { result ≡ 7 → Rose (N.door outside.old.server.net) (N.door outside.new.server.net) }
     ensures refused { result ≡ 9 → Rose (P.refused outside.old.server.spawner) (P.refused outside.new.server.spawner) }
@@ -271,7 +311,7 @@ fn serve_folder<
         Ok(()) => {
             let Outside { clock, server, .. } = outside;
             serve(
-                rt, alloc, domain, listen, sessions, shelf, clock, robots, server,
+                rt, alloc, domain, peers, listen, sessions, shelf, clock, robots, server,
             )
         }
         Err(fault) => {

@@ -7,8 +7,12 @@ ghost use Rattle.line_loop.specs.Output.{IsWritten};
 ghost use Rattle.line_loop.specs.Run.{byte_limit};
 ghost use Rattle.line_loop.specs.Told.{WhereTold, IsRun};
 ghost use Rattle.wavelet_shelf.specs.Loads.{IsSound};
+ghost use Rattle.peer_rounds.specs.Peers.{names_by};
+ghost use Rattle.peer_rounds.specs.Stands.{AreDialled};
 ghost use Rattle.shard_marks.specs.Passes.{marks_of};
+ghost use Rattle.shard_marks.specs.Servers.{server as server_by};
 ghost use Rattle.robot_host.specs.Hosts.{host_as, IsNew};
+ghost use Rattle.wave_server.specs.Meeting.{HasMet};
 ghost use Rattle.wave_server.specs.Robots.{WereServed};
 ghost use Rattle.wave_server.specs.Running.{BeginWith, HasServed};
 ghost use Rattle.wave_server.specs.Statuses.{IsServerStatus};
@@ -105,26 +109,32 @@ pub fn run<
     // A server: each session that ended was served from the marks that were seen, and these begin with those of the stored histories. With 0
     // the robots were shown all of their views of the histories that these marks give, and something came of each of their edits. Where
     // nothing was served the folder's files read as before.
-    ensures net_served { IfServe (command_of (map string_bytes words.now.items)) (λ domain listen sessions store.
-        IfSome outside.new.server.passes (λ p. HasServed N.Link.tells N.Link.events N.Link.faults N.Link.closed domain (marks_of p) (is_some sessions) (is_some outside.new.server.spent) (N.back outside.old.server.net) (N.back outside.new.server.net) outside.new.server.ended.items)) }
-    ensures net_done { IfServe (command_of (map string_bytes words.now.items)) (λ domain listen sessions store.
+    ensures net_served { IfServe (command_of (map string_bytes words.now.items)) (λ domain listen peers sessions store.
+        IfSome outside.new.server.passes (λ p. HasServed N.Link.Link (server_by domain (map (λ a. a.0) peers)) (marks_of p)
+        (is_some outside.new.server.spent) (N.back outside.old.server.net) (N.back outside.new.server.net) outside.new.server.ended.items)) }
+    ensures net_done { IfServe (command_of (map string_bytes words.now.items)) (λ domain listen peers sessions store.
         result ≡ 0 → (n : ℕ) × (sessions ≡ Some n) × (vec_len outside.new.server.ended ≡ n) × (is_some outside.new.server.passes ≡ true)
         × (N.accepted outside.old.server.net < 2 ^ 64 → N.accepted outside.new.server.net ≡ min (N.accepted outside.old.server.net + n) (2 ^ 64 - 1))) }
-    ensures net_robots { IfServe (command_of (map string_bytes words.now.items)) (λ domain listen sessions store.
+    ensures net_met { IfServe (command_of (map string_bytes words.now.items)) (λ domain listen peers sessions store.
+        result ≡ 0 → HasMet N.Link.Link (N.back outside.old.server.net) (N.back outside.new.server.net) (N.line outside.old.server.net)
+        (N.line outside.new.server.net) domain (length peers) outside.new.server.ended.items) }
+    ensures net_dialled { IfServe (command_of (map string_bytes words.now.items)) (λ domain listen peers sessions store.
+        result ≡ 0 → IsTrue N.tells → AreDialled (N.asked outside.new.server.net) (names_by domain peers)) }
+    ensures net_robots { IfServe (command_of (map string_bytes words.now.items)) (λ domain listen peers sessions store.
         result ≡ 0 → IfSome outside.new.server.passes (λ p. WereServed domain (marks_of p) (host_as ⟦<dyn Robot as Robot>⟧ robots.new))) }
-    ensures net_plain { IfServe (command_of (map string_bytes words.now.items)) (λ domain listen sessions store. store ≡ None → IfSome outside.new.server.passes (λ p. BeginWith domain [] (marks_of p))) }
-    ensures net_stored { IfServe (command_of (map string_bytes words.now.items)) (λ domain listen sessions store. IfSome store (λ path. IsTrue F.tells → IsTrue F.Disk.tells
+    ensures net_plain { IfServe (command_of (map string_bytes words.now.items)) (λ domain listen peers sessions store. store ≡ None → IfSome outside.new.server.passes (λ p. BeginWith domain [] (marks_of p))) }
+    ensures net_stored { IfServe (command_of (map string_bytes words.now.items)) (λ domain listen peers sessions store. IfSome store (λ path. IsTrue F.tells → IsTrue F.Disk.tells
         → IfSome outside.new.server.passes (λ p. IsServedFrom F.Folder F.Disk.Disk domain (marks_of p) (entered_at F.Folder path outside.old.folder) outside.old.folder outside.new.folder))) }
-    ensures net_unloaded { IfServe (command_of (map string_bytes words.now.items)) (λ domain listen sessions store. IfSome store (λ path. IsTrue F.tells → IsTrue F.Disk.tells → (result ≡ 5) ⊎ (result ≡ 6)
+    ensures net_unloaded { IfServe (command_of (map string_bytes words.now.items)) (λ domain listen peers sessions store. IfSome store (λ path. IsTrue F.tells → IsTrue F.Disk.tells → (result ≡ 5) ⊎ (result ≡ 6)
         → IsUnloaded F.Folder F.Disk.Disk (entered_at F.Folder path outside.old.folder) outside.old.folder outside.new.folder (W.written outside.old.sink) (W.written outside.new.sink) (W.faults outside.old.sink) (W.faults outside.new.sink) result)) }
-    ensures net_left { IfServe (command_of (map string_bytes words.now.items)) (λ domain listen sessions store. IsTrue F.tells → IsTrue F.Disk.tells → is_some outside.new.server.passes ≡ false
+    ensures net_left { IfServe (command_of (map string_bytes words.now.items)) (λ domain listen peers sessions store. IsTrue F.tells → IsTrue F.Disk.tells → is_some outside.new.server.passes ≡ false
         → AreLeft F.Folder F.Disk.Disk outside.old.folder outside.new.folder) }
-    ensures net_entered { IfServe (command_of (map string_bytes words.now.items)) (λ domain listen sessions store. IfSome store (λ path. IsTrue F.tells
+    ensures net_entered { IfServe (command_of (map string_bytes words.now.items)) (λ domain listen peers sessions store. IfSome store (λ path. IsTrue F.tells
         → IsEntered F.Folder (entered_at F.Folder path outside.old.folder) outside.old.folder outside.new.folder result)) }
-    ensures net_unread { IfServe (command_of (map string_bytes words.now.items)) (λ domain listen sessions store. outside.new.source ≡ outside.old.source) }
-    ensures net_silent { IfServe (command_of (map string_bytes words.now.items)) (λ domain listen sessions store.
+    ensures net_unread { IfServe (command_of (map string_bytes words.now.items)) (λ domain listen peers sessions store. outside.new.source ≡ outside.old.source) }
+    ensures net_silent { IfServe (command_of (map string_bytes words.now.items)) (λ domain listen peers sessions store.
         (result ≡ 6 → ⊥) → outside.new.sink ≡ outside.old.sink) }
-    ensures net_known { IfServe (command_of (map string_bytes words.now.items)) (λ domain listen sessions store.
+    ensures net_known { IfServe (command_of (map string_bytes words.now.items)) (λ domain listen peers sessions store.
         IsServerStatus result ⊎ ((result ≡ 5) ⊎ (result ≡ 6))) }
     ensures net_failed { result ≡ 7 → HasNetCause (command_of (map string_bytes words.now.items))
         (Rose (N.door outside.old.server.net) (N.door outside.new.server.net)) (Rose (N.line outside.old.server.net) (N.line outside.new.server.net)) }

@@ -7,7 +7,7 @@ use line_loop::write_all;
 use wave_outside::Sink;
 
 const USAGE: &str =
-    "usage: wave pipe [--store DIR]\n       wave serve --domain D --listen A [--sessions N] [--store DIR] [--echo]\n       wave edit --user U --client K --connect A\n       wave load N\n       wave play --store DIR --wavelet W\n       wave inbox --store DIR --user U\n";
+    "usage: wave pipe [--store DIR]\n       wave serve --domain D --listen A [--peer D=A[,D=A]...] [--sessions N] [--store DIR] [--echo]\n       wave edit --user U --client K --connect A\n       wave load N\n       wave play --store DIR --wavelet W\n       wave inbox --store DIR --user U\n";
 
 /// Writes the usage text, as far as the sink takes it.
 pub fn write_usage<W: Sink>(sink: &mut W)

@@ -4,6 +4,7 @@
 --     went_spent     why it stops
 --     went_on        no answer says that all sessions have ended
 --     went_refused, went_door      it stops for nothing else
+--     never_refused, never_door    so where a call says so
 use Rattle.std.proofs.Common.{◌≡◌, ◌≢◌, Bool, true, false, MatchBool, Result, Ok, Err, OnOk, IfOk, IfErr, MatchResult, sym, subst, ◌∙◌, true≢false}
 use Rattle.wave_server.specs.declared.stop.Stop.{Stop}
 use Rattle.wave_server.specs.declared.stop.Stop.TheVariants.{Door, Refused, Spent}
@@ -36,3 +37,11 @@ went_refused P spent (Err s) w = λ e. absurd (not_refused (sym w.0 ∙ e))
 pub went_door : (P : Type 0) (spent : Bool) (r : Result Bool Stop) → Went spent r → IfErr r (λ s. s ≡ Door → P)
 went_door P spent (Ok b) w = tt
 went_door P spent (Err s) w = λ e. absurd (not_door (sym w.0 ∙ e))
+
+pub never_refused : {A : Type 0} (P : Type 0) (r : Result A Stop) → IfErr r (λ s. (s ≢ Refused) × (s ≢ Door)) → IfErr r (λ s. s ≡ Refused → P)
+never_refused P (Ok a) kinds = tt
+never_refused P (Err s) kinds = λ e. absurd (kinds.0 e)
+
+pub never_door : {A : Type 0} (P : Type 0) (r : Result A Stop) → IfErr r (λ s. (s ≢ Refused) × (s ≢ Door)) → IfErr r (λ s. s ≡ Door → P)
+never_door P (Ok a) kinds = tt
+never_door P (Err s) kinds = λ e. absurd (kinds.1 e)

@@ -2,6 +2,8 @@
 #![tactic(auto)]
 
 mod attendant;
+mod herald;
+mod meeting;
 mod robots;
 mod server;
 mod serving;

@@ -1,24 +1,33 @@
 // What a server does until its sessions have ended.
-ghost use Rattle.std.specs.Prelude.{◌≡◌, ◌≢◌, ◌<◌, ◌≤◌, ◌+◌, length, vec_len, vec_capacity, IfOk, IfErr, IfSome, OnOk, MatchBool, MatchResult, List, true, false, Some, is_some, cond, min, ◌-◌, ◌^◌, ℕ};
+ghost use Rattle.std.specs.Prelude.{◌≡◌, ◌≢◌, ◌<◌, ◌≤◌, ◌+◌, [], IsTrue, length, vec_len, vec_capacity, IfOk, IfErr, IfSome, OnOk, MatchBool, MatchResult, List, true, false, Some, is_some, cond, min, ◌-◌, ◌^◌, ℕ};
 ghost use Rattle.std.specs.Arc.{arc_value};
 ghost use denote.Param.Send.{IsSend};
+ghost use mathlib.Core.List.{IsPrefix};
 ghost use Rattle.wave_outside.specs.Counts.{Rose, raised};
 ghost use Rattle.turn_cells.specs.Cells.{Begins};
 ghost use Rattle.shard_marks.specs.Passes.{marks_of};
-ghost use Rattle.session_hub.specs.Hubs.{AreOfHub};
+ghost use Rattle.session_hub.specs.Hubs.{AreOfHub, server_of};
 ghost use Rattle.robot_host.specs.Hosts.{host_as};
+ghost use Rattle.peer_rounds.specs.Peers.{held, names};
+ghost use Rattle.peer_rounds.specs.Reached.{HaveReached};
+ghost use Rattle.peer_rounds.specs.Stands.{AreDialled, AreReady as PeersReady};
+ghost use Rattle.wave_server.specs.Meeting.{HaveMet};
 ghost use Rattle.wave_server.specs.Robots.{AreReady, WereServed};
-ghost use Rattle.wave_server.specs.Running.{AreOurs, HasServed};
+ghost use Rattle.wave_server.specs.Running.{AreOurs, HasServed, IsGoing};
 ghost use Rattle.wave_server.specs.declared.stop.Stop.TheVariants.{Refused, Door, Spent};
 
 use crate::attendant::Attendant;
+use crate::herald::Herald;
+use crate::meeting::{meet, part};
 use crate::robots::{attend, settle};
 use crate::server::Server;
 use crate::starting::start_job;
 use crate::stop::Stop;
 use crate::taking::take_end;
+use peer_rounds::Peers;
+use peer_turns::PeerTurns;
 use robot_host::{Robot, RobotHost};
-use session_hub::{Hub, Passes};
+use session_hub::{Hub, HubTurns, Passes};
 use session_link::LinkJob;
 use std::alloc::Global;
 use std::sync::{Arc, Wait};
@@ -52,8 +61,10 @@ fn take_one<
     passes: &mut Passes<F>,
     jobs: &mut Vec<P::Running>,
     place: usize,
+    put: &mut u64,
     keeps: bool,
 )
+    requires few { put.old < 2 ^ 64 - 1 }
     requires place { place < vec_len jobs.old }
     requires own { AreOfHub (arc_value hub.now) passes.old }
     requires ours { AreOurs (λ r. arc_value (P.job_of r).hub) (arc_value hub.now) jobs.old.items }
@@ -62,17 +73,20 @@ fn take_one<
     ensures own { AreOfHub (arc_value hub.now) passes.new }
     ensures later { Begins passes.old passes.new }
     ensures ours { AreOurs (λ r. arc_value (P.job_of r).hub) (arc_value hub.now) jobs.new.items }
-    ensures out { vec_len jobs.new ≤ N.out server.new.net }
+    ensures out { (held : ℕ) → vec_len jobs.old + held ≤ N.out server.old.net → vec_len jobs.new + held ≤ N.out server.new.net }
     ensures room { keeps ≡ true → vec_len server.new.ended + vec_len jobs.new ≤ vec_capacity server.new.ended }
     ensures total { keeps ≡ true → vec_len server.new.ended + vec_len jobs.new ≡ vec_len server.old.ended + vec_len jobs.old }
     ensures door { N.door server.new.net ≡ N.door server.old.net }
     ensures refused { P.refused server.new.spawner ≡ P.refused server.old.spawner }
     ensures accepted { N.accepted server.new.net ≡ N.accepted server.old.net }
-    ensures served { (before : List N.Link) → HasServed N.Link.tells N.Link.events N.Link.faults N.Link.closed (arc_value hub.now).domain (marks_of passes.old) keeps (is_some server.old.spent) before (N.back server.old.net) server.old.ended.items
-        → HasServed N.Link.tells N.Link.events N.Link.faults N.Link.closed (arc_value hub.now).domain (marks_of passes.new) keeps (is_some server.new.spent) before (N.back server.new.net) server.new.ended.items }
+    ensures asked { IsTrue N.tells → N.asked server.new.net ≡ N.asked server.old.net }
+    ensures going { (before : List N.Link) (line : ℕ) → IsGoing N.Link.Link (server_of (arc_value hub.now)) (marks_of passes.old) (is_some server.old.spent) put.old before
+        (N.back server.old.net) line (N.line server.old.net) server.old.ended.items
+        → IsGoing N.Link.Link (server_of (arc_value hub.now)) (marks_of passes.new) (is_some server.new.spent) put.new before
+        (N.back server.new.net) line (N.line server.new.net) server.new.ended.items }
 {
     let running = jobs.swap_remove(place);
-    take_end::<R, N, F, C, P, G>(rt, alloc, server, hub, passes, running, keeps);
+    take_end::<R, N, F, C, P, G>(rt, alloc, server, hub, passes, running, put, keeps);
 }
 
 // Whether the server goes on after the end of a session.
@@ -112,11 +126,13 @@ fn accept_one<
     ensures own { AreOfHub (arc_value hub.now) passes.new }
     ensures later { Begins passes.old passes.new }
     ensures ours { AreOurs (λ r. arc_value (P.job_of r).hub) (arc_value hub.now) jobs.new.items }
-    ensures out { vec_len jobs.new ≤ N.out server.new.net }
+    ensures out { (held : ℕ) → vec_len jobs.old + held ≤ N.out server.old.net → vec_len jobs.new + held ≤ N.out server.new.net }
     ensures room { keeps ≡ true → vec_len server.new.ended + vec_len jobs.new ≤ vec_capacity server.new.ended }
     ensures started { IfOk result (λ b. MatchBool b (vec_len jobs.new ≡ vec_len jobs.old + 1) (vec_len jobs.new ≡ vec_len jobs.old)) }
     ensures accepted { IfOk result (λ b. N.accepted server.new.net ≡ cond b (raised (N.accepted server.old.net)) (N.accepted server.old.net)) }
     ensures ended { (server.new.ended.items ≡ server.old.ended.items) × (N.back server.new.net ≡ N.back server.old.net) }
+    ensures line { N.line server.new.net ≡ N.line server.old.net }
+    ensures asked { IsTrue N.tells → N.asked server.new.net ≡ N.asked server.old.net }
     ensures refused { IfErr result (λ s. s ≡ Refused → Rose (P.refused server.old.spawner) (P.refused server.new.spawner)) }
     ensures door { IfErr result (λ s. s ≡ Door → Rose (N.door server.old.net) (N.door server.new.net)) }
     ensures counts { (P.refused server.old.spawner ≤ P.refused server.new.spawner) × (N.door server.old.net ≤ N.door server.new.net) }
@@ -134,6 +150,17 @@ fn accept_one<
         Ok(Accepted::Nothing) => Ok(false),
         Err(NetFault::Failed) => Err(Stop::Door),
         Err(NetFault::Memory) => Err(Stop::Memory),
+    }
+}
+
+// Sleeps at the door, unless the server is to stay awake.
+fn rest<N: Net>(net: &mut N, awake: bool)
+    ensures counts { (N.door net.new ≡ N.door net.old) × (N.line net.new ≡ N.line net.old) }
+    ensures asked { IsTrue N.tells → N.asked net.new ≡ N.asked net.old }
+    ensures same { (N.accepted net.new ≡ N.accepted net.old) × (N.out net.new ≡ N.out net.old) × (N.back net.new ≡ N.back net.old) }
+{
+    if !awake {
+        net.rest();
     }
 }
 
@@ -156,6 +183,7 @@ fn accept_or_rest<
     started: &mut u64,
     most: u64,
     keeps: bool,
+    awake: bool,
 ) -> Result<bool, Stop>
     requires sends { IsSend R.row }
     requires own { AreOfHub (arc_value hub.now) passes.old }
@@ -168,7 +196,7 @@ fn accept_or_rest<
     ensures own { AreOfHub (arc_value hub.now) passes.new }
     ensures later { Begins passes.old passes.new }
     ensures ours { AreOurs (λ r. arc_value (P.job_of r).hub) (arc_value hub.now) jobs.new.items }
-    ensures out { vec_len jobs.new ≤ N.out server.new.net }
+    ensures out { (held : ℕ) → vec_len jobs.old + held ≤ N.out server.old.net → vec_len jobs.new + held ≤ N.out server.new.net }
     ensures room { keeps ≡ true → vec_len server.new.ended + vec_len jobs.new ≤ vec_capacity server.new.ended }
     ensures total { OnOk result (keeps ≡ true → vec_len server.new.ended + vec_len jobs.new ≡ started.new) }
     ensures most { OnOk result (started.new ≤ most) }
@@ -178,8 +206,11 @@ fn accept_or_rest<
     ensures refused { IfErr result (λ s. s ≡ Refused → Rose (P.refused server.old.spawner) (P.refused server.new.spawner)) }
     ensures door { IfErr result (λ s. s ≡ Door → Rose (N.door server.old.net) (N.door server.new.net)) }
     ensures counts { (P.refused server.old.spawner ≤ P.refused server.new.spawner) × (N.door server.old.net ≤ N.door server.new.net) }
-    ensures served { (before : List N.Link) → HasServed N.Link.tells N.Link.events N.Link.faults N.Link.closed (arc_value hub.now).domain (marks_of passes.old) keeps (is_some server.old.spent) before (N.back server.old.net) server.old.ended.items
-        → HasServed N.Link.tells N.Link.events N.Link.faults N.Link.closed (arc_value hub.now).domain (marks_of passes.new) keeps (is_some server.new.spent) before (N.back server.new.net) server.new.ended.items }
+    ensures asked { IsTrue N.tells → N.asked server.new.net ≡ N.asked server.old.net }
+    ensures going { (before : List N.Link) (line put : ℕ) → IsGoing N.Link.Link (server_of (arc_value hub.now)) (marks_of passes.old) (is_some server.old.spent) put before
+        (N.back server.old.net) line (N.line server.old.net) server.old.ended.items
+        → IsGoing N.Link.Link (server_of (arc_value hub.now)) (marks_of passes.new) (is_some server.new.spent) put before
+        (N.back server.new.net) line (N.line server.new.net) server.new.ended.items }
 {
     match accept_one::<R, N, F, C, P, G>(
         rt, alloc, server, clock, hub, passes, jobs, *started, keeps,
@@ -189,7 +220,7 @@ fn accept_or_rest<
             Ok(false)
         }
         Ok(false) => {
-            server.net.rest();
+            rest(&mut server.net, awake);
             Ok(false)
         }
         Err(stop) => Err(stop),
@@ -215,6 +246,7 @@ fn go_round<
     started: &mut u64,
     most: u64,
     keeps: bool,
+    awake: bool,
 ) -> Result<bool, Stop>
     requires sends { IsSend R.row }
     requires own { AreOfHub (arc_value hub.now) passes.old }
@@ -227,7 +259,7 @@ fn go_round<
     ensures own { AreOfHub (arc_value hub.now) passes.new }
     ensures later { Begins passes.old passes.new }
     ensures ours { AreOurs (λ r. arc_value (P.job_of r).hub) (arc_value hub.now) jobs.new.items }
-    ensures out { vec_len jobs.new ≤ N.out server.new.net }
+    ensures out { (held : ℕ) → vec_len jobs.old + held ≤ N.out server.old.net → vec_len jobs.new + held ≤ N.out server.new.net }
     ensures room { keeps ≡ true → vec_len server.new.ended + vec_len jobs.new ≤ vec_capacity server.new.ended }
     ensures total { OnOk result (keeps ≡ true → vec_len server.new.ended + vec_len jobs.new ≡ started.new) }
     ensures most { OnOk result (started.new ≤ most) }
@@ -237,22 +269,25 @@ fn go_round<
     ensures refused { IfErr result (λ s. s ≡ Refused → Rose (P.refused server.old.spawner) (P.refused server.new.spawner)) }
     ensures door { IfErr result (λ s. s ≡ Door → Rose (N.door server.old.net) (N.door server.new.net)) }
     ensures counts { (P.refused server.old.spawner ≤ P.refused server.new.spawner) × (N.door server.old.net ≤ N.door server.new.net) }
-    ensures served { (before : List N.Link) → HasServed N.Link.tells N.Link.events N.Link.faults N.Link.closed (arc_value hub.now).domain (marks_of passes.old) keeps (is_some server.old.spent) before (N.back server.old.net) server.old.ended.items
-        → HasServed N.Link.tells N.Link.events N.Link.faults N.Link.closed (arc_value hub.now).domain (marks_of passes.new) keeps (is_some server.new.spent) before (N.back server.new.net) server.new.ended.items }
+    ensures asked { IsTrue N.tells → N.asked server.new.net ≡ N.asked server.old.net }
+    ensures going { (before : List N.Link) (line put : ℕ) → IsGoing N.Link.Link (server_of (arc_value hub.now)) (marks_of passes.old) (is_some server.old.spent) put before
+        (N.back server.old.net) line (N.line server.old.net) server.old.ended.items
+        → IsGoing N.Link.Link (server_of (arc_value hub.now)) (marks_of passes.new) (is_some server.new.spent) put before
+        (N.back server.new.net) line (N.line server.new.net) server.new.ended.items }
 {
     if *started < most {
         return accept_or_rest::<R, N, F, C, P, G>(
-            rt, alloc, server, clock, hub, passes, jobs, started, most, keeps,
+            rt, alloc, server, clock, hub, passes, jobs, started, most, keeps, awake,
         );
     }
     if keeps && jobs.is_empty() {
         return Ok(true);
     }
-    server.net.rest();
+    rest(&mut server.net, awake);
     Ok(false)
 }
 
-// Takes the end of a job, or accepts a link, or else sleeps. True where all sessions have ended.
+// Takes the end of a job, or accepts a link, or else sleeps unless it is to stay awake. True where all sessions have ended.
 fn turn<
     R: Wait,
     N: Net,
@@ -271,6 +306,8 @@ fn turn<
     started: &mut u64,
     most: u64,
     keeps: bool,
+    put: &mut u64,
+    awake: bool,
 ) -> Result<bool, Stop>
     requires sends { IsSend R.row }
     requires own { AreOfHub (arc_value hub.now) passes.old }
@@ -283,7 +320,7 @@ fn turn<
     ensures own { AreOfHub (arc_value hub.now) passes.new }
     ensures later { Begins passes.old passes.new }
     ensures ours { AreOurs (λ r. arc_value (P.job_of r).hub) (arc_value hub.now) jobs.new.items }
-    ensures out { vec_len jobs.new ≤ N.out server.new.net }
+    ensures out { (held : ℕ) → vec_len jobs.old + held ≤ N.out server.old.net → vec_len jobs.new + held ≤ N.out server.new.net }
     ensures room { keeps ≡ true → vec_len server.new.ended + vec_len jobs.new ≤ vec_capacity server.new.ended }
     ensures total { OnOk result (keeps ≡ true → vec_len server.new.ended + vec_len jobs.new ≡ started.new) }
     ensures most { OnOk result (started.new ≤ most) }
@@ -293,22 +330,112 @@ fn turn<
     ensures refused { IfErr result (λ s. s ≡ Refused → Rose (P.refused server.old.spawner) (P.refused server.new.spawner)) }
     ensures door { IfErr result (λ s. s ≡ Door → Rose (N.door server.old.net) (N.door server.new.net)) }
     ensures counts { (P.refused server.old.spawner ≤ P.refused server.new.spawner) × (N.door server.old.net ≤ N.door server.new.net) }
-    ensures served { (before : List N.Link) → HasServed N.Link.tells N.Link.events N.Link.faults N.Link.closed (arc_value hub.now).domain (marks_of passes.old) keeps (is_some server.old.spent) before (N.back server.old.net) server.old.ended.items
-        → HasServed N.Link.tells N.Link.events N.Link.faults N.Link.closed (arc_value hub.now).domain (marks_of passes.new) keeps (is_some server.new.spent) before (N.back server.new.net) server.new.ended.items }
+    ensures asked { IsTrue N.tells → N.asked server.new.net ≡ N.asked server.old.net }
+    ensures going { (before : List N.Link) (line : ℕ) → IsGoing N.Link.Link (server_of (arc_value hub.now)) (marks_of passes.old) (is_some server.old.spent) put.old before
+        (N.back server.old.net) line (N.line server.old.net) server.old.ended.items
+        → IsGoing N.Link.Link (server_of (arc_value hub.now)) (marks_of passes.new) (is_some server.new.spent) put.new before
+        (N.back server.new.net) line (N.line server.new.net) server.new.ended.items }
 {
+    if *put == u64::MAX {
+        return Err(Stop::Memory);
+    }
     match find_done::<R, LinkJob<N::Link, F, C, G>, P>(&server.spawner, jobs.as_slice()) {
         Some(place) => {
-            take_one::<R, N, F, C, P, G>(rt, alloc, server, hub, passes, jobs, place, keeps);
+            take_one::<R, N, F, C, P, G>(rt, alloc, server, hub, passes, jobs, place, put, keeps);
             goes_on(&server.spent)
         }
         None => go_round::<R, N, F, C, P, G>(
-            rt, alloc, server, clock, hub, passes, jobs, started, most, keeps,
+            rt, alloc, server, clock, hub, passes, jobs, started, most, keeps, awake,
         ),
     }
 }
 
-/// Accepts links, serves each, and takes the ends of all jobs, until so many sessions have ended; where ends aren't kept, until it stops.
-/// The robots take turns between, and then until nothing is left for them.
+// What is done in each turn for robots and peers. True where a peer's link did something, after which the server stays awake.
+fn tend<R: Wait, N: Net, F: Folder + Drop, C: Clock, P, G: Gate, T: PeerTurns>(
+    rt: &R,
+    alloc: Global,
+    server: &mut Server<N, F, P, G>,
+    hub: &Hub<F>,
+    passes: &mut Passes<F>,
+    robots: &mut RobotHost,
+    attendant: &mut Attendant<C, G>,
+    peers: &mut Peers<N::Link>,
+    turns: &mut T,
+    herald: &mut Herald<G>,
+    put: &mut u64,
+) -> Result<bool, Stop>
+    requires own { AreOfHub hub.now passes.old }
+    requires ready { AreReady hub.now.domain (marks_of passes.old) (host_as ⟦<dyn Robot as Robot>⟧ robots.old) }
+    requires unspent { is_some server.old.spent ≡ false }
+    requires held { held peers.old.list.items ≤ N.out server.old.net }
+    ensures own { AreOfHub hub.now passes.new }
+    ensures later { Begins passes.old passes.new }
+    ensures ready { OnOk result (AreReady hub.now.domain (marks_of passes.new) (host_as ⟦<dyn Robot as Robot>⟧ robots.new)) }
+    ensures spent { MatchResult result (λ _. is_some server.new.spent ≡ false) (λ s. MatchBool (is_some server.new.spent) (s ≡ Spent) (s ≢ Spent)) }
+    ensures kinds { IfErr result (λ s. (s ≢ Refused) × (s ≢ Door)) }
+    ensures same { (server.new.ended ≡ server.old.ended) × (server.new.spawner ≡ server.old.spawner) }
+    ensures counts { (N.door server.new.net ≡ N.door server.old.net) × (N.accepted server.new.net ≡ N.accepted server.old.net) }
+    ensures out { N.out server.new.net + held peers.old.list.items ≡ N.out server.old.net + held peers.new.list.items }
+    ensures rises { min (N.line server.old.net) (2 ^ 64 - 1) ≤ N.line server.new.net }
+    ensures back { IsPrefix (N.back server.old.net) (N.back server.new.net) }
+    ensures put { OnOk result (length (N.back server.new.net) + put.old ≡ length (N.back server.old.net) + put.new) }
+    ensures dialled { OnOk result (PeersReady N.tells (N.asked server.old.net) peers.old.list.items → PeersReady N.tells (N.asked server.new.net) peers.new.list.items) }
+    ensures named { names peers.new.list.items ≡ names peers.old.list.items }
+{
+    attend::<R, F, C, G>(rt, alloc, hub, passes, robots, attendant, &mut server.spent)?;
+    let worked = meet::<R, N, T>(
+        rt,
+        alloc,
+        &mut server.net,
+        peers,
+        turns,
+        put,
+        &mut server.spent,
+    )?;
+    if worked {
+        herald.tell(hub, passes);
+    }
+    Ok(worked)
+}
+
+// What is done when all sessions have ended: the peers' links are stepped for the last time, and the robots take their last turns.
+fn settle_all<R: Wait, N: Net, F: Folder + Drop, C: Clock, P, G: Gate, T: PeerTurns>(
+    rt: &R,
+    alloc: Global,
+    server: &mut Server<N, F, P, G>,
+    hub: &Hub<F>,
+    passes: &mut Passes<F>,
+    robots: &mut RobotHost,
+    attendant: &mut Attendant<C, G>,
+    peers: &mut Peers<N::Link>,
+    turns: &mut T,
+) -> Result<(), Stop>
+    requires own { AreOfHub hub.now passes.old }
+    requires ready { AreReady hub.now.domain (marks_of passes.old) (host_as ⟦<dyn Robot as Robot>⟧ robots.old) }
+    requires unspent { is_some server.old.spent ≡ false }
+    requires held { held peers.old.list.items ≤ N.out server.old.net }
+    ensures own { AreOfHub hub.now passes.new }
+    ensures later { Begins passes.old passes.new }
+    ensures robots { OnOk result (WereServed hub.now.domain (marks_of passes.new) (host_as ⟦<dyn Robot as Robot>⟧ robots.new)) }
+    ensures reached { OnOk result (PeersReady N.tells (N.asked server.old.net) peers.old.list.items
+        → HaveReached (N.line server.old.net) (N.line server.new.net) peers.new.list.items) }
+    ensures dialled { OnOk result (PeersReady N.tells (N.asked server.old.net) peers.old.list.items
+        → IsTrue N.tells → AreDialled (N.asked server.new.net) (names peers.new.list.items)) }
+    ensures spent { MatchResult result (λ _. is_some server.new.spent ≡ false) (λ s. MatchBool (is_some server.new.spent) (s ≡ Spent) (s ≢ Spent)) }
+    ensures kinds { IfErr result (λ s. (s ≢ Refused) × (s ≢ Door)) }
+    ensures same { (server.new.ended ≡ server.old.ended) × (server.new.spawner ≡ server.old.spawner) }
+    ensures counts { (N.door server.new.net ≡ N.door server.old.net) × (N.accepted server.new.net ≡ N.accepted server.old.net) }
+    ensures out { N.out server.new.net + held peers.old.list.items ≡ N.out server.old.net + held peers.new.list.items }
+    ensures rises { min (N.line server.old.net) (2 ^ 64 - 1) ≤ N.line server.new.net }
+    ensures back { IsPrefix (N.back server.old.net) (N.back server.new.net) }
+    ensures named { names peers.new.list.items ≡ names peers.old.list.items }
+{
+    part::<R, N, T>(rt, alloc, &mut server.net, peers, turns, &mut server.spent)?;
+    settle::<R, F, C, G>(rt, alloc, hub, passes, robots, attendant, &mut server.spent)
+}
+
+/// Accepts links, serves each, and takes the ends of all jobs, until so many sessions have ended; where ends aren't kept, until it stops. Between,
+/// robots take turns and the peers' links are stepped; and then until nothing is left for either.
 pub(crate) fn serve_all<
     R: Wait,
     N: Net,
@@ -324,13 +451,16 @@ pub(crate) fn serve_all<
     hub: &Arc<Hub<F>, Global>,
     passes: &mut Passes<F>,
     robots: &mut RobotHost,
+    peers: &mut Peers<N::Link>,
     most: u64,
     keeps: bool,
 ) -> Result<(), Stop>
     requires sends { IsSend R.row }
     requires own { AreOfHub (arc_value hub.now) passes.old }
-    requires empty { (vec_len server.old.ended ≡ 0) × (is_some server.old.spent ≡ false) }
+    requires empty { (server.old.ended.items ≡ []) × (vec_len server.old.ended ≡ 0) × (is_some server.old.spent ≡ false) }
     requires ready { AreReady (arc_value hub.now).domain (marks_of passes.old) (host_as ⟦<dyn Robot as Robot>⟧ robots.old) }
+    requires unlinked { held peers.old.list.items ≡ 0 }
+    requires undialled { PeersReady N.tells (N.asked server.old.net) peers.old.list.items }
     ensures own { AreOfHub (arc_value hub.now) passes.new }
     ensures later { Begins passes.old passes.new }
     ensures robots { OnOk result (WereServed (arc_value hub.now).domain (marks_of passes.new) (host_as ⟦<dyn Robot as Robot>⟧ robots.new)) }
@@ -339,12 +469,28 @@ pub(crate) fn serve_all<
     ensures spent { MatchResult result (λ _. is_some server.new.spent ≡ false) (λ s. MatchBool (is_some server.new.spent) (s ≡ Spent) (s ≢ Spent)) }
     ensures refused { IfErr result (λ s. s ≡ Refused → Rose (P.refused server.old.spawner) (P.refused server.new.spawner)) }
     ensures door { IfErr result (λ s. s ≡ Door → Rose (N.door server.old.net) (N.door server.new.net)) }
-    ensures served { (before : List N.Link) → HasServed N.Link.tells N.Link.events N.Link.faults N.Link.closed (arc_value hub.now).domain (marks_of passes.old) keeps (is_some server.old.spent) before (N.back server.old.net) server.old.ended.items
-        → HasServed N.Link.tells N.Link.events N.Link.faults N.Link.closed (arc_value hub.now).domain (marks_of passes.new) keeps (is_some server.new.spent) before (N.back server.new.net) server.new.ended.items }
+    ensures served { HasServed N.Link.Link (server_of (arc_value hub.now)) (marks_of passes.new) (is_some server.new.spent)
+        (N.back server.old.net) (N.back server.new.net) server.new.ended.items }
+    ensures met { OnOk result (HaveMet N.Link.Link (N.back server.old.net) (N.back server.new.net) (N.line server.old.net) (N.line server.new.net)
+        server.new.ended.items peers.new.list.items) }
+    ensures dialled { OnOk result (IsTrue N.tells → AreDialled (N.asked server.new.net) (names peers.new.list.items)) }
+    ensures named { names peers.new.list.items ≡ names peers.old.list.items }
+    ensures held { held peers.new.list.items ≤ N.out server.new.net }
 {
+    let Ok(own) = hub.split(alloc, passes) else {
+        return Err(Stop::Memory);
+    };
+    let mut turns = HubTurns::new(hub, own);
     let mut jobs = Vec::new(alloc);
     let mut started = 0u64;
+    let mut put = 0u64;
+    // Peers are dialled before it sleeps for the first time.
+    let mut awake = true;
     let mut attendant = Attendant::new(clock, &server.gate);
+    let mut herald = Herald::new(&server.gate);
+    if !hub.peers().is_empty() {
+        herald.listen();
+    }
     for _ in rt.forever() {
         match turn::<R, N, F, C, P, G>(
             rt,
@@ -357,27 +503,37 @@ pub(crate) fn serve_all<
             &mut started,
             most,
             keeps,
+            &mut put,
+            awake,
         ) {
             Ok(true) => {
-                return settle::<R, F, C, G>(
+                return settle_all::<R, N, F, C, P, G, HubTurns<F>>(
                     rt,
                     alloc,
+                    server,
                     hub,
                     passes,
                     robots,
                     &mut attendant,
-                    &mut server.spent,
+                    peers,
+                    &mut turns,
                 );
             }
-            Ok(false) => attend::<R, F, C, G>(
-                rt,
-                alloc,
-                hub,
-                passes,
-                robots,
-                &mut attendant,
-                &mut server.spent,
-            )?,
+            Ok(false) => {
+                awake = tend::<R, N, F, C, P, G, HubTurns<F>>(
+                    rt,
+                    alloc,
+                    server,
+                    hub,
+                    passes,
+                    robots,
+                    &mut attendant,
+                    peers,
+                    &mut turns,
+                    &mut herald,
+                    &mut put,
+                )?;
+            }
             Err(stop) => return Err(stop),
         }
     }

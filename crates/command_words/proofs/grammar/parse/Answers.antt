@@ -1,4 +1,4 @@
-use Rattle.std.proofs.Common.{arith, refl, ap, subst, map, ◌∙◌, ◌≡◌, ◌⊎◌, inl, inr, true, false, [], ◌∷◌, string_bytes}
+use Rattle.std.proofs.Common.{arith, refl, ap, subst, map, ◌∙◌, ◌≡◌, inl, inr, true, false, [], ◌∷◌, string_bytes}
 use Rattle.std.proofs.lemmas.Grind.{common_steps}
 use Rattle.clap.specs.Faults.{fault_of, is_simple_and_free}
 use Rattle.clap.specs.Kinds.{Kinds, HasKind}

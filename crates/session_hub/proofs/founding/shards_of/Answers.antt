@@ -1,4 +1,4 @@
-use Rattle.std.proofs.Common.{rules, true, ◌≡◌, ◌+◌, ◌++◌, ◌∷◌, [], sym, ap, subst, ◌∙◌, List, length, slice_get, Some, IfSome, arith, append-nil}
+use Rattle.std.proofs.Common.{rules, true, ◌≡◌, ◌+◌, ◌++◌, ◌∷◌, [], sym, subst, ◌∙◌, length, slice_get, Some, IfSome, arith}
 use Rattle.std.specs.List.{AllByRecursion}
 use Rattle.std.proofs.lemmas.List.{map-id}
 use Rattle.std.proofs.lemmas.Iterator.Adapters.{YieldsList-from_vec}

@@ -1,4 +1,4 @@
-use Rattle.std.proofs.Common.{◌≡◌, inr, Some, refl, ap, ◌∙◌}
+use Rattle.std.proofs.Common.{inr, Some, refl, ap, ◌∙◌}
 use Rattle.robot_host.specs.Hosts.{host_by}
 use Rattle.robot_host.proofs.RoundSteps.{settled_idle, round_one}
 use Rattle.session_hub.proofs.rounds.turn_over.Goals as goal

@@ -1,7 +1,5 @@
 use Rattle.std.proofs.Common.{rules, ◌≡◌, option_copied, length, ap, sym, ◌∙◌}
-use Rattle.session_core.specs.Answers.{attached}
 use Rattle.session_core.specs.News.{reply_message}
-use Rattle.shard_marks.specs.Marks.{shown_at}
 use Rattle.session_hub.specs.Entries.{entries_of}
 use Rattle.turn_lock.specs.Passes.{seen}
 use Rattle.session_hub.proofs.Turning.{later_of, attached_moment}

@@ -1,7 +1,4 @@
-use Rattle.std.proofs.Common.{rules, ◌≡◌, [], map, length, ap, sym, ◌∙◌, inl}
-use Rattle.session_core.specs.Deliveries.{delivered, after_delivery}
-use Rattle.shard_marks.specs.Frames.{frames_of}
-use Rattle.shard_marks.specs.Marks.{shown_at}
+use Rattle.std.proofs.Common.{rules, ◌≡◌, map, length, ap, sym, ◌∙◌, inl}
 use Rattle.session_hub.specs.Entries.{entries_of}
 use Rattle.turn_lock.specs.Passes.{seen}
 use Rattle.session_hub.proofs.Turning.{later_of, frames_moment, after_moment, told_moment}

@@ -1,4 +1,4 @@
-use Rattle.std.proofs.Common.{rules, map, ◌≡◌, ◌⊎◌, inl, inr, ap, subst, ◌∙◌, List}
+use Rattle.std.proofs.Common.{rules, map, ◌≡◌, inl, inr, ap, subst, ◌∙◌, List}
 use Rattle.turn_lock.specs.Passes.{seen, IsOneMore}
 use Rattle.shard_marks.specs.declared.mark.Mark.{Mark}
 use Rattle.shard_marks.specs.Givings.{gift_mark}

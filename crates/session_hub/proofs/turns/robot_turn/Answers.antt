@@ -2,7 +2,6 @@ use Rattle.std.proofs.Common.{rules, ◌≡◌, refl, ◌∙◌, length, ap, sym
 use Rattle.session_hub.specs.Entries.{entries_of}
 use Rattle.robot_host.specs.Hosts.{host_by}
 use Rattle.turn_lock.specs.Passes.{seen}
-use Rattle.session_hub.specs.Robots.{IsRoundAt, IsRoundCutAt}
 use Rattle.session_hub.proofs.RobotMoments.{from_moment, round_moment, cut_moment}
 use Rattle.session_hub.proofs.RobotTurns.{none_at}
 use Rattle.session_hub.proofs.Turning.{later_of, on_err}

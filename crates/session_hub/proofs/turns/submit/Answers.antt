@@ -1,4 +1,4 @@
-use Rattle.std.proofs.Common.{rules, map, ◌≡◌, ◌⊎◌, inl, inr, length, ap, sym, subst, ◌∙◌, List}
+use Rattle.std.proofs.Common.{rules, map, ◌≡◌, inl, inr, length, ap, sym, subst, ◌∙◌, List}
 use Rattle.turn_lock.specs.Passes.{seen, IsOneMore}
 use Rattle.shard_marks.specs.declared.mark.Mark.{Mark}
 use Rattle.session_hub.specs.Entries.{entries_of}
@@ -9,7 +9,7 @@ use Rattle.session_hub.proofs.turns.submit.Goals as goal
 pub returns-clause-answered : goal.returns-clause-answered
 returns-clause-answered g c = λ d own.
     let v = c.value.result.now in
-    answered_by c.args.pass.now _ d _ v.domain v.number (map mark_of v.records.items) (entries_of c.submit-answer.new.self) c.args.name.now c.args.submission.now c.args.time c.in_ok-answer.field-0.1
+    answered_by c.args.pass.now _ d _ v.domain v.number (map mark_of v.records.items) (entries_of c.submit-answer.new.self) c.args.peers.now c.args.name.now c.args.submission.now c.args.time c.in_ok-answer.field-0.1
     own (search rules) c.in_ok-answer.ensures.judged (search rules) (search rules)
 
 pub submit-answer-requires : goal.submit-answer-requires

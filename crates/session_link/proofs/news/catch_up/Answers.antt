@@ -1,5 +1,6 @@
 use Rattle.std.proofs.Common.{◌≡◌, ◌∙◌, sym, subst}
 use Rattle.shard_marks.specs.Passes.{marks_of}
+use Rattle.session_hub.specs.Hubs.{server_of}
 use Rattle.session_steps.specs.Going.{GoesOn}
 use Rattle.session_steps.proofs.Growing.{looked_grow, grow_more, sent_later}
 use Rattle.session_steps.proofs.Serving.{added_same, goes_later}
@@ -14,7 +15,7 @@ returns-in-Nothing-clause-sent g c = sent_later c.args.hub.now.domain (marks_of 
 
 pub returns-in-Nothing-clause-going : goal.returns-in-Nothing-clause-going
 returns-in-Nothing-clause-going g c o on t =
-    goes_later c.args.hub.now.domain o _ _ c.args.passes.now c.news.new.passes (g.L.Link.events c.args.link.now) (g.L.Link.events c.args.link.now) _ (looked_grow c.args.passes.now c.news.new.passes c.args.shard c.news.ensures.later c.news.ensures.others) (added_same c.args.passes.now c.news.new.passes c.args.shard c.news.ensures.others c.news.ensures.counts.1) (on t)
+    goes_later (server_of c.args.hub.now) o _ _ c.args.passes.now c.news.new.passes (g.L.Link.events c.args.link.now) (g.L.Link.events c.args.link.now) _ (looked_grow c.args.passes.now c.news.new.passes c.args.shard c.news.ensures.later c.news.ensures.others) (added_same c.args.passes.now c.news.new.passes c.args.shard c.news.ensures.others c.news.ensures.counts.1) (on t)
 
 -- something may be due
 pub deliver-requires-clause-sent : goal.deliver-requires-clause-sent
@@ -25,11 +26,11 @@ returns-in-true-clause-later g c = grow_more (marks_of c.args.passes.now) (marks
 
 pub returns-in-true-clause-going : goal.returns-in-true-clause-going
 returns-in-true-clause-going g c o on = c.deliver.ensures.going o (λ t.
-    goes_later c.args.hub.now.domain o _ _ c.args.passes.now c.news.new.passes (g.L.Link.events c.args.link.now) (g.L.Link.events c.args.link.now) _ (looked_grow c.args.passes.now c.news.new.passes c.args.shard c.news.ensures.later c.news.ensures.others) (added_same c.args.passes.now c.news.new.passes c.args.shard c.news.ensures.others c.news.ensures.counts.1) (on t))
+    goes_later (server_of c.args.hub.now) o _ _ c.args.passes.now c.news.new.passes (g.L.Link.events c.args.link.now) (g.L.Link.events c.args.link.now) _ (looked_grow c.args.passes.now c.news.new.passes c.args.shard c.news.ensures.later c.news.ensures.others) (added_same c.args.passes.now c.news.new.passes c.args.shard c.news.ensures.others c.news.ensures.counts.1) (on t))
 
 pub returns-in-true-clause-broken : goal.returns-in-true-clause-broken
 returns-in-true-clause-broken g c o on = c.deliver.ensures.broken o (λ t.
-    goes_later c.args.hub.now.domain o _ _ c.args.passes.now c.news.new.passes (g.L.Link.events c.args.link.now) (g.L.Link.events c.args.link.now) _ (looked_grow c.args.passes.now c.news.new.passes c.args.shard c.news.ensures.later c.news.ensures.others) (added_same c.args.passes.now c.news.new.passes c.args.shard c.news.ensures.others c.news.ensures.counts.1) (on t))
+    goes_later (server_of c.args.hub.now) o _ _ c.args.passes.now c.news.new.passes (g.L.Link.events c.args.link.now) (g.L.Link.events c.args.link.now) _ (looked_grow c.args.passes.now c.news.new.passes c.args.shard c.news.ensures.later c.news.ensures.others) (added_same c.args.passes.now c.news.new.passes c.args.shard c.news.ensures.others c.news.ensures.counts.1) (on t))
 
 -- nothing was opened at the shard
 pub returns-in-false-clause-later : goal.returns-in-false-clause-later
@@ -42,5 +43,5 @@ returns-in-false-clause-sent g c =
 
 pub returns-in-false-clause-going : goal.returns-in-false-clause-going
 returns-in-false-clause-going g c o on =
-    subst (λ s. GoesOn g.C.Clock g.L.Link o c.args.hub.now.domain c.news.new.passes c.args.link.now c.args.clock.now s) (sym c.note.ensures.session) (λ t.
-    goes_later c.args.hub.now.domain o _ _ c.args.passes.now c.news.new.passes (g.L.Link.events c.args.link.now) (g.L.Link.events c.args.link.now) _ (looked_grow c.args.passes.now c.news.new.passes c.args.shard c.news.ensures.later c.news.ensures.others) (added_same c.args.passes.now c.news.new.passes c.args.shard c.news.ensures.others c.news.ensures.counts.1) (on t))
+    subst (λ s. GoesOn g.C.Clock g.L.Link o (server_of c.args.hub.now) c.news.new.passes c.args.link.now c.args.clock.now s) (sym c.note.ensures.session) (λ t.
+    goes_later (server_of c.args.hub.now) o _ _ c.args.passes.now c.news.new.passes (g.L.Link.events c.args.link.now) (g.L.Link.events c.args.link.now) _ (looked_grow c.args.passes.now c.news.new.passes c.args.shard c.news.ensures.later c.news.ensures.others) (added_same c.args.passes.now c.news.new.passes c.args.shard c.news.ensures.others c.news.ensures.counts.1) (on t))

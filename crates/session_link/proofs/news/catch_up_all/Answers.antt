@@ -1,5 +1,6 @@
 use Rattle.std.proofs.Common.{◌≡◌, ◌≤◌, ◌∙◌, arith, refl, sym, subst, OnErr}
 use Rattle.std.proofs.lemmas.Result.{err_from_is_err_and}
+use Rattle.session_hub.specs.Hubs.{server_of}
 use Rattle.session_steps.specs.Going.{HasBroken}
 use Rattle.session_steps.proofs.Growing.{grow_same, grow_more}
 use Rattle.session_steps.proofs.Serving.{looked_next, loads_next, all_next, others_marks, others_loads}
@@ -44,5 +45,5 @@ returns-in_err-catch_up-clause-later g c = grow_more _ _ _ c.loop-shard.invarian
 pub returns-in_err-catch_up-clause-broken : goal.returns-in_err-catch_up-clause-broken
 returns-in_err-catch_up-clause-broken g c o on =
     let p = err_from_is_err_and c.from_residual.result c.from_residual.ensures.1 in
-    subst (λ r. OnErr r (HasBroken g.C.Clock g.L.Link o c.args.hub.now.domain c.catch_up.new.passes c.catch_up.new.link c.args.clock.now)) (sym p.1)
+    subst (λ r. OnErr r (HasBroken g.C.Clock g.L.Link o (server_of c.args.hub.now) c.catch_up.new.passes c.catch_up.new.link c.args.clock.now)) (sym p.1)
     (c.in_err-catch_up.ensures.broken o (c.loop-shard.invariant.going o on))

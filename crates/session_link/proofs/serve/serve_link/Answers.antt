@@ -1,10 +1,11 @@
-use Rattle.std.proofs.Common.{◌≡◌, ◌∙◌, ◌+◌, ◌≤◌, arith, ap, Some, []}
+use Rattle.std.proofs.Common.{◌≡◌, ◌∙◌, ◌+◌, ◌≤◌, arith, Some}
 use Rattle.session_core.specs.Rules.{fresh}
 use Rattle.turn_cells.specs.Cells.{loads_at}
+use Rattle.session_hub.specs.Hubs.{server_of}
 use Rattle.session_steps.specs.Going.{origin_of}
 use Rattle.session_steps.specs.declared.end.EndCause.TheVariants.{Memory}
 use Rattle.session_steps.proofs.Growing.{grow_same, grow_more, grow_begins}
-use Rattle.session_steps.proofs.Serving.{client_new, sent_new, going_unbegun, ended_unbegun, ended_of, looked_more}
+use Rattle.session_steps.proofs.Serving.{session_new, sent_new, going_unbegun, ended_unbegun, ended_of, looked_more}
 use Rattle.session_link.proofs.Quiet.{quiet_new}
 use Rattle.session_link.proofs.serve.serve_link.Goals as goal
 
@@ -12,10 +13,10 @@ pub loop-init : goal.loop-init
 loop-init g c = record {
   own = c.requires.own;
   later = grow_same _;
-  client = client_new _ _ (c.in-Ok.ensures.session ∙ ap (λ x. fresh (Some x) []) c.domain.ensures);
+  client = session_new (server_of c.args.hub.now) _ (c.in-Ok.ensures.session ∙ (λ i. fresh (Some (c.domain.ensures i)) (c.peers.ensures i)));
   sent = sent_new _ _ _ _ c.in-Ok.ensures.due;
-  quiet = quiet_new _ _ _ (c.in-Ok.ensures.session ∙ ap (λ x. fresh (Some x) []) c.domain.ensures);
-  going = λ t. going_unbegun c.args.hub.now.domain g.C.Clock.tells c.args.passes.now (g.C.Clock.readings c.args.clock.now) (g.L.Link.events c.args.link.now) _ c.requires.unused (c.in-Ok.ensures.session ∙ ap (λ x. fresh (Some x) []) c.domain.ensures);
+  quiet = quiet_new (server_of c.args.hub.now) _ _ (c.in-Ok.ensures.session ∙ (λ i. fresh (Some (c.domain.ensures i)) (c.peers.ensures i)));
+  going = λ t. going_unbegun (server_of c.args.hub.now) g.C.Clock.tells c.args.passes.now (g.C.Clock.readings c.args.clock.now) (g.L.Link.events c.args.link.now) _ c.requires.unused (c.in-Ok.ensures.session ∙ (λ i. fresh (Some (c.domain.ensures i)) (c.peers.ensures i)));
   looked = λ t k below. omega arith;
   unclosed = λ e. e;
   faults = omega arith;
@@ -40,7 +41,7 @@ returns-in-Err-clause-later g c = grow_begins c.args.passes.now c.args.passes.no
 
 pub returns-in-Err-clause-ended : goal.returns-in-Err-clause-ended
 returns-in-Err-clause-ended g c t =
-    ended_unbegun c.args.hub.now.domain g.C.Clock.tells c.args.passes.now (g.C.Clock.readings c.args.clock.now) (g.L.Link.events c.args.link.now) Memory (λ e. grind arith) c.requires.unused
+    ended_unbegun (server_of c.args.hub.now) g.C.Clock.tells c.args.passes.now (g.C.Clock.readings c.args.clock.now) (g.L.Link.events c.args.link.now) Memory (λ e. grind arith) c.requires.unused
 
 -- the session ended
 pub returns-in-Err-turn-clause-later : goal.returns-in-Err-turn-clause-later
@@ -48,5 +49,5 @@ returns-in-Err-turn-clause-later g c = grow_begins c.args.passes.now c.turn.new.
 
 pub returns-in-Err-turn-clause-ended : goal.returns-in-Err-turn-clause-ended
 returns-in-Err-turn-clause-ended g c t =
-    ended_of _ _ _ _ _ _ _ _ _ c.requires.unused (looked_more (loads_at c.args.passes.now) (loads_at c.loop.passes) (loads_at c.turn.new.passes) (g.L.Link.events c.args.link.now) (g.L.Link.events c.loop.link) (g.L.Link.events c.turn.new.link) (c.loop.invariant.looked t) (c.in-Err-turn.ensures.looked t))
+    ended_of (server_of c.args.hub.now) _ _ _ _ _ _ _ _ c.requires.unused (looked_more (loads_at c.args.passes.now) (loads_at c.loop.passes) (loads_at c.turn.new.passes) (g.L.Link.events c.args.link.now) (g.L.Link.events c.loop.link) (g.L.Link.events c.turn.new.link) (c.loop.invariant.looked t) (c.in-Err-turn.ensures.looked t))
     (c.in-Err-turn.ensures.ended (origin_of g.C.Clock c.args.passes.now c.args.clock.now) c.loop.invariant.going t)

@@ -1,3 +1,4 @@
+use Rattle.session_hub.specs.Hubs.{server_of}
 use Rattle.session_steps.proofs.Growing.{grow_more}
 use Rattle.session_steps.proofs.Serving.{break_ends}
 use Rattle.session_link.proofs.serve.turn.Goals as goal
@@ -14,5 +15,5 @@ returns-in-Ok-clause-ended g c o on = c.look.ensures.ended o (c.in-Ok.ensures.go
 -- the session broke off where news was sent
 pub returns-in-Err-clause-ended : goal.returns-in-Err-clause-ended
 returns-in-Err-clause-ended g c o on t =
-    break_ends c.args.hub.now.domain o g.C.Clock.tells (g.C.Clock.readings c.args.clock.now) c.catch_up_all.new.passes c.catch_up_all.new.passes (g.L.Link.events c.catch_up_all.new.link) _
+    break_ends (server_of c.args.hub.now) o g.C.Clock.tells (g.C.Clock.readings c.args.clock.now) c.catch_up_all.new.passes c.catch_up_all.new.passes (g.L.Link.events c.catch_up_all.new.link) _
     c.in-Err.ensures.cause (c.in-Err.ensures.broken o on t)

@@ -29,6 +29,12 @@ returns-in-Err-clause-served g c = none_there _ _ c.requires.empty.2
 pub returns-in-Err-clause-done : goal.returns-in-Err-clause-done
 returns-in-Err-clause-done g c = told_other c.tell-status.result c.tell-status.ensures.known
 
+pub returns-in-Err-clause-met : goal.returns-in-Err-clause-met
+returns-in-Err-clause-met g c = told_other c.tell-status.result c.tell-status.ensures.known
+
+pub returns-in-Err-clause-dialled : goal.returns-in-Err-clause-dialled
+returns-in-Err-clause-dialled g c = told_other c.tell-status.result c.tell-status.ensures.known
+
 pub returns-in-Err-clause-robots : goal.returns-in-Err-clause-robots
 returns-in-Err-clause-robots g c = told_other c.tell-status.result c.tell-status.ensures.known
 

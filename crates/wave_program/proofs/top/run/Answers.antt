@@ -34,19 +34,25 @@ pub returns-in-Err-Memory-clause-stored_complete : goal.returns-in-Err-Memory-cl
 returns-in-Err-Memory-clause-stored_complete g c = λ path service named folder_tells disk_tells legal source sink folder. memory_complete (g.S.Source.left c.args.outside.now.source) (g.W.Sink.written c.args.outside.now.sink) _ 8 refl refl
 
 pub returns-in-Err-Memory-clause-net_served : goal.returns-in-Err-Memory-clause-net_served
-returns-in-Err-Memory-clause-net_served g c = all_served _ _ (λ domain listen sessions store. none_there _ _ c.requires.empty.2)
+returns-in-Err-Memory-clause-net_served g c = all_served _ _ (λ domain listen peers sessions store. none_there _ _ c.requires.empty.2)
 
 pub returns-in-Err-Memory-clause-net_done : goal.returns-in-Err-Memory-clause-net_done
 returns-in-Err-Memory-clause-net_done g c = all_unless _ _ _ not_done
+
+pub returns-in-Err-Memory-clause-net_met : goal.returns-in-Err-Memory-clause-net_met
+returns-in-Err-Memory-clause-net_met g c = all_unless _ _ _ not_done
+
+pub returns-in-Err-Memory-clause-net_dialled : goal.returns-in-Err-Memory-clause-net_dialled
+returns-in-Err-Memory-clause-net_dialled g c = all_unless _ _ _ not_done
 
 pub returns-in-Err-Memory-clause-net_robots : goal.returns-in-Err-Memory-clause-net_robots
 returns-in-Err-Memory-clause-net_robots g c = all_unless _ _ _ not_done
 
 pub returns-in-Err-Memory-clause-net_plain : goal.returns-in-Err-Memory-clause-net_plain
-returns-in-Err-Memory-clause-net_plain g c = all_where _ _ _ (λ domain listen sessions store. none_there _ _ c.requires.empty.2)
+returns-in-Err-Memory-clause-net_plain g c = all_where _ _ _ (λ domain listen peers sessions store. none_there _ _ c.requires.empty.2)
 
 pub returns-in-Err-Memory-clause-net_stored : goal.returns-in-Err-Memory-clause-net_stored
-returns-in-Err-Memory-clause-net_stored g c = all_over _ _ _ _ (λ domain listen sessions path. none_there _ _ c.requires.empty.2)
+returns-in-Err-Memory-clause-net_stored g c = all_over _ _ _ _ (λ domain listen peers sessions path. none_there _ _ c.requires.empty.2)
 
 pub returns-in-Err-Memory-clause-net_unloaded : goal.returns-in-Err-Memory-clause-net_unloaded
 returns-in-Err-Memory-clause-net_unloaded g c = all_but _ _ _ _ _ not_unloaded
@@ -54,20 +60,20 @@ returns-in-Err-Memory-clause-net_unloaded g c = all_but _ _ _ _ _ not_unloaded
 pub returns-in-Err-Memory-clause-net_left : goal.returns-in-Err-Memory-clause-net_left
 returns-in-Err-Memory-clause-net_left g c =
     let folder = c.args.outside.now.folder in
-    all_served (λ domain listen sessions store. IsTrue g.F.Folder.tells → IsTrue g.F.Disk.Disk.tells → is_some c.args.outside.now.server.passes ≡ false → AreLeft g.F.Folder g.F.Disk.Disk folder folder) _
-    (λ domain listen sessions store folder_tells tells none. left_same g.F.Folder g.F.Disk.Disk folder)
+    all_served (λ domain listen peers sessions store. IsTrue g.F.Folder.tells → IsTrue g.F.Disk.Disk.tells → is_some c.args.outside.now.server.passes ≡ false → AreLeft g.F.Folder g.F.Disk.Disk folder folder) _
+    (λ domain listen peers sessions store folder_tells tells none. left_same g.F.Folder g.F.Disk.Disk folder)
 
 pub returns-in-Err-Memory-clause-net_entered : goal.returns-in-Err-Memory-clause-net_entered
 returns-in-Err-Memory-clause-net_entered g c = all_entered g.F.Folder (IsTrue g.F.Folder.tells) (λ path. entered_at g.F.Folder path c.args.outside.now.folder) c.args.outside.now.folder _
 
 pub returns-in-Err-Memory-clause-net_unread : goal.returns-in-Err-Memory-clause-net_unread
-returns-in-Err-Memory-clause-net_unread g c = all_served _ _ (λ domain listen sessions store. refl)
+returns-in-Err-Memory-clause-net_unread g c = all_served _ _ (λ domain listen peers sessions store. refl)
 
 pub returns-in-Err-Memory-clause-net_silent : goal.returns-in-Err-Memory-clause-net_silent
-returns-in-Err-Memory-clause-net_silent g c = all_where _ _ _ (λ domain listen sessions store. refl)
+returns-in-Err-Memory-clause-net_silent g c = all_where _ _ _ (λ domain listen peers sessions store. refl)
 
 pub returns-in-Err-Memory-clause-net_known : goal.returns-in-Err-Memory-clause-net_known
-returns-in-Err-Memory-clause-net_known g c = all_served _ _ (λ domain listen sessions store. inl (inr (inr (inl refl))))
+returns-in-Err-Memory-clause-net_known g c = all_served _ _ (λ domain listen peers sessions store. inl (inr (inr (inl refl))))
 
 pub returns-in-Err-Memory-clause-edited : goal.returns-in-Err-Memory-clause-edited
 returns-in-Err-Memory-clause-edited g c = all_edited _ _ (λ user client connect. inr (refl, (refl, record { known = inr refl; back = refl; asked = λ tells. inr (refl, refl) })))

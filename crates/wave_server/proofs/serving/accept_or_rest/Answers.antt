@@ -3,23 +3,33 @@ use Rattle.std.specs.Arc.{arc_value}
 use Rattle.shard_marks.specs.Passes.{marks_of}
 use Rattle.std.proofs.lemmas.Bool.{false≢true}
 use Rattle.wave_server.specs.declared.stop.Stop.TheVariants.{Spent}
-use Rattle.wave_server.proofs.Ending.{served_same}
+use Rattle.session_hub.specs.Hubs.{server_of}
+use Rattle.wave_server.proofs.Going.{going_same}
 use Rattle.wave_server.proofs.serving.accept_or_rest.Goals as goal
 
-pub returns-in-Ok-true-clause-served : goal.returns-in-Ok-true-clause-served
-returns-in-Ok-true-clause-served g c before =
-    served_same g.N.Link.Link.tells g.N.Link.Link.events g.N.Link.Link.faults g.N.Link.Link.closed (arc_value c.args.hub.now).domain (marks_of c.args.passes.now) (marks_of c.accept_one.new.passes)
-    c.accept_one.ensures.later c.args.keeps _ _ before _ _ _ _ c.accept_one.ensures.spent.0 c.accept_one.ensures.ended.1 c.accept_one.ensures.ended.0
+pub returns-in-Ok-true-clause-going : goal.returns-in-Ok-true-clause-going
+returns-in-Ok-true-clause-going g c before line put =
+    going_same g.N.Link.Link (server_of (arc_value c.args.hub.now)) (marks_of c.args.passes.now) (marks_of c.accept_one.new.passes) c.accept_one.ensures.later
+    _ _ put before _ _ line _ _ _ _ c.accept_one.ensures.spent.0 c.accept_one.ensures.ended.1 c.accept_one.ensures.line c.accept_one.ensures.ended.0
 
-pub returns-in-Ok-false-clause-served : goal.returns-in-Ok-false-clause-served
-returns-in-Ok-false-clause-served g c before =
-    served_same g.N.Link.Link.tells g.N.Link.Link.events g.N.Link.Link.faults g.N.Link.Link.closed (arc_value c.args.hub.now).domain (marks_of c.args.passes.now) (marks_of c.accept_one.new.passes)
-    c.accept_one.ensures.later c.args.keeps _ _ before _ _ _ _ c.accept_one.ensures.spent.0 (c.rest.ensures.same.2 ∙ c.accept_one.ensures.ended.1) c.accept_one.ensures.ended.0
+pub returns-in-Ok-true-clause-asked : goal.returns-in-Ok-true-clause-asked
+returns-in-Ok-true-clause-asked g c = c.accept_one.ensures.asked
 
-pub returns-in-Err-clause-served : goal.returns-in-Err-clause-served
-returns-in-Err-clause-served g c before =
-    served_same g.N.Link.Link.tells g.N.Link.Link.events g.N.Link.Link.faults g.N.Link.Link.closed (arc_value c.args.hub.now).domain (marks_of c.args.passes.now) (marks_of c.accept_one.new.passes)
-    c.accept_one.ensures.later c.args.keeps _ _ before _ _ _ _ c.accept_one.ensures.spent.0 c.accept_one.ensures.ended.1 c.accept_one.ensures.ended.0
+pub returns-in-Ok-false-clause-going : goal.returns-in-Ok-false-clause-going
+returns-in-Ok-false-clause-going g c before line put =
+    going_same g.N.Link.Link (server_of (arc_value c.args.hub.now)) (marks_of c.args.passes.now) (marks_of c.accept_one.new.passes) c.accept_one.ensures.later
+    _ _ put before _ _ line _ _ _ _ c.accept_one.ensures.spent.0 (c.rest.ensures.same.2 ∙ c.accept_one.ensures.ended.1) (c.rest.ensures.counts.1 ∙ c.accept_one.ensures.line) c.accept_one.ensures.ended.0
+
+pub returns-in-Ok-false-clause-asked : goal.returns-in-Ok-false-clause-asked
+returns-in-Ok-false-clause-asked g c = λ t. c.rest.ensures.asked t ∙ c.accept_one.ensures.asked t
+
+pub returns-in-Err-clause-going : goal.returns-in-Err-clause-going
+returns-in-Err-clause-going g c before line put =
+    going_same g.N.Link.Link (server_of (arc_value c.args.hub.now)) (marks_of c.args.passes.now) (marks_of c.accept_one.new.passes) c.accept_one.ensures.later
+    _ _ put before _ _ line _ _ _ _ c.accept_one.ensures.spent.0 c.accept_one.ensures.ended.1 c.accept_one.ensures.line c.accept_one.ensures.ended.0
+
+pub returns-in-Err-clause-asked : goal.returns-in-Err-clause-asked
+returns-in-Err-clause-asked g c = c.accept_one.ensures.asked
 
 pub returns-in-Ok-true-clause-own : goal.returns-in-Ok-true-clause-own
 returns-in-Ok-true-clause-own g c = c.accept_one.ensures.own
@@ -64,7 +74,7 @@ pub returns-in-Ok-false-clause-ours : goal.returns-in-Ok-false-clause-ours
 returns-in-Ok-false-clause-ours g c = c.accept_one.ensures.ours
 
 pub returns-in-Ok-false-clause-out : goal.returns-in-Ok-false-clause-out
-returns-in-Ok-false-clause-out g c = omega (arith, c.accept_one.ensures.out, c.rest.ensures.same.1)
+returns-in-Ok-false-clause-out g c = λ held fits. let then = c.accept_one.ensures.out held fits in omega (arith, then, c.rest.ensures.same.1)
 
 pub returns-in-Ok-false-clause-room : goal.returns-in-Ok-false-clause-room
 returns-in-Ok-false-clause-room g c = c.accept_one.ensures.room

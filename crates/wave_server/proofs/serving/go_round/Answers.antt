@@ -2,7 +2,9 @@ use Rattle.std.proofs.Common.{arith, ◌∙◌, refl}
 use Rattle.std.specs.Arc.{arc_value}
 use Rattle.std.proofs.lemmas.Bool.{false≢true}
 use Rattle.shard_marks.specs.Passes.{marks_of}
-use Rattle.wave_server.proofs.Ending.{begins_self, served_same}
+use Rattle.session_hub.specs.Hubs.{server_of}
+use Rattle.wave_server.proofs.Ending.{begins_self}
+use Rattle.wave_server.proofs.Going.{going_same}
 use Rattle.wave_server.proofs.serving.go_round.Goals as goal
 
 -- a session more may begin
@@ -21,7 +23,8 @@ returns-then-started-most g c = record {
   refused = c.accept_or_rest.ensures.refused;
   door = c.accept_or_rest.ensures.door;
   counts = c.accept_or_rest.ensures.counts;
-  served = c.accept_or_rest.ensures.served;
+  asked = c.accept_or_rest.ensures.asked;
+  going = c.accept_or_rest.ensures.going;
 }
 
 -- it sleeps
@@ -30,7 +33,7 @@ returns g c = record {
   own = c.requires.own;
   later = begins_self c.args.passes.now;
   ours = c.requires.ours;
-  out = omega (arith, c.requires.out, c.rest.ensures.same.1);
+  out = λ held fits. omega (arith, fits, c.rest.ensures.same.1);
   room = c.requires.room;
   total = c.requires.total;
   most = c.requires.most;
@@ -40,7 +43,8 @@ returns g c = record {
   refused = tt;
   door = tt;
   counts = (omega arith, omega (arith, c.rest.ensures.counts.0));
-  served = λ before.
-      served_same g.N.Link.Link.tells g.N.Link.Link.events g.N.Link.Link.faults g.N.Link.Link.closed (arc_value c.args.hub.now).domain (marks_of c.args.passes.now) (marks_of c.args.passes.now)
-      (begins_self c.args.passes.now) c.args.keeps _ _ before _ _ _ _ refl c.rest.ensures.same.2 refl;
+  asked = c.rest.ensures.asked;
+  going = λ before line put.
+      going_same g.N.Link.Link (server_of (arc_value c.args.hub.now)) (marks_of c.args.passes.now) (marks_of c.args.passes.now) (begins_self c.args.passes.now)
+      _ _ put before _ _ line _ _ _ _ refl c.rest.ensures.same.2 c.rest.ensures.counts.1 refl;
 }

@@ -1,93 +1,172 @@
-use Rattle.std.proofs.Common.{rules, arith, ◌≡◌, OnOk, is_some, sym, ap, subst}
+use Rattle.std.proofs.Common.{rules, arith, ◌≡◌, ◌+◌, ◌≤◌, ◌∙◌, OnOk, is_some, sym, ap, subst, refl, true, vec_len, vec_capacity}
 use Rattle.std.specs.Arc.{arc_value}
 use Rattle.robot_host.specs.Hosts.{host_by}
+use Rattle.peer_rounds.specs.Peers.{held}
+use Rattle.peer_rounds.specs.Stands.{AreReady as PeersReady}
 use Rattle.shard_marks.specs.Passes.{marks_of}
-use Rattle.session_hub.specs.Hubs.{AreOfHub}
+use Rattle.session_hub.specs.Hubs.{AreOfHub, server_of}
+use Rattle.wave_server.specs.Meeting.{HaveMet}
 use Rattle.wave_server.specs.Robots.{AreReady, WereServed}
-use Rattle.wave_server.proofs.Attending.{ready_later, were_served}
-use Rattle.wave_server.proofs.Ending.{begins_on, begins_self, ours_none, served_calm, ok_both}
+use Rattle.wave_server.specs.Running.{HasServed, IsGoing}
+use Rattle.wave_server.proofs.Attending.{ready_later}
+use Rattle.wave_server.proofs.Ending.{begins_on, same_begins, ours_none, ok_more}
+use Rattle.wave_server.proofs.Going.{going_none, going_back, served_back}
+use Rattle.wave_server.proofs.Meetings.{have_met, ready_asked}
+use Rattle.wave_server.proofs.Rounds.{ok_of, never_refused, never_door}
 use Rattle.wave_server.proofs.serving.serve_all.Goals as goal
 
 pub loop-init : goal.loop-init
-loop-init g c = record {
-  own = c.requires.own;
-  later = begins_self c.args.passes.now;
-  ready = c.requires.ready;
-  ours = ours_none (λ r. arc_value (g.P.Spawner.job_of r).hub) (arc_value c.args.hub.now) c.new-jobs.result.items c.new-jobs.ensures.items;
-  out = search rules;
-  room = search rules;
-  total = search rules;
-  most_is = search rules;
-  spent = c.requires.empty.1;
-  accepted = λ small. omega (arith, small);
-  refused = search rules;
-  door = search rules;
-  served = λ before h. h;
-}
+loop-init g c =
+    let hub : c.deref.result.now ≡ arc_value c.args.hub.now = search (rules, c.deref.ensures) in
+    let robots = host_by (λ b. (goal.Robot-dyn g (b.vtable, b.value)).calls b.value) c.args.robots.now in
+    let later = same_begins c.args.passes.now c.split.new.passes c.split.ensures.old.1 in
+    record {
+      own = subst (λ h. AreOfHub h c.split.new.passes) hub c.split.ensures.old.0;
+      later = later;
+      ready = ready_later (arc_value c.args.hub.now).domain (marks_of c.args.passes.now) (marks_of c.split.new.passes) robots later c.requires.ready;
+      ours = ours_none (λ r. arc_value (g.P.Spawner.job_of r).hub) (arc_value c.args.hub.now) c.new-jobs.result.items c.new-jobs.ensures.items;
+      out = search rules;
+      room = search rules;
+      total = search rules;
+      most_is = search rules;
+      spent = c.requires.empty.2;
+      accepted = λ small. omega (arith, small);
+      refused = search rules;
+      door = search rules;
+      dialled = c.requires.undialled;
+      named = refl;
+      going = going_none g.N.Link.Link (server_of (arc_value c.args.hub.now)) (marks_of c.split.new.passes) (is_some c.args.server.now.spent) (g.N.Net.back c.args.server.now.net) (g.N.Net.line c.args.server.now.net) c.args.server.now.ended.items c.requires.empty.0;
+    }
 
--- the robots take turns
+-- robots and peers have their turn
 
-pub attend-requires-clause-ready : goal.attend-requires-clause-ready
-attend-requires-clause-ready g c =
+pub tend-requires-clause-ready : goal.tend-requires-clause-ready
+tend-requires-clause-ready g c =
     let hub : c.deref-in-Ok-false.result.now ≡ arc_value c.args.hub.now = search (rules, c.deref-in-Ok-false.ensures) in
     let own : c.deref-in-Ok-false.result.now.domain ≡ (arc_value c.args.hub.now).domain = ap (λ h. h.domain) hub in
     subst (λ d. AreReady d (marks_of c.turn.new.passes) (host_by (λ b. (goal.Robot-dyn g (b.vtable, b.value)).calls b.value) c.loop.robots)) (sym own)
     (ready_later (arc_value c.args.hub.now).domain (marks_of c.loop.passes) (marks_of c.turn.new.passes) (host_by (λ b. (goal.Robot-dyn g (b.vtable, b.value)).calls b.value) c.loop.robots) c.turn.ensures.later c.loop.invariant.ready)
+
+pub tend-requires-clause-held : goal.tend-requires-clause-held
+tend-requires-clause-held g c = let out = c.turn.ensures.out (held c.loop.peers.list.items) c.loop.invariant.out in omega (arith, out)
 
 pub loop-preserved : goal.loop-preserved
 loop-preserved g c =
     let hub : c.deref-in-Ok-false.result.now ≡ arc_value c.args.hub.now = search (rules, c.deref-in-Ok-false.ensures) in
     let own : c.deref-in-Ok-false.result.now.domain ≡ (arc_value c.args.hub.now).domain = ap (λ h. h.domain) hub in
+    let same = c.tend.ensures.same in
+    let counts = c.tend.ensures.counts in
+    let link = g.N.Link.Link in
+    let v = server_of (arc_value c.args.hub.now) in
+    let before = g.N.Net.back c.args.server.now.net in
+    let line = g.N.Net.line c.args.server.now.net in
+    let left = c.turn.new.server in
+    let now = c.tend.new.server in
     record {
-      own = subst (λ h. AreOfHub h c.attend.new.passes) hub c.attend.ensures.own;
-      later = begins_on c.args.passes.now c.loop.passes c.attend.new.passes c.loop.invariant.later (begins_on c.loop.passes c.turn.new.passes c.attend.new.passes c.turn.ensures.later c.attend.ensures.later);
-      ready = subst (λ d. AreReady d (marks_of c.attend.new.passes) (host_by (λ b. (goal.Robot-dyn g (b.vtable, b.value)).calls b.value) c.attend.new.robots)) own c.in_ok-attend-in-Ok-false.ensures.ready;
+      own = subst (λ h. AreOfHub h c.tend.new.passes) hub c.tend.ensures.own;
+      later = begins_on c.args.passes.now c.loop.passes c.tend.new.passes c.loop.invariant.later (begins_on c.loop.passes c.turn.new.passes c.tend.new.passes c.turn.ensures.later c.tend.ensures.later);
+      ready = subst (λ d. AreReady d (marks_of c.tend.new.passes) (host_by (λ b. (goal.Robot-dyn g (b.vtable, b.value)).calls b.value) c.tend.new.robots)) own c.in_ok-awake-in-Ok-false.ensures.ready;
       ours = c.turn.ensures.ours;
-      out = c.turn.ensures.out;
-      room = c.turn.ensures.room;
-      total = c.in-Ok-false.ensures.total;
+      out = let out = c.turn.ensures.out (held c.loop.peers.list.items) c.loop.invariant.out in omega (arith, out, c.tend.ensures.out);
+      room = subst (λ e. c.args.keeps ≡ true → vec_len e + vec_len c.turn.new.jobs ≤ vec_capacity e) (sym same.0) c.turn.ensures.room;
+      total = subst (λ e. c.args.keeps ≡ true → vec_len e + vec_len c.turn.new.jobs ≡ c.turn.new.started) (sym same.0) c.in-Ok-false.ensures.total;
       most_is = c.in-Ok-false.ensures.most;
-      spent = c.in_ok-attend-in-Ok-false.ensures.spent;
-      accepted = λ small. c.in-Ok-false.ensures.accepted (g.N.Net.accepted c.args.server.now.net) (c.loop.invariant.accepted small);
-      refused = omega (arith, c.loop.invariant.refused, c.turn.ensures.counts.0);
-      door = omega (arith, c.loop.invariant.door, c.turn.ensures.counts.1);
-      served = λ before h.
-          served_calm g.N.Link.Link.tells g.N.Link.Link.events g.N.Link.Link.faults g.N.Link.Link.closed (arc_value c.args.hub.now).domain (marks_of c.turn.new.passes) (marks_of c.attend.new.passes) c.attend.ensures.later c.args.keeps (is_some c.turn.new.server.spent) (is_some c.attend.new.spent) before
-          (g.N.Net.back c.turn.new.server.net) c.turn.new.server.ended.items c.in-Ok-false.ensures.spent (c.turn.ensures.served before (c.loop.invariant.served before h));
+      spent = c.in_ok-awake-in-Ok-false.ensures.spent;
+      accepted = λ small. counts.1 ∙ c.in-Ok-false.ensures.accepted (g.N.Net.accepted c.args.server.now.net) (c.loop.invariant.accepted small);
+      refused = let spawner = ap (λ s. g.P.Spawner.refused s) same.1 in omega (arith, spawner, c.loop.invariant.refused, c.turn.ensures.counts.0);
+      door = omega (arith, counts.0, c.loop.invariant.door, c.turn.ensures.counts.1);
+      dialled = c.in_ok-awake-in-Ok-false.ensures.dialled (ready_asked g.N.Net.tells (g.N.Net.asked c.loop.server.net) (g.N.Net.asked left.net) c.loop.peers.list.items c.turn.ensures.asked c.loop.invariant.dialled);
+      named = c.tend.ensures.named ∙ c.loop.invariant.named;
+      going = subst (λ e. IsGoing link v (marks_of c.tend.new.passes) (is_some now.spent) c.tend.new.put before (g.N.Net.back now.net) line (g.N.Net.line now.net) e) (sym (ap (λ e. e.items) same.0))
+          (going_back link v (marks_of c.turn.new.passes) (marks_of c.tend.new.passes) c.tend.ensures.later (is_some left.spent) (is_some now.spent) c.turn.new.put c.tend.new.put before (g.N.Net.back left.net) (g.N.Net.back now.net) line (g.N.Net.line left.net) (g.N.Net.line now.net) left.ended.items
+          c.tend.ensures.back c.in_ok-awake-in-Ok-false.ensures.put c.tend.ensures.rises (λ none. c.in-Ok-false.ensures.spent) (c.turn.ensures.going before line c.loop.invariant.going));
     }
 
-pub returns-in_err-attend-in-Ok-false-clause-later : goal.returns-in_err-attend-in-Ok-false-clause-later
-returns-in_err-attend-in-Ok-false-clause-later g c = begins_on c.args.passes.now c.loop.passes c.attend.new.passes c.loop.invariant.later (begins_on c.loop.passes c.turn.new.passes c.attend.new.passes c.turn.ensures.later c.attend.ensures.later)
+-- there was no turn left for one of them, or no memory
 
-pub returns-in_err-attend-in-Ok-false-clause-served : goal.returns-in_err-attend-in-Ok-false-clause-served
-returns-in_err-attend-in-Ok-false-clause-served g c = λ before h.
-    served_calm g.N.Link.Link.tells g.N.Link.Link.events g.N.Link.Link.faults g.N.Link.Link.closed (arc_value c.args.hub.now).domain (marks_of c.turn.new.passes) (marks_of c.attend.new.passes) c.attend.ensures.later c.args.keeps (is_some c.turn.new.server.spent) (is_some c.attend.new.spent) before
-    (g.N.Net.back c.turn.new.server.net) c.turn.new.server.ended.items c.in-Ok-false.ensures.spent (c.turn.ensures.served before (c.loop.invariant.served before h))
+pub returns-in_err-awake-in-Ok-false-clause-later : goal.returns-in_err-awake-in-Ok-false-clause-later
+returns-in_err-awake-in-Ok-false-clause-later g c = begins_on c.args.passes.now c.loop.passes c.tend.new.passes c.loop.invariant.later (begins_on c.loop.passes c.turn.new.passes c.tend.new.passes c.turn.ensures.later c.tend.ensures.later)
 
--- they take their last ones
+pub returns-in_err-awake-in-Ok-false-clause-served : goal.returns-in_err-awake-in-Ok-false-clause-served
+returns-in_err-awake-in-Ok-false-clause-served g c =
+    let link = g.N.Link.Link in
+    let v = server_of (arc_value c.args.hub.now) in
+    let before = g.N.Net.back c.args.server.now.net in
+    let line = g.N.Net.line c.args.server.now.net in
+    let left = c.turn.new.server in
+    let now = c.tend.new.server in
+    subst (λ e. HasServed link v (marks_of c.tend.new.passes) (is_some now.spent) before (g.N.Net.back now.net) e) (sym (ap (λ e. e.items) c.tend.ensures.same.0))
+    (served_back link v (marks_of c.turn.new.passes) (marks_of c.tend.new.passes) c.tend.ensures.later (is_some left.spent) (is_some now.spent) before (g.N.Net.back left.net) (g.N.Net.back now.net) left.ended.items
+    c.tend.ensures.back (λ none. c.in-Ok-false.ensures.spent) (c.turn.ensures.going before line c.loop.invariant.going).served)
 
-pub settle-requires-clause-ready : goal.settle-requires-clause-ready
-settle-requires-clause-ready g c =
-    let hub : c.deref.result.now ≡ arc_value c.args.hub.now = search (rules, c.deref.ensures) in
-    let own : c.deref.result.now.domain ≡ (arc_value c.args.hub.now).domain = ap (λ h. h.domain) hub in
+pub returns-in_err-awake-in-Ok-false-clause-held : goal.returns-in_err-awake-in-Ok-false-clause-held
+returns-in_err-awake-in-Ok-false-clause-held g c = let out = c.turn.ensures.out (held c.loop.peers.list.items) c.loop.invariant.out in omega (arith, out, c.tend.ensures.out)
+
+-- all sessions have ended
+
+pub settle_all-requires-clause-ready : goal.settle_all-requires-clause-ready
+settle_all-requires-clause-ready g c =
+    let hub : c.deref-in-Ok-true.result.now ≡ arc_value c.args.hub.now = search (rules, c.deref-in-Ok-true.ensures) in
+    let own : c.deref-in-Ok-true.result.now.domain ≡ (arc_value c.args.hub.now).domain = ap (λ h. h.domain) hub in
     subst (λ d. AreReady d (marks_of c.turn.new.passes) (host_by (λ b. (goal.Robot-dyn g (b.vtable, b.value)).calls b.value) c.loop.robots)) (sym own)
     (ready_later (arc_value c.args.hub.now).domain (marks_of c.loop.passes) (marks_of c.turn.new.passes) (host_by (λ b. (goal.Robot-dyn g (b.vtable, b.value)).calls b.value) c.loop.robots) c.turn.ensures.later c.loop.invariant.ready)
 
-pub returns-in-Ok-true-clause-later : goal.returns-in-Ok-true-clause-later
-returns-in-Ok-true-clause-later g c = begins_on c.args.passes.now c.loop.passes c.settle.new.passes c.loop.invariant.later (begins_on c.loop.passes c.turn.new.passes c.settle.new.passes c.turn.ensures.later c.settle.ensures.later)
+pub settle_all-requires-clause-held : goal.settle_all-requires-clause-held
+settle_all-requires-clause-held g c = let out = c.turn.ensures.out (held c.loop.peers.list.items) c.loop.invariant.out in omega (arith, out)
 
-pub returns-in-Ok-true-clause-robots : goal.returns-in-Ok-true-clause-robots
-returns-in-Ok-true-clause-robots g c =
-    let hub : c.deref.result.now ≡ arc_value c.args.hub.now = search (rules, c.deref.ensures) in
-    let own : c.deref.result.now.domain ≡ (arc_value c.args.hub.now).domain = ap (λ h. h.domain) hub in
-    let left = (host_by (λ b. (goal.Robot-dyn g (b.vtable, b.value)).calls b.value) c.settle.new.robots) in
-    subst (λ d. OnOk c.settle.result (WereServed d (marks_of c.settle.new.passes) left)) own
-    (ok_both c.settle.result (λ ready settled. were_served c.deref.result.now.domain (marks_of c.settle.new.passes) left ready settled) c.settle.ensures.ready c.settle.ensures.settled)
+pub returns-in-Ok-true : goal.returns-in-Ok-true
+returns-in-Ok-true g c =
+    let hub : c.deref-in-Ok-true.result.now ≡ arc_value c.args.hub.now = search (rules, c.deref-in-Ok-true.ensures) in
+    let own : c.deref-in-Ok-true.result.now.domain ≡ (arc_value c.args.hub.now).domain = ap (λ h. h.domain) hub in
+    let same = c.settle_all.ensures.same in
+    let counts = c.settle_all.ensures.counts in
+    let link = g.N.Link.Link in
+    let v = server_of (arc_value c.args.hub.now) in
+    let before = g.N.Net.back c.args.server.now.net in
+    let line = g.N.Net.line c.args.server.now.net in
+    let left = c.turn.new.server in
+    let now = c.settle_all.new.server in
+    let r = c.settle_all.result in
+    let going = c.turn.ensures.going before line c.loop.invariant.going in
+    let dialled : PeersReady g.N.Net.tells (g.N.Net.asked left.net) c.loop.peers.list.items =
+    ready_asked g.N.Net.tells (g.N.Net.asked c.loop.server.net) (g.N.Net.asked left.net) c.loop.peers.list.items c.turn.ensures.asked c.loop.invariant.dialled in
+    let all = c.in-Ok-true.ensures.all c.in-Ok-true.field-0-test in
+    record {
+      own = subst (λ h. AreOfHub h c.settle_all.new.passes) hub c.settle_all.ensures.own;
+      later = begins_on c.args.passes.now c.loop.passes c.settle_all.new.passes c.loop.invariant.later (begins_on c.loop.passes c.turn.new.passes c.settle_all.new.passes c.turn.ensures.later c.settle_all.ensures.later);
+      robots = subst (λ d. OnOk r (WereServed d (marks_of c.settle_all.new.passes) (host_by (λ b. (goal.Robot-dyn g (b.vtable, b.value)).calls b.value) c.settle_all.new.robots))) own c.settle_all.ensures.robots;
+      all = ok_of r (all.0, ap vec_len same.0 ∙ all.1);
+      accepted = λ small. ok_of r (let to = c.in-Ok-true.ensures.accepted (g.N.Net.accepted c.args.server.now.net) (c.loop.invariant.accepted small) in omega (arith, counts.1, to, all.2));
+      spent = c.settle_all.ensures.spent;
+      refused = never_refused _ r c.settle_all.ensures.kinds;
+      door = never_door _ r c.settle_all.ensures.kinds;
+      served = subst (λ e. HasServed link v (marks_of c.settle_all.new.passes) (is_some now.spent) before (g.N.Net.back now.net) e) (sym (ap (λ e. e.items) same.0))
+          (served_back link v (marks_of c.turn.new.passes) (marks_of c.settle_all.new.passes) c.settle_all.ensures.later (is_some left.spent) (is_some now.spent) before (g.N.Net.back left.net) (g.N.Net.back now.net) left.ended.items
+          c.settle_all.ensures.back (λ none. c.in-Ok-true.ensures.spent) going.served);
+      met = ok_more r (λ reached.
+          subst (λ e. HaveMet link before (g.N.Net.back now.net) line (g.N.Net.line now.net) e c.settle_all.new.peers.list.items) (sym (ap (λ e. e.items) same.0))
+          (have_met link v (marks_of c.turn.new.passes) (is_some left.spent) c.turn.new.put before (g.N.Net.back left.net) (g.N.Net.back now.net) line (g.N.Net.line left.net) (g.N.Net.line now.net) left.ended.items
+          c.settle_all.new.peers.list.items c.settle_all.ensures.back c.settle_all.ensures.rises (reached dialled) going)) c.settle_all.ensures.reached;
+      dialled = ok_more r (λ all_dialled. all_dialled dialled) c.settle_all.ensures.dialled;
+      named = c.settle_all.ensures.named ∙ c.loop.invariant.named;
+      held = let out = c.turn.ensures.out (held c.loop.peers.list.items) c.loop.invariant.out in omega (arith, out, c.settle_all.ensures.out);
+    }
 
-pub returns-in-Ok-true-clause-served : goal.returns-in-Ok-true-clause-served
-returns-in-Ok-true-clause-served g c = λ before h.
-    served_calm g.N.Link.Link.tells g.N.Link.Link.events g.N.Link.Link.faults g.N.Link.Link.closed (arc_value c.args.hub.now).domain (marks_of c.turn.new.passes) (marks_of c.settle.new.passes) c.settle.ensures.later c.args.keeps (is_some c.turn.new.server.spent) (is_some c.settle.new.spent) before
-    (g.N.Net.back c.turn.new.server.net) c.turn.new.server.ended.items c.in-Ok-true.ensures.spent (c.turn.ensures.served before (c.loop.invariant.served before h))
+-- it stopped before
 
-pub returns-in-Err-clause-later : goal.returns-in-Err-clause-later
-returns-in-Err-clause-later g c = begins_on c.args.passes.now c.loop.passes c.turn.new.passes c.loop.invariant.later c.turn.ensures.later
+pub returns-in-Err : goal.returns-in-Err
+returns-in-Err g c = record {
+  own = c.turn.ensures.own;
+  later = begins_on c.args.passes.now c.loop.passes c.turn.new.passes c.loop.invariant.later c.turn.ensures.later;
+  robots = tt;
+  all = tt;
+  accepted = λ small. tt;
+  spent = c.in-Err.ensures.spent;
+  refused = λ e. let rose = c.in-Err.ensures.refused e in omega (arith, rose, c.loop.invariant.refused);
+  door = λ e. let rose = c.in-Err.ensures.door e in omega (arith, rose, c.loop.invariant.door);
+  served = (c.turn.ensures.going (g.N.Net.back c.args.server.now.net) (g.N.Net.line c.args.server.now.net) c.loop.invariant.going).served;
+  met = tt;
+  dialled = tt;
+  named = c.loop.invariant.named;
+  held = let out = c.turn.ensures.out (held c.loop.peers.list.items) c.loop.invariant.out in omega (arith, out);
+}

@@ -1,6 +1,37 @@
-use Rattle.std.proofs.Common.{arith, ◌∙◌}
+use Rattle.std.proofs.Common.{arith, ◌∙◌, ◌≡◌, ◌≢◌, MatchBool, refl, sym, subst}
+use Rattle.wave_server.specs.declared.stop.Stop.TheVariants.{Door, Memory, Refused, Spent}
+use Rattle.wave_server.proofs.Ending.{begins_self}
 use Rattle.wave_server.proofs.Rounds.{ok_of, went_spent, went_on, went_refused, went_door}
 use Rattle.wave_server.proofs.serving.turn.Goals as goal
+
+not_refused : Memory ≡ Refused → ⊥
+not_refused e = cc
+
+not_door : Memory ≡ Door → ⊥
+not_door e = cc
+
+not_spent : Memory ≡ Spent → ⊥
+not_spent e = cc
+
+-- no more links can be counted
+pub returns-then-put-eq18446744073709551615 : goal.returns-then-put-eq18446744073709551615
+returns-then-put-eq18446744073709551615 g c = record {
+  own = c.requires.own;
+  later = begins_self c.args.passes.now;
+  ours = c.requires.ours;
+  out = λ held fits. fits;
+  room = c.requires.room;
+  total = tt;
+  most = tt;
+  all = tt;
+  accepted = λ base e. tt;
+  spent = subst (λ b. MatchBool b (Memory ≡ Spent) (Memory ≢ Spent)) (sym c.requires.spent) not_spent;
+  refused = λ e. absurd (not_refused e);
+  door = λ e. absurd (not_door e);
+  counts = (omega arith, omega arith);
+  asked = λ t. refl;
+  going = λ before line h. h;
+}
 
 -- a session has ended
 pub returns-in-Some : goal.returns-in-Some
@@ -18,7 +49,8 @@ returns-in-Some g c = record {
   refused = went_refused _ _ c.goes_on.result c.goes_on.ensures;
   door = went_door _ _ c.goes_on.result c.goes_on.ensures;
   counts = (omega (arith, c.take_one.ensures.refused), omega (arith, c.take_one.ensures.door));
-  served = c.take_one.ensures.served;
+  asked = c.take_one.ensures.asked;
+  going = c.take_one.ensures.going;
 }
 
 -- none has
@@ -37,5 +69,6 @@ returns-in-None g c = record {
   refused = c.go_round.ensures.refused;
   door = c.go_round.ensures.door;
   counts = c.go_round.ensures.counts;
-  served = c.go_round.ensures.served;
+  asked = c.go_round.ensures.asked;
+  going = λ before line. c.go_round.ensures.going before line c.args.put.now;
 }

@@ -6,10 +6,10 @@ use Rattle.session_hub.proofs.Turning.{with_pass, turn_at, now_at, turned_at, lo
 use Rattle.session_hub.proofs.hub.Hub.deliver.Goals as goal
 
 -- as of a submission, with the shard that is given
-pub deliver-requires-clause-own : goal.deliver-requires-clause-own
-deliver-requires-clause-own g c =
+pub deliver-requires : goal.deliver-requires
+deliver-requires g c =
     let t = turn_at c.args.self.now c.args.passes.now c.args.shard c.args.shard c.index.result.now c.index_mut.result.now c.requires.own refl c.requires.shard c.index.ensures c.index_mut.ensures.value in
-    t.own
+    record { own = t.own }
 
 pub returns-clause-own : goal.returns-clause-own
 returns-clause-own g c =

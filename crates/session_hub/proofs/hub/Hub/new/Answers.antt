@@ -1,4 +1,4 @@
-use Rattle.std.proofs.Common.{rules, sym, ap, subst, ◌≡◌, ◌∙◌, true, List, filter}
+use Rattle.std.proofs.Common.{sym, subst, ◌≡◌, ◌∙◌, true, List, filter}
 use Rattle.shard_marks.specs.declared.mark.Mark.{Mark}
 use Rattle.wavelet_shelf.specs.Parts.{is_in}
 use Rattle.wavelet_shelf.specs.Shelves.{hosted_of}

@@ -1,4 +1,8 @@
+use Rattle.std.proofs.Common.{subst}
 use Rattle.wavelet_shelf.specs.FileNames.{shard_of}
+use Rattle.shard_marks.specs.Servers.{server}
+use Rattle.session_hub.specs.Hubs.{server_of}
+use Rattle.session_hub.specs.Turns.{IsAnsweredBy}
 use Rattle.session_hub.proofs.Turning.{with_pass, turn_at, now_at, turned_at, look_at, own_after, answered_at, unadded_at, spent_exit, on_err, shard_small}
 use Rattle.session_hub.proofs.hub.Hub.submit.Goals as goal
 
@@ -31,8 +35,9 @@ returns-clause-look g c =
 pub returns-clause-answer : goal.returns-clause-answer
 returns-clause-answer g c =
     let t = turn_at c.args.self.now c.args.passes.now c.shard-shard.result (shard_of c.args.name.now) c.index.result.now c.index_mut.result.now c.requires.own c.shard-shard.ensures (shard_small c.args.name.now) c.index.ensures c.index_mut.ensures.value in
-    answered_at c.args.passes.now (with_pass c.args.passes.now c.shard-shard.result c.submit.new.pass) (shard_of c.args.name.now) c.index_mut.result.now c.submit.new.pass t.at (t.is c.submit.new.pass) c.args.self.now.domain c.args.name.now c.args.submission.now c.args.time c.in_ok-length.answer
-    (c.in_ok-length.ensures.answered c.args.self.now.domain t.founded)
+    answered_at c.args.passes.now (with_pass c.args.passes.now c.shard-shard.result c.submit.new.pass) (shard_of c.args.name.now) c.index_mut.result.now c.submit.new.pass t.at (t.is c.submit.new.pass) (server_of c.args.self.now) c.args.name.now c.args.submission.now c.args.time c.in_ok-length.answer
+    (subst (λ ps. IsAnsweredBy c.index_mut.result.now c.submit.new.pass (server c.args.self.now.domain ps) (shard_of c.args.name.now) c.args.name.now c.args.submission.now c.args.time c.in_ok-length.answer) c.as_slice.ensures.value
+    (c.in_ok-length.ensures.answered c.args.self.now.domain t.founded))
 
 pub returns-in_err-length-clause-own : goal.returns-in_err-length-clause-own
 returns-in_err-length-clause-own g c =

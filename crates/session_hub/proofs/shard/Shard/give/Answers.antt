@@ -1,4 +1,4 @@
-use Rattle.std.proofs.Common.{rules, ap, ◌≡◌, ◌∙◌}
+use Rattle.std.proofs.Common.{rules, ap, ◌∙◌}
 use Rattle.hosted_copies.specs.Domains.{is_hosted_by}
 use Rattle.shard_marks.specs.Givings.{gift_mark}
 use Rattle.shard_marks.proofs.Copying.{gift_name, given_nothing}

@@ -1,6 +1,8 @@
 use Rattle.std.proofs.Common.{rules}
 use Rattle.wavelet_shelf.specs.Shelves.{hosted_of}
-use Rattle.hosted_copies.specs.Domains.{hosted_by, shown_by}
+use Rattle.hosted_copies.specs.Domains.{hosted_by}
+use Rattle.replica_store.specs.Worlds.{worlds_of}
+use Rattle.shard_copies.specs.Kept.{shown_kept}
 use Rattle.session_hub.specs.Entries.{entries_of}
 use Rattle.shard_marks.proofs.Seeing.{had_at}
 use Rattle.session_hub.proofs.shard.Shard.have.Goals as goal
@@ -8,4 +10,4 @@ use Rattle.session_hub.proofs.shard.Shard.have.Goals as goal
 pub returns-clause-after : goal.returns-clause-after
 returns-clause-after g c =
     let s = c.args.self.now in
-    search (rules, had_at (shown_by s.domain s.shelf) s.domain s.number (entries_of s) (hosted_by s.domain (hosted_of s.shelf)) c.are_hosted.ensures.same s.replay c.args.session.now c.args.name.now c.args.from.now)
+    search (rules, had_at (shown_kept s.domain s.shelf s.replicas) s.domain s.number (entries_of s) (hosted_by s.domain (hosted_of s.shelf)) (worlds_of s.replicas) c.are_shown.ensures.same s.replay s.copies c.args.session.now c.args.name.now c.args.from.now)

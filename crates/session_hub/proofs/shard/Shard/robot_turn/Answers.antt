@@ -1,4 +1,4 @@
-use Rattle.std.proofs.Common.{◌≡◌, ◌∷◌, ◌+◌, sym, subst, ◌∙◌}
+use Rattle.std.proofs.Common.{◌∷◌, ◌+◌, sym, subst, ◌∙◌}
 use Rattle.robot_host.specs.Hosts.{host_by}
 use Rattle.wavelet_shelf.specs.Walks.{as_hosted}
 use Rattle.hosted_copies.specs.Domains.{hosted_from}
