@@ -4,3 +4,4 @@ pub mod Pushing
 pub mod Settling
 pub mod Gathering
 pub mod Large
+pub mod Named

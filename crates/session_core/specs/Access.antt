@@ -1,6 +1,7 @@
 -- Who may see what of the copies of wavelets at one moment.
 --     Shown                     the copies as a session sees them: the history of a name, the names hosted here, whether a copy noted a
 --                               drop, and the verdict known for a submission
+--     with_hosts c ns           the same copies, of which these names alone are looked at as hosted
 --     is_member h u             the address is a participant at the head of the history
 --     in_state s d keys         one of the addresses is of the domain
 --     has_domain h d            an address of the domain is a participant at the head
@@ -32,6 +33,9 @@ pub record Shown : Type 0 where
 
 abbrev pub shown : (Key → Option HistoryOf) → List Key → (Key → Bool) → (Key → IdOf → Option Verdict) → Shown
 shown copy hosts drops outcome = record { copy = copy; hosts = hosts; drops = drops; outcome = outcome }
+
+abbrev pub with_hosts : Shown → List Key → Shown
+with_hosts c ns = record c { hosts = ns }
 
 -- ---- participants
 

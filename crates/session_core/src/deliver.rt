@@ -4,7 +4,7 @@ ghost use Rattle.std.specs.List.{list_any, All, AllByRecursion};
 ghost use Rattle.std.specs.Option.{option_copied};
 ghost use Rattle.delta_history.specs.Histories.{head_of};
 ghost use Rattle.delta_history.specs.Places.{started_below, IsRisingFrom};
-ghost use Rattle.session_core.specs.Access.{Shown, shown, has_domain, is_of_domain, seen_from, MaySee};
+ghost use Rattle.session_core.specs.Access.{Shown, shown, with_hosts, has_domain, is_of_domain, seen_from, MaySee};
 ghost use Rattle.session_core.specs.Current.{IsWholeTo, are_sent};
 ghost use Rattle.session_core.specs.News.{messages_of, deltas_of, IsPlaced};
 ghost use Rattle.wavelet_json.specs.declared.reason.ClosedReason.TheVariants.{Access};
@@ -396,6 +396,23 @@ fn push_each<'a, C: Copies>(
     Ok(())
 }
 
+// What there is to say of some of the hosted wavelets.
+fn push_named<'a, C: Copies>(
+    alloc: Global,
+    copies: &'a C,
+    domain: &Domain,
+    names: &[&'a WaveletName],
+    tellings: &mut Tellings,
+) -> Result<Vec<News<'a>>, Memory>
+    ensures sent { IfOk result (λ out. messages_of out.items ≡ hosts_sent (shown (C.copies copies.entry.now) (C.hosts copies.entry.now) (C.drops copies.entry.now) (C.outcomes copies.entry.now)) domain.now tellings.old (map (λ n. n.now) names.now)) }
+    ensures placed { IfOk result (λ out. All (IsPlaced (shown (C.copies copies.entry.now) (C.hosts copies.entry.now) (C.drops copies.entry.now) (C.outcomes copies.entry.now))) out.items) }
+    ensures told { OnOk result (tellings.new ≡ hosts_told (shown (C.copies copies.entry.now) (C.hosts copies.entry.now) (C.drops copies.entry.now) (C.outcomes copies.entry.now)) domain.now tellings.old (map (λ n. n.now) names.now)) }
+{
+    let mut out = Vec::new(alloc);
+    push_each(alloc, copies, domain, names, tellings, &mut out)?;
+    Ok(out)
+}
+
 fn push_hosts<'a, C: Copies>(
     alloc: Global,
     copies: &'a C,
@@ -407,9 +424,7 @@ fn push_hosts<'a, C: Copies>(
     ensures told { OnOk result (tellings.new ≡ hosts_told (shown (C.copies copies.entry.now) (C.hosts copies.entry.now) (C.drops copies.entry.now) (C.outcomes copies.entry.now)) domain.now tellings.old (C.hosts copies.entry.now)) }
 {
     let names = hosted_names(alloc, copies)?;
-    let mut out = Vec::new(alloc);
-    push_each(alloc, copies, domain, names.as_slice(), tellings, &mut out)?;
-    Ok(out)
+    push_named(alloc, copies, domain, names.as_slice(), tellings)
 }
 
 // ---- all
@@ -472,5 +487,30 @@ impl Session {
                 Ok(out)
             }
         }
+    }
+
+    /// What the copies give a peer's session of these hosted names, looked at in their order and no others, as `deliver` gives it of all; what
+    /// they give any other session. After want of memory the session is as it was.
+    pub fn deliver_named<'a, C: Copies>(
+        &mut self,
+        alloc: Global,
+        copies: &'a C,
+        names: &[&'a WaveletName],
+    ) -> Result<Vec<News<'a>>, Memory>
+        ensures sent { IfOk result (λ out. messages_of out.items
+            ≡ delivered (with_hosts (shown (C.copies copies.entry.now) (C.hosts copies.entry.now) (C.drops copies.entry.now) (C.outcomes copies.entry.now)) (map (λ n. n.now) names.now)) self.old) }
+        ensures after { OnOk result (self.new
+            ≡ after_delivery (with_hosts (shown (C.copies copies.entry.now) (C.hosts copies.entry.now) (C.drops copies.entry.now) (C.outcomes copies.entry.now)) (map (λ n. n.now) names.now)) self.old) }
+        ensures placed { IfOk result (λ out. All (IsPlaced (shown (C.copies copies.entry.now) (C.hosts copies.entry.now) (C.drops copies.entry.now) (C.outcomes copies.entry.now))) out.items) }
+        ensures current { OnOk result (are_sent (shown (C.copies copies.entry.now) (C.hosts copies.entry.now) (C.drops copies.entry.now) (C.outcomes copies.entry.now)) self.new ≡ true) }
+        ensures same { OnErr result (self.new ≡ self.old) }
+    {
+        let Party::Domain(domain) = &self.party else {
+            return self.deliver(alloc, copies);
+        };
+        let mut tellings = self.tellings.copy(alloc)?;
+        let out = push_named(alloc, copies, domain, names, &mut tellings)?;
+        self.tellings = tellings;
+        Ok(out)
     }
 }

@@ -8,3 +8,4 @@ pub mod RobotMoments
 pub mod Sought
 pub mod Sounding
 pub mod Waiting
+pub mod Looking

@@ -6,3 +6,4 @@ pub mod Robots
 pub mod Items
 pub mod Turns
 pub mod Standings
+pub mod Published

@@ -14,11 +14,12 @@ use Rattle.wavelet_shelf.specs.Hosting.{Hosted}
 use Rattle.shard_marks.specs.declared.mark.Mark.{Mark}
 use Rattle.shard_marks.specs.declared.mark.Mark.TheVariants as mark
 use Rattle.session_hub.specs.declared.record.Record.{Record}
-use Rattle.session_hub.specs.declared.record.Record.TheVariants.{Applied, Fault, Queued, Answered, Dropped}
+use Rattle.session_hub.specs.declared.record.Record.TheVariants.{Loaded, Applied, Fault, Queued, Answered, Dropped}
 use Rattle.shard_marks.specs.Marks.{founded}
 
 abbrev pub mark_of : Record → Mark
-mark_of (Applied name delta) = mark.Applied name.value delta.value
+mark_of (Loaded name delta) = mark.Applied name.value delta.value
+mark_of (Applied name delta) = mark.Applied name delta.value
 mark_of (Fault name id) = mark.Fault name.value id.value
 mark_of (Queued name submission) = mark.Queued name.value submission.value
 mark_of (Answered name id verdict) = mark.Answered name.value id.value verdict.value

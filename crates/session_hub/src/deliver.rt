@@ -7,6 +7,7 @@ ghost use Rattle.shard_marks.specs.Passes.{HaveTurned, IsSpentAt, marks_of};
 ghost use Rattle.session_hub.specs.Hubs.{AreOfHub};
 ghost use Rattle.shard_marks.specs.Looks.{IsLook};
 ghost use Rattle.shard_marks.specs.Marks.{shown_at};
+ghost use Rattle.shard_marks.specs.Told.{AreToldAt};
 
 use crate::fault::HubFault;
 use crate::hub::{Hub, Passes};
@@ -35,7 +36,8 @@ impl Drop for Delivered {
 
 impl<F: Folder + Drop> Hub<F> {
     /// What a shard's wavelets give a session at the moment of the look, and have not given it before: the messages that
-    /// `Session::deliver` gives, written. The errors are that no turn is left, and want of memory, after which the session may have been given
+    /// `Session::deliver` gives, written. Where the session is a peer's that was told all of the shard at the length `sent` of its history, just the
+    /// wavelets that were published since are looked at; 0 says nothing, and all that is hosted is looked at. The errors are that no turn is left, and want of memory, after which the session may have been given
     /// what wasn't answered.
     pub fn deliver<R: Wait>(
         &self,
@@ -44,9 +46,11 @@ impl<F: Folder + Drop> Hub<F> {
         passes: &mut Passes<F>,
         session: &mut Session,
         shard: u8,
+        sent: u64,
     ) -> Result<Delivered, HubFault>
         requires own { AreOfHub self.now passes.old }
         requires shard { shard < 16 }
+        requires told { AreToldAt self.now.domain shard (marks_of passes.old shard) session.old sent }
         ensures own { AreOfHub self.now passes.new }
         ensures turned { HaveTurned shard passes.old passes.new }
         ensures unadded { added_at passes.new shard ≡ added_at passes.old shard }
@@ -63,6 +67,7 @@ impl<F: Folder + Drop> Hub<F> {
             &self.cells.list[place],
             &mut passes.list[place],
             session,
+            sent,
         )?;
         Ok(Delivered {
             look: Look { shard, length },

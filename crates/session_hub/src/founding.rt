@@ -30,7 +30,7 @@ fn keep_loaded(history: &History, records: &mut Vec<Record>) -> Result<(), Memor
 {
     let name = history.name();
     for delta in history.deltas() {
-        records.push(Record::Applied {
+        records.push(Record::Loaded {
             name: Snapshot::of(name),
             delta: Snapshot::of(delta),
         })?;

@@ -75,23 +75,26 @@ fn unowned(giving: &Giving, name: &WaveletName) -> Given
     }
 }
 
-// The record of a copy's change.
-fn gift_record(name: &WaveletName, giving: &Giving) -> Record
-    ensures { mark_of result ≡ gift_mark name.now giving.now }
+// The record of a copy's change. The error is want of memory.
+fn gift_record(alloc: Global, name: &WaveletName, giving: &Giving) -> Result<Record, Memory>
+    ensures { IfOk result (λ r. mark_of r ≡ gift_mark name.now giving.now) }
 {
     match giving {
-        Giving::Delta(delta) => Record::Applied {
-            name: Snapshot::of(name),
-            delta: Snapshot::of(delta),
-        },
-        Giving::Answer(id, verdict) => Record::Answered {
+        Giving::Delta(delta) => {
+            let name = name.copy(alloc)?;
+            Ok(Record::Applied {
+                name,
+                delta: Snapshot::of(delta),
+            })
+        }
+        Giving::Answer(id, verdict) => Ok(Record::Answered {
             name: Snapshot::of(name),
             id: Snapshot::of(id),
             verdict: Snapshot::of(verdict),
-        },
-        Giving::NoMore => Record::Dropped {
+        }),
+        Giving::NoMore => Ok(Record::Dropped {
             name: Snapshot::of(name),
-        },
+        }),
     }
 }
 
@@ -138,9 +141,10 @@ impl<F: Folder + Drop> Shard<F> {
         ensures same { OnErr result (entries_of self.new ≡ entries_of self.old) }
         ensures one { (entries_of self.new ≡ entries_of self.old) ⊎ IsOneMore (entries_of self.old) (entries_of self.new) }
     {
+        let newest = gift_record(alloc, name, giving)?;
         self.records.reserve(1)?;
         let (given, changed) = give_to(alloc, &mut self.replicas, name, giving)?;
-        keep_if(changed, &mut self.records, gift_record(name, giving));
+        keep_if(changed, &mut self.records, newest);
         Ok(given)
     }
 }

@@ -74,23 +74,22 @@ pub(crate) fn keep(records: &mut Vec<Record>, newest: Record)
     let _done = records.push(newest);
 }
 
-// Keeps a record of the delta at a place of a wavelet's history, where there is one.
+// Keeps a record of the delta at a place of a wavelet's history, where there is one, with the name in it.
 fn keep_growth<F: Folder>(
     shelf: &Shelf<F>,
     name: &WaveletName,
+    kept: WaveletName,
     place: usize,
     records: &mut Vec<Record>,
 )
-    requires { vec_len records.old < vec_capacity records.old }
+    requires room { vec_len records.old < vec_capacity records.old }
+    requires same { kept ≡ name.now }
     ensures marks { map mark_of records.new.items ≡ map mark_of records.old.items
         ++ one_of (option_map (λ d. Mark.Applied name.now d) (slice_get (deltas_in (hosted_of shelf.now) name.now) place)) }
     ensures sound { is_sound (hosted_as name.now (deltas_in (hosted_of shelf.now) name.now)) ≡ true }
 {
     match delta_at(shelf, name, place) {
-        Some(delta) => {
-            let name = Snapshot::of(name);
-            keep(records, Record::Applied { name, delta });
-        }
+        Some(delta) => keep(records, Record::Applied { name: kept, delta }),
         None => {}
     }
 }
@@ -163,12 +162,13 @@ impl<F: Folder + Drop> Shard<F> {
         ensures same { OnErr result (entries_of self.new ≡ entries_of self.old) }
         ensures one { (entries_of self.new ≡ entries_of self.old) ⊎ IsOneMore (entries_of self.old) (entries_of self.new) }
     {
+        let kept = name.copy(alloc)?;
         self.records.reserve(1)?;
         self.shelf.copies_are_hosted();
         let count = delta_count(&self.shelf, name);
         match self.shelf.submit(alloc, name, submission, time) {
             Ok(verdict) => {
-                keep_growth(&self.shelf, name, count, &mut self.records);
+                keep_growth(&self.shelf, name, kept, count, &mut self.records);
                 Ok(SubmitAnswer::Verdict(verdict))
             }
             Err(SubmitFault::DiskFault) => {

@@ -18,6 +18,7 @@ mod hub_turns;
 mod judging;
 mod logged;
 mod made;
+mod published;
 mod queueing;
 mod record;
 mod robots;

@@ -2,10 +2,14 @@ use std::snapshot::Snapshot;
 use wave_base::{DeltaId, WaveletName};
 use wavelet_op::{AppliedDelta, Submission, Verdict};
 
-// What a shard keeps of a mark but the first: which kind it is of.
+// What a shard keeps of a mark but the first: which kind it is of, and which wavelet grew while the server ran.
 pub(crate) enum Record {
-    Applied {
+    Loaded {
         name: Snapshot<WaveletName>,
+        delta: Snapshot<AppliedDelta>,
+    },
+    Applied {
+        name: WaveletName,
         delta: Snapshot<AppliedDelta>,
     },
     Fault {
@@ -29,6 +33,10 @@ pub(crate) enum Record {
 impl Drop for Record {
     fn drop(self) {
         match self {
+            Record::Loaded {
+                name: _name,
+                delta: _delta,
+            } => {}
             Record::Applied {
                 name: _name,
                 delta: _delta,

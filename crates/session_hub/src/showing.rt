@@ -7,8 +7,10 @@ ghost use Rattle.session_core.specs.News.{reply_message};
 ghost use Rattle.session_core.specs.Rules.{has_user, has_peer};
 ghost use Rattle.session_hub.specs.Entries.{copies_at, entries_of};
 ghost use Rattle.shard_marks.specs.Frames.{frames_of};
+ghost use Rattle.shard_marks.specs.Told.{AreToldAt};
 
 use crate::frames::frames;
+use crate::published::names_for;
 use crate::shard::Shard;
 use doc_items::Memory;
 use hosted_copies::HostedCopies;
@@ -66,12 +68,15 @@ impl<F: Folder + Drop> Shard<F> {
         session.answer_have(alloc, &copies, name, from)
     }
 
-    /// What is new to a session, as texts. The error is want of memory. The marks stay.
+    /// What is new to a session, as texts. Of a peer that was told all that there was at this number of marks, or of whom nothing is known at 0, just
+    /// the wavelets are looked at that were published since. The error is want of memory. The marks stay.
     pub(crate) fn deliver(
         &mut self,
         alloc: Global,
         session: &mut Session,
+        sent: u64,
     ) -> Result<Vec<Vec<u8>>, Memory>
+        requires told { AreToldAt self.old.domain self.old.number (entries_of self.old) session.old sent }
         ensures marks { entries_of self.new ≡ entries_of self.old }
         ensures frames { IfOk result (λ v. map (λ f. f.items) v.items ≡ frames_of (delivered (copies_at self.old) session.old)) }
         ensures after { OnOk result (session.new ≡ after_delivery (copies_at self.old) session.old) }
@@ -85,7 +90,10 @@ impl<F: Folder + Drop> Shard<F> {
             replicas: &self.replicas,
         };
         copies.are_shown();
-        let news = session.deliver(alloc, &copies)?;
+        let records = self.records.as_slice();
+        let names = names_for(alloc, &copies.hosted, records, session, sent)?;
+        let named = names.as_slice();
+        let news = session.deliver_named(alloc, &copies, named)?;
         frames(alloc, news.as_slice(), &mut self.texts)
     }
 }

@@ -13,6 +13,7 @@ ghost use Rattle.wavelet_shelf.specs.FileNames.{shard_of};
 ghost use Rattle.shard_marks.specs.Frames.{frames_of};
 ghost use Rattle.shard_marks.specs.Marks.{is_founded, copied, shown_at};
 ghost use Rattle.shard_marks.specs.Servers.{server};
+ghost use Rattle.shard_marks.specs.Told.{AreToldFrom};
 ghost use Rattle.session_hub.specs.Robots.{MayTurnFrom, IsRoundAt, IsRoundCutAt};
 ghost use Rattle.replica_store.specs.Listings.{IsSought};
 ghost use Rattle.shard_marks.specs.Givings.{gift_mark};
@@ -122,15 +123,18 @@ pub(crate) fn have<F: Folder + Drop, R: Wait>(
     Ok(length)
 }
 
-/// What is new to a session in a turn of a shard, as texts, and the length of its history then.
+/// What is new to a session in a turn of a shard, as texts, and the length of its history then. A peer was told all at the length that is given; 0
+/// says nothing.
 pub(crate) fn deliver<F: Folder + Drop, R: Wait>(
     rt: &R,
     alloc: Global,
     cell: &TurnCell<Shard<F>>,
     pass: &mut Pass<Shard<F>>,
     session: &mut Session,
+    sent: u64,
 ) -> Result<(u64, Vec<Vec<u8>>), HubFault>
     requires own { IsOf cell.now pass.old }
+    requires told { AreToldFrom (seen pass.old) session.old sent }
     ensures own { IsOf cell.now pass.new }
     ensures later { IsPrefix (seen pass.old) (seen pass.new) }
     ensures looked { loads pass.new ≡ loads pass.old }
@@ -144,7 +148,7 @@ pub(crate) fn deliver<F: Folder + Drop, R: Wait>(
     let mut guard = pass.enter(rt, cell)?;
     let shard = guard.value();
     let length = shard.length();
-    let frames = shard.deliver(alloc, session);
+    let frames = shard.deliver(alloc, session, sent);
     guard.leave();
     Ok((length, frames?))
 }

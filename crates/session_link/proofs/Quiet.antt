@@ -19,17 +19,18 @@ use Rattle.wavelet_shelf.specs.FileNames.{shard_of}
 use Rattle.shard_marks.specs.declared.mark.Mark.{Mark}
 use Rattle.shard_marks.specs.Marks.{shown_at}
 use Rattle.shard_marks.specs.Servers.{ServerOf}
+use Rattle.shard_marks.specs.Told.{AreTold}
 use Rattle.session_steps.specs.Clients.{IsSessionOf, IsSentTo, AreSentTo}
 use Rattle.session_steps.specs.Going.{Grow}
 use Rattle.session_steps.proofs.Apart.{lacking, apart, sent_taken}
 use Rattle.session_steps.proofs.Growing.{sent_later}
 use Rattle.session_steps.proofs.Replying.{about_sent}
 use Rattle.session_steps.proofs.Serving.{sent_new}
-use Rattle.session_steps.proofs.Taking.{IsTaken, IsAbout, answered_about, after_quiet}
+use Rattle.session_steps.proofs.Taking.{IsTaken, IsAbout, answered_about, after_quiet, after_told}
 use Rattle.session_link.specs.Opened.{AreUnopened, IsNoted, IsNotedFor}
 
 pub quiet_new : (v : ServerOf) (s : Session) (flags : List Bool) → s ≡ fresh (Some v.domain) v.peers → AreUnopened v.domain s flags
-quiet_new v s flags is k below none ms = ap (delivered (shown_at v.domain k ms)) is
+quiet_new v s flags is k below none ms = (ap (delivered (shown_at v.domain k ms)) is, subst (AreTold (shown_at v.domain k ms)) (sym is) tt)
 
 same_or_other : (a b : Bool) → (a ≡ b) ⊎ (a ≢ b)
 same_or_other true true = inl refl
@@ -53,7 +54,7 @@ module _ (v : ServerOf) (s : Session) (r : Taken) (t : IsTaken v s r) where
   taken_quiet flags wanted kept due quiet = go (same_or_other (has_peer r.0) (has_peer s))
     where
       go : (has_peer r.0 ≡ has_peer s) ⊎ (has_peer r.0 ≢ has_peer s) → AreUnopened v.domain r.0 wanted
-      go (inl e) = subst (AreUnopened v.domain r.0) (sym (kept e)) (λ k below none ms. t.quiet e (shown_at v.domain k ms) (quiet k below none ms))
+      go (inl e) = subst (AreUnopened v.domain r.0) (sym (kept e)) (λ k below none ms. let q = quiet k below none ms in (t.quiet e (shown_at v.domain k ms) q.0, t.told e (shown_at v.domain k ms) q.1))
       go (inr n) = λ k below none ms. absurd (true≢false (sym (due n k below) ∙ none))
 
 -- ---- calls about a wavelet
@@ -70,7 +71,9 @@ module _ (v : ServerOf) (s : Session) (name : Key) (j : ℕ) (at : j ≡ shard_o
     pub noted_quiet : AreUnopened v.domain s flags → AreUnopened v.domain x wanted
     noted_quiet quiet k below none ms =
         let other : k ≢ j = differ wanted j k noted.flagged none in
-        about.quiet (shown_at v.domain k ms) (lacking v.domain k name (λ e. other (sym e ∙ sym at)) ms) (quiet k below (sym (noted.unflagged k other) ∙ none) ms)
+        let lacks = lacking v.domain k name (λ e. other (sym e ∙ sym at)) ms in
+        let q = quiet k below (sym (noted.unflagged k other) ∙ none) ms in
+        (about.quiet (shown_at v.domain k ms) lacks q.0, about.told (shown_at v.domain k ms) lacks q.1)
 
   module _ (p : IsSessionOf v s) (known : is_new s ≡ false) (id : IdOf) where
     answer_sent_by : (a : SubmitAnswer) → IsNotedFor a j sent now flags wanted → (m n : ℕ → List Mark) → Grow m n → AreSentTo v.domain m s sent → AreSentTo v.domain n (answered s name id a).0 now
@@ -106,8 +109,12 @@ pub quiet_delivered : (d : Key) (s : Session) (flags : List Bool) → AreUnopene
 quiet_delivered d s flags quiet m j here x now is same = subst (AreUnopened d x) (sym same) stays
   where
     stays : AreUnopened d x flags
-    stays k below none ms = ap (delivered (shown_at d k ms)) is
-        ∙ after_quiet s (shown_at d j m) (shown_at d k ms) (apart d j k (λ e. differ flags j k here none (sym e)) m ms) (quiet k below none ms)
+    stays k below none ms =
+        let others = apart d j k (λ e. differ flags j k here none (sym e)) m ms in
+        let q = quiet k below none ms in (
+          ap (delivered (shown_at d k ms)) is ∙ after_quiet s (shown_at d j m) (shown_at d k ms) others q.0,
+          subst (AreTold (shown_at d k ms)) (sym is) (after_told s (shown_at d j m) (shown_at d k ms) others q.1),
+        )
 
 number_same : (j k : ℕ) → (j ≡ k) ⊎ (j ≢ k)
 number_same j k = grind arith
@@ -118,5 +125,8 @@ sent_quiet d m s x flags lengths now j quiet none is whole others sent = subst (
   where
     go : (k : ℕ) → k < 16 → (k ≡ j) ⊎ (k ≢ j) → IsSentTo d k (m k) s (get_or now k 0)
     go k below (inl e) = subst (λ i. IsSentTo d i (m i) s (get_or now i 0)) (sym e)
-        (record { within = omega (arith, whole); quiet = λ cut begins length_is some. quiet j (subst (λ i. i < 16) e below) none cut })
+        (record {
+          told = record { within = omega (arith, whole); told = λ cut begins length_is some. (quiet j (subst (λ i. i < 16) e below) none cut).1 };
+          quiet = λ cut begins length_is some. (quiet j (subst (λ i. i < 16) e below) none cut).0;
+        })
     go k below (inr n) = subst (IsSentTo d k (m k) s) (sym (others k n)) (sent k below)

@@ -1,5 +1,5 @@
 -- Shards at which something may be due to a session, by a flag for each, and up to which length of its history it was sent what is new.
---     IsQuietAt d k s          the shard gives the session nothing, whatever its marks are
+--     IsQuietAt d k s          the shard gives the session nothing, and a peer was told all of it, whatever its marks are
 --     AreUnopened d s flags    so it is with each shard that has no flag
 --     IsNoted k ..             something of the shard may be due from then on: its length is 0, and it has a flag; all others stay
 --     AreSameNotes ..          nothing changed
@@ -12,9 +12,10 @@ use Rattle.session_core.specs.declared.session.Session.{Session}
 use Rattle.session_core.specs.Deliveries.{delivered}
 use Rattle.shard_marks.specs.declared.mark.Mark.{Mark}
 use Rattle.shard_marks.specs.Marks.{shown_at}
+use Rattle.shard_marks.specs.Told.{AreTold}
 
 abbrev pub IsQuietAt : Key → ℕ → Session → Type 0
-IsQuietAt d k s = (ms : List Mark) → delivered (shown_at d k ms) s ≡ []
+IsQuietAt d k s = (ms : List Mark) → (delivered (shown_at d k ms) s ≡ []) × AreTold (shown_at d k ms) s
 
 abbrev pub AreUnopened : Key → Session → List Bool → Type 0
 AreUnopened d s flags = (k : ℕ) → k < 16 → slice_index_or flags k false ≡ false → IsQuietAt d k s

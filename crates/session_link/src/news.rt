@@ -61,7 +61,8 @@ fn deliver<R: Wait, F: Folder + Drop, L: Link, C: Clock, G: Gate>(
     ensures faults { L.faults link.old ≤ L.faults link.new }
 {
     gate.before(number, shard);
-    let delivered = hub.deliver(rt, alloc, passes, &mut client.session, shard);
+    let sent = client.sent[shard as usize];
+    let delivered = hub.deliver(rt, alloc, passes, &mut client.session, shard, sent);
     gate.after(number, shard);
     match delivered {
         Ok(delivered) => {

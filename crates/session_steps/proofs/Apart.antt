@@ -12,6 +12,7 @@ use Rattle.std.specs.Cmp.Lexicographic.{slice_cmp}
 use Rattle.std.specs.FinMap.{get, insert, empty, get-empty}
 use Rattle.std.specs.List.{AllByRecursion}
 use Rattle.std.specs.Ordering.{nat_cmp}
+use mathlib.Core.List.{IsPrefix}
 use Rattle.doc_items.specs.Maps.{Key}
 use Rattle.doc_items.proofs.Maps.{tie, tied}
 use Rattle.wave_base.specs.Versions.{IdOf}
@@ -36,11 +37,13 @@ use Rattle.hosted_copies.specs.Domains.{is_hosted_by}
 use Rattle.hosted_copies.specs.Shown.{outcome_in}
 use Rattle.shard_marks.specs.Marks.{is_of, is_copied, is_founded, after_mark, replayed_on, replayed, with_mark, copied_on, copied, shown_at}
 use Rattle.shard_marks.specs.Servers.{ServerOf}
+use Rattle.shard_marks.specs.Told.{AreTold}
 use Rattle.shard_marks.proofs.Following.{of_replayed}
+use Rattle.shard_marks.proofs.Telling.{told_moment}
 use Rattle.session_steps.specs.Clients.{IsSentTo, AreSentTo, AreSentAll}
 use Rattle.session_steps.specs.Served.{HaveNothingLeft}
-use Rattle.session_steps.proofs.Growing.{prefix_self, prefix_whole}
-use Rattle.session_steps.proofs.Taking.{IsTaken, IsLacking, IsAbout, AreApart, after_quiet}
+use Rattle.shard_marks.proofs.Prefixes.{prefix_self, prefix_whole}
+use Rattle.session_steps.proofs.Taking.{IsTaken, IsLacking, IsAbout, AreApart, after_quiet, after_told}
 use Rattle.session_steps.proofs.Telling.{IsNoneOf}
 
 same_number : (a b : ℕ) → nat_eq a b ≡ true → a ≡ b
@@ -128,49 +131,63 @@ apart d j k differ ms ns = record { copies = λ n. go n (same_or_not (shard_of n
     each (h ∷ hs) all = ((lacking d k h.name (λ f. differ (sym (same_number (shard_of h.name) j (and_parts _ _ all.0).1) ∙ f)) ns).unhosted, each hs all.1)
 
 module _ (d : Key) (m : ℕ → List Mark) (s : Session) (lengths : List ℕ) (sent : AreSentTo d m s lengths) where
-  -- what is quiet for the one session is quiet for the other
-  sent_as : (x : Session) → ((c : Shown) → delivered c s ≡ [] → delivered c x ≡ []) → AreSentTo d m x lengths
-  sent_as x quiet k below = let here = sent k below in record {
-    within = here.within;
+  -- what is quiet for the one session is quiet for the other, and what the one was told all of the other was
+  sent_as : (x : Session) → ((c : Shown) → delivered c s ≡ [] → delivered c x ≡ []) → ((c : Shown) → AreTold c s → AreTold c x) → AreSentTo d m x lengths
+  sent_as x quiet told k below = let here = sent k below in record {
+    told = record { within = here.told.within; told = λ cut begins whole some. told (shown_at d k cut) (here.told.told cut begins whole some) };
     quiet = λ cut begins whole some. quiet (shown_at d k cut) (here.quiet cut begins whole some);
   }
 
   pub sent_taken : (v : ServerOf) (r : Taken) → IsTaken v s r → has_peer r.0 ≡ has_peer s → AreSentTo d m r.0 lengths
-  sent_taken v r t same = sent_as r.0 (t.quiet same)
+  sent_taken v r t same = sent_as r.0 (t.quiet same) (t.told same)
 
   module _ (now : List ℕ) (j : ℕ) (others : (k : ℕ) → k ≢ j → get_or now k 0 ≡ get_or lengths k 0) where
+    -- of another shard, by what stays of its copies
+    sent_other : (x : Session) (k : ℕ) → k < 16 → k ≢ j → ((cut : List Mark) → delivered (shown_at d k cut) s ≡ [] → delivered (shown_at d k cut) x ≡ [])
+        → ((cut : List Mark) → AreTold (shown_at d k cut) s → AreTold (shown_at d k cut) x) → IsSentTo d k (m k) x (get_or now k 0)
+    sent_other x k below n quiet told =
+        let here = sent k below in
+        let same = others k n in
+        let within = here.told.within in record {
+          told = record {
+            within = omega (arith, within, same);
+            told = λ cut begins whole some. told cut (here.told.told cut begins (whole ∙ same) (λ z. some (same ∙ z)));
+          };
+          quiet = λ cut begins whole some. quiet cut (here.quiet cut begins (whole ∙ same) (λ z. some (same ∙ z)));
+        }
+
     pub sent_about : (v : ServerOf) (name : Key) (x : Session) → j ≡ shard_of name → get_or now j 0 ≡ 0 → IsAbout v s name x → AreSentTo d m x now
     sent_about v name x at due a k below = go (same_or_not k j)
       where
         go : (k ≡ j) ⊎ (k ≢ j) → IsSentTo d k (m k) x (get_or now k 0)
         go (inl e) =
             let zero_here : get_or now k 0 ≡ 0 = ap (λ i. get_or now i 0) e ∙ due in record {
-              within = omega (arith, zero_here);
+              told = record { within = omega (arith, zero_here); told = λ cut begins whole some. absurd (some zero_here) };
               quiet = λ cut begins whole some. absurd (some zero_here);
             }
         go (inr n) =
-            let here = sent k below in
-            let same = others k n in record {
-              within = omega (arith, here.within, same);
-              quiet = λ cut begins whole some. a.quiet (shown_at d k cut) (lacking d k name (λ e. n (sym e ∙ sym at)) cut) (here.quiet cut begins (whole ∙ same) (λ z. some (same ∙ z)));
-            }
+            sent_other x k below n (λ cut. a.quiet (shown_at d k cut) (lacking d k name (λ e. n (sym e ∙ sym at)) cut))
+            (λ cut. a.told (shown_at d k cut) (lacking d k name (λ e. n (sym e ∙ sym at)) cut))
 
     pub sent_delivered : (x : Session) → x ≡ after_delivery (shown_at d j (m j)) s → delivered (shown_at d j (m j)) x ≡ [] → get_or now j 0 ≡ length (m j) → AreSentTo d m x now
-    sent_delivered x is told length_is k below = go (same_or_not k j)
+    sent_delivered x is quiet length_is k below = go (same_or_not k j)
       where
+        whole_is : (P : List Mark → Type 0) → P (m j) → (cut : List Mark) → IsPrefix cut (m j) → length cut ≡ get_or now j 0 → P cut
+        whole_is P here cut begins whole = subst P (sym (prefix_whole cut (m j) begins (whole ∙ length_is))) here
+
         go : (k ≡ j) ⊎ (k ≢ j) → IsSentTo d k (m k) x (get_or now k 0)
         go (inl e) =
             subst (λ i. IsSentTo d i (m i) x (get_or now i 0)) (sym e) (record {
-              within = omega (arith, length_is);
-              quiet = λ cut begins whole some. ap (λ ms. delivered (shown_at d j ms) x) (prefix_whole cut (m j) begins (whole ∙ length_is)) ∙ told;
+              told = record {
+                within = omega (arith, length_is);
+                told = λ cut begins whole some. whole_is (λ ms. AreTold (shown_at d j ms) x) (subst (AreTold (shown_at d j (m j))) (sym is) (told_moment d j (m j) s)) cut begins whole;
+              };
+              quiet = λ cut begins whole some. whole_is (λ ms. delivered (shown_at d j ms) x ≡ []) quiet cut begins whole;
             })
         go (inr n) =
-            let here = sent k below in
-            let same = others k n in record {
-              within = omega (arith, here.within, same);
-              quiet = λ cut begins whole some. ap (delivered (shown_at d k cut)) is
-                  ∙ after_quiet s (shown_at d j (m j)) (shown_at d k cut) (apart d j k (λ e. n (sym e)) (m j) cut) (here.quiet cut begins (whole ∙ same) (λ z. some (same ∙ z)));
-            }
+            let others_apart = λ (cut : List Mark). apart d j k (λ e. n (sym e)) (m j) cut in
+            subst (λ y. IsSentTo d k (m k) y (get_or now k 0)) (sym is) (sent_other (after_delivery (shown_at d j (m j)) s) k below n
+            (λ cut. after_quiet s (shown_at d j (m j)) (shown_at d k cut) (others_apart cut)) (λ cut. after_told s (shown_at d j (m j)) (shown_at d k cut) (others_apart cut)))
 
   some_marks : (k : ℕ) (ms : List Mark) → is_founded d k ms ≡ true → length ms ≢ 0
   some_marks k [] e z = absurd (true≢false (sym e))

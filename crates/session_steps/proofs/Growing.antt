@@ -4,7 +4,7 @@
 --     grow_begins               so the passes' own words say
 --     step_later, walk_later    steps stay what they were
 --     sent_later                what a session was sent stays so
-use Rattle.std.proofs.Common.{sym, ap, refl, subst, ◌∙◌, ◌≡◌, ◌≢◌, ◌≤◌, ◌⊎◌, inl, inr, ℕ, arith, List, [], ◌∷◌, ◌++◌, length, length-append, append_assoc, append-nil, Option, Some, None}
+use Rattle.std.proofs.Common.{sym, ap, refl, subst, ◌∙◌, ◌≡◌, ◌≢◌, ◌≤◌, ◌⊎◌, inl, inr, ℕ, arith, List, [], ◌∷◌, ◌++◌, length, get_or, length-append, append_assoc, append-nil, Option, Some, None}
 use mathlib.Core.List.{IsPrefix}
 use Rattle.doc_items.specs.Maps.{Key}
 use Rattle.session_core.specs.declared.request.Request.{Request}
@@ -17,47 +17,14 @@ use Rattle.shard_marks.specs.declared.mark.Mark.{Mark}
 use Rattle.shard_marks.specs.Passes.{HaveTurned, marks_of}
 use Rattle.shard_marks.specs.Looks.{IsCut}
 use Rattle.shard_marks.specs.Servers.{ServerOf}
+use Rattle.shard_marks.proofs.Prefixes.{prefix_self, prefix_more, prefix_both}
+use Rattle.shard_marks.proofs.Publishing.{told_later}
 use Rattle.session_steps.specs.declared.step.LinkStep.{LinkStep}
 use Rattle.session_steps.specs.declared.step.LinkStep.TheVariants.{Read, Delivered}
 use Rattle.session_steps.specs.Clients.{AreSentTo}
 use Rattle.session_steps.specs.Going.{Grow}
 use Rattle.session_steps.specs.Served.{IsWalk}
 use Rattle.session_steps.specs.Steps.{Progress, Work, IsAt, IsAsked, IsStep, reading_of}
-
--- ---- lists that begin others
-
-module _ {X : Type 0} where
-  pub prefix_self : (xs : List X) → IsPrefix xs xs
-  prefix_self xs = ([], append-nil xs)
-
-  pub prefix_more : (xs ys zs : List X) → IsPrefix xs ys → IsPrefix ys zs → IsPrefix xs zs
-  prefix_more xs ys zs p q = (p.0 ++ q.0, sym (append_assoc xs p.0 q.0) ∙ ap (λ l. l ++ q.0) p.1 ∙ q.1)
-
-  pub prefix_length : (xs ys : List X) → IsPrefix xs ys → length xs ≤ length ys
-  prefix_length xs ys p = subst (λ l. length xs ≤ length l) p.1 (omega (arith, length-append xs p.0))
-
-  head_same : (x y : X) (xs ys : List X) → x ∷ xs ≡ y ∷ ys → x ≡ y
-  head_same x y xs ys e = cc
-
-  tail_same : (x y : X) (xs ys : List X) → x ∷ xs ≡ y ∷ ys → xs ≡ ys
-  tail_same x y xs ys e = cc
-
-  -- of two that begin one list, the one that isn't longer begins the other
-  pub prefix_both : (xs ys zs : List X) → IsPrefix xs zs → IsPrefix ys zs → length xs ≤ length ys → IsPrefix xs ys
-  prefix_both [] ys zs p q l = (ys, refl)
-  prefix_both (x ∷ xs) [] zs p q l = absurd (omega (arith, l))
-  prefix_both (x ∷ xs) (y ∷ ys) [] p q l = absurd (omega (arith, ap length p.1))
-  prefix_both (x ∷ xs) (y ∷ ys) (z ∷ zs) p q l =
-      let one : x ≡ y = head_same x z (xs ++ p.0) zs p.1 ∙ sym (head_same y z (ys ++ q.0) zs q.1) in
-      let rest : IsPrefix xs ys = prefix_both xs ys zs (p.0, tail_same x z (xs ++ p.0) zs p.1) (q.0, tail_same y z (ys ++ q.0) zs q.1) (omega (arith, l)) in
-      (rest.0, (λ i. one i ∷ rest.1 i))
-
-  pub prefix_whole : (xs ys : List X) → IsPrefix xs ys → length xs ≡ length ys → xs ≡ ys
-  prefix_whole xs ys p l = sym (append-nil xs) ∙ ap (λ r. xs ++ r) (sym (none p.0 (omega (arith, length-append xs p.0, ap length p.1, l)))) ∙ p.1
-    where
-      none : (r : List X) → length r ≡ 0 → r ≡ []
-      none [] e = refl
-      none (x ∷ r) e = absurd (omega (arith, e))
 
 -- ---- passes
 
@@ -166,7 +133,9 @@ module _ (v : ServerOf) (m n : ℕ → List Mark) (grown : Grow m n) (begun : �
 pub sent_later : (d : Key) (m n : ℕ → List Mark) (s : Session) (lengths : List ℕ) → Grow m n → AreSentTo d m s lengths → AreSentTo d n s lengths
 sent_later d m n s lengths grown sent k below =
     let here = sent k below in
-    let up : length (m k) ≤ length (n k) = prefix_length (m k) (n k) (grown k) in record {
-      within = omega (arith, here.within, up);
-      quiet = λ cut begins whole some. here.quiet cut (prefix_both cut (m k) (n k) begins (grown k) (omega (arith, whole, here.within))) whole some;
+    let within = here.told.within in
+    let before : (cut : List Mark) → IsPrefix cut (n k) → length cut ≡ get_or lengths k 0 → IsPrefix cut (m k) =
+    λ cut begins whole. prefix_both cut (m k) (n k) begins (grown k) (omega (arith, whole, within)) in record {
+      told = told_later d k (m k) (n k) s (get_or lengths k 0) (grown k) here.told;
+      quiet = λ cut begins whole some. here.quiet cut (before cut begins whole) whole some;
     }

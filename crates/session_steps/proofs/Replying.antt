@@ -37,7 +37,8 @@ use Rattle.session_steps.specs.Going.{Grow, HasWorked, IsUnasked, Since}
 use Rattle.session_steps.specs.Served.{total}
 use Rattle.session_steps.specs.Steps.{last_length, IsAt}
 use Rattle.session_steps.proofs.Counting.{taken_none, taken_one}
-use Rattle.session_steps.proofs.Growing.{prefix_self, prefix_length, turned_grow, sent_later}
+use Rattle.shard_marks.proofs.Prefixes.{prefix_self, prefix_length}
+use Rattle.session_steps.proofs.Growing.{turned_grow, sent_later}
 use Rattle.session_steps.proofs.Serving.{added_same, added_one}
 use Rattle.session_steps.proofs.Apart.{sent_about}
 use Rattle.session_steps.proofs.Taking.{IsAbout, attached_about, had_about}

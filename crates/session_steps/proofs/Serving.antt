@@ -241,7 +241,11 @@ pub session_new : (v : ServerOf) (s : Session) → s ≡ fresh (Some v.domain) v
 session_new v s is = subst (IsSessionOf v) (sym is) (record { domain = refl; peers = refl; unopened = λ e. refl; unqueued = λ e. refl })
 
 pub sent_new : (d : Key) (m : ℕ → List Mark) (s : Session) (lengths : List ℕ) → ((k : ℕ) → get_or lengths k 0 ≡ 0) → AreSentTo d m s lengths
-sent_new d m s lengths due k below = let z = due k in record { within = omega (arith, z); quiet = λ cut begins whole some. absurd (some z) }
+sent_new d m s lengths due k below =
+    let z = due k in record {
+      told = record { within = omega (arith, z); told = λ cut begins whole some. absurd (some z) };
+      quiet = λ cut begins whole some. absurd (some z);
+    }
 
 -- ---- one shard more
 

@@ -9,7 +9,7 @@
 --     answered_same, answered_short                 an answer to a submission changes nothing, but where it waits
 --     AreApart c d          no wavelet is shown in both
 --     after_session         a session to which news was sent
---     after_quiet           it was sent all of other copies that it was sent before
+--     after_quiet, after_told     it was sent all of other copies that it was sent before, and was told all of them
 use Rattle.std.proofs.Common.{◌≡◌, ◌==◌, ◌≢◌, ◌⊎◌, inl, inr, ◌+◌, ℕ, zero, suc, arith, Bool, true, false, ◌&&◌, if◌then◌else◌, List, [], ◌∷◌, ◌++◌, take, drop, length, Option, None, Some, Result, Ok, Err, refl, sym, ap, subst, ◌∙◌, true≢false, option_map}
 use Rattle.std.specs.Prelude.{is_some}
 use Rattle.std.specs.Cmp.Lexicographic.{pointwise, bytes_decides}
@@ -52,7 +52,8 @@ use Rattle.session_core.specs.Deliveries.{outcome_sent, outcomes_sent, waits_on,
 use Rattle.session_core.specs.Rules.{Taken, party_is_user, party_is_peer, has_user, has_peer, refused, with_party, is_nobody, is_new, is_user, is_peer, greeted, met, as_user, as_peer, in_domain, is_reached, is_hosted, place_of, without, with_openings, closed_at, asked_open, submission_of, submitted_as, submitted, closed, told_have, relay_by, relayed, taken_kind, reason_of, limit_of, taken_read, taken_bytes}
 use Rattle.shard_marks.specs.Servers.{ServerOf}
 use Rattle.session_steps.specs.Clients.{IsSessionOf, MayAsk}
-use Rattle.session_steps.proofs.Telling.{IsNoneOf, alike_sent, told_apart, hosts_apart}
+use Rattle.shard_marks.specs.Told.{AreToldTo, AreTold}
+use Rattle.session_steps.proofs.Telling.{IsNoneOf, alike_sent, told_apart, hosts_apart, told_beside, told_apart_from}
 
 -- ---- lists that give nothing
 
@@ -151,10 +152,11 @@ pub record IsTaken (v : ServerOf) (s : Session) (r : Taken) : Type 0 where
   pub session : IsSessionOf v r.0
   pub asks : MayAsk r.0 r.1
   pub quiet : has_peer r.0 ≡ has_peer s → (c : Shown) → delivered c s ≡ [] → delivered c r.0 ≡ []
+  pub told : has_peer r.0 ≡ has_peer s → (c : Shown) → AreTold c s → AreTold c r.0
 
 module _ (v : ServerOf) (s : Session) (p : IsSessionOf v s) where
   same_taken : (r : Request) → MayAsk s r → IsTaken v s (s, r)
-  same_taken r asks = record { session = p; asks = asks; quiet = λ same c q. q }
+  same_taken r asks = record { session = p; asks = asks; quiet = λ same c q. q; told = λ same c t. t }
 
   refused_taken : (reason : BadReason) → IsTaken v s (refused s reason)
   refused_taken reason = same_taken _ tt
@@ -185,6 +187,7 @@ module _ (v : ServerOf) (s : Session) (p : IsSessionOf v s) where
             session = somebody v s (with_party s (User (encode_utf8_all text))) p refl refl refl;
             asks = tt;
             quiet = λ same c q. both_none (outcomes_sent c s.waiting) (openings_sent c (encode_utf8_all text) s.openings) (ap (outcomes_sent c) (p.unqueued new)) (ap (openings_sent c (encode_utf8_all text)) (p.unopened new));
+            told = λ same c t. tt;
           }
       go false e = refused_taken bad.BadUser
 
@@ -197,6 +200,7 @@ module _ (v : ServerOf) (s : Session) (p : IsSessionOf v s) where
         session = somebody v s (with_party s (Domain domain)) p refl refl refl;
         asks = tt;
         quiet = λ same c q. absurd (true≢false (same ∙ nobody_no_peer s.party (and_parts _ _ e).0));
+        told = λ same c t. absurd (true≢false (same ∙ nobody_no_peer s.party (and_parts _ _ e).0));
       }
       go false e = refused_taken bad.BadUser
 
@@ -220,6 +224,7 @@ module _ (v : ServerOf) (s : Session) (p : IsSessionOf v s) where
         session = somebody v s (with_openings s (without i s.openings)) p refl refl (ap is_nobody e);
         asks = tt;
         quiet = λ same c q. user_quiet c s (with_openings s (without i s.openings)) u e e (λ f. f) (without_none c u i s.openings) q;
+        told = λ same c t. t;
       }
 
   had_taken : (name : Key) (from : VersionAt) → IsTaken v s (told_have s name from)
@@ -265,6 +270,7 @@ pub record IsLacking (c : Shown) (name : Key) : Type 0 where
 pub record IsAbout (v : ServerOf) (s : Session) (name : Key) (x : Session) : Type 0 where
   pub session : IsSessionOf v x
   pub quiet : (c : Shown) → IsLacking c name → delivered c s ≡ [] → delivered c x ≡ []
+  pub told : (c : Shown) → IsLacking c name → AreTold c s → AreTold c x
 
 same_place : (i j : ℕ) → Some (j + 1) ≡ Some (suc i) → j ≡ i
 same_place i j h = grind arith
@@ -296,7 +302,7 @@ module _ (c : Shown) (user name : Key) (v : ℕ) (uncopied : c.copy name ≡ Non
 
 module _ (v : ServerOf) (s : Session) (p : IsSessionOf v s) where
   same_about : (name : Key) → IsAbout v s name s
-  same_about name = record { session = p; quiet = λ c none q. q }
+  same_about name = record { session = p; quiet = λ c none q. q; told = λ c none t. t }
 
   choice_about : (name : Key) (t : Bool) (a b : Session × Message) → IsAbout v s name a.0 → IsAbout v s name b.0 → IsAbout v s name (if t then a else b).0
   choice_about name true a b x y = x
@@ -310,6 +316,7 @@ module _ (v : ServerOf) (s : Session) (p : IsSessionOf v s) where
         let who = user_of s.party has in record {
           session = somebody v s (with_sent s name version) p refl refl (ap is_nobody who.1);
           quiet = λ c none q. user_quiet c s (with_sent s name version) who.0 who.1 who.1 (λ f. f) (put_none c who.0 name version none.copy s.openings (place_of name s.openings) refl) q;
+          told = λ c none t. t;
         }
 
     seen_about : (name : Key) (from : Option VersionAt) (o : Option HistoryOf) → IsAbout v s name (attached_seen s name from o).0
@@ -340,7 +347,7 @@ module _ (v : ServerOf) (s : Session) (p : IsSessionOf v s) where
     waits name id = record s { waiting = with_waiting s.waiting name id }
 
     queued_about : (name : Key) (id : IdOf) → IsAbout v s name (waits name id)
-    queued_about name id = record { session = somebody v s (waits name id) p refl refl known; quiet = λ c none q. go c none q s.party refl }
+    queued_about name id = record { session = somebody v s (waits name id) p refl refl known; quiet = λ c none q. go c none q s.party refl; told = λ c none t. t }
       where
         go : (c : Shown) → IsLacking c name → delivered c s ≡ [] → (party : Party) → s.party ≡ party → delivered c (waits name id) ≡ []
         go c none q Nobody e = ap (delivered_to c (waits name id)) e
@@ -365,6 +372,7 @@ module _ (v : ServerOf) (s : Session) (p : IsSessionOf v s) where
           session = somebody v s (tells name version) p refl refl (ap is_nobody who.1);
           quiet = λ c none q. peer_quiet c s (tells name version) who.0 who.1 who.1
               (alike_sent c who.0 c.hosts (told_at name version true s.tellings) s.tellings (told_apart name version true c.hosts s.tellings none.unhosted)) q;
+          told = λ c none t. told_beside c name version true s.tellings s.party none.unhosted t;
         }
 
     hash_about : (name : Key) (from : VersionAt) (o : Option (List ℕ)) → IsAbout v s name (had_hash s name from o)
@@ -452,3 +460,11 @@ module _ (s : Session) (c other : Shown) (apart : AreApart c other) where
           (kept_none (opening_one other user) (λ o. opening_kept c user o (c.copy o.name)) (λ o. opening_none user o (c.copy o.name) (apart.copies o.name)) s.openings) q
       go (Domain domain) e = peer_quiet other s (after_for c s (Domain domain)) domain e e
           (alike_sent other domain other.hosts (hosts_told c domain s.tellings c.hosts) s.tellings (hosts_apart c domain c.hosts other.hosts s.tellings apart.hosts)) q
+
+  pub after_told : AreTold other s → AreTold other (after_delivery c s)
+  after_told t = go s.party refl t
+    where
+      go : (party : Party) → s.party ≡ party → AreToldTo other s.tellings party → AreTold other (after_for c s party)
+      go Nobody e t = subst (AreToldTo other s.tellings) (sym e) t
+      go (User user) e t = subst (AreToldTo other s.tellings) (sym e) t
+      go (Domain domain) e t = subst (AreToldTo other (hosts_told c domain s.tellings c.hosts)) (sym e) (told_apart_from c other s.tellings domain apart.hosts t)

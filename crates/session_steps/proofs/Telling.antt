@@ -4,16 +4,20 @@
 --     alike_sent               so it is sent the same of them
 --     IsNoneOf name ns         the name is none of these
 --     told_apart, hosts_apart  what it is told of others changes nothing of these
+--     told_beside, told_apart_from     so it was told all of these as before
 use Rattle.std.proofs.Common.{◌≡◌, ℕ, ◌+◌, Bool, true, false, if◌then◌else◌, List, [], ◌∷◌, ◌++◌, Option, None, Some, option_map, slice_set, refl, sym, ap, subst, ◌∙◌, true≢false, add-one}
 use Rattle.std.specs.Cmp.Lexicographic.{bytes_decides}
 use Rattle.std.specs.List.{AllByRecursion}
 use Rattle.doc_items.specs.Maps.{Key, same_text}
 use Rattle.delta_history.specs.Histories.{HistoryOf, head_of}
+use Rattle.session_core.specs.declared.session.Party.{Party}
+use Rattle.session_core.specs.declared.session.Party.TheVariants.{Nobody, User, Domain}
 use Rattle.session_core.specs.declared.session.Telling.{Telling}
 use Rattle.session_core.specs.Access.{Shown, seen_from}
 use Rattle.session_core.specs.Answers.{place_told, put_told, told_at}
 use Rattle.session_core.specs.Deliveries.{telling_of, host_news, host_told, after_host, hosts_sent, hosts_told}
 use Rattle.wavelet_shelf.proofs.Names.{decided}
+use Rattle.shard_marks.specs.Told.{IsToldOf, AreToldOf, AreToldTo}
 
 -- ---- one wavelet
 
@@ -108,3 +112,20 @@ module _ (c : Shown) (domain : Key) where
   hosts_apart [] ns ts x = alike_same ns ts
   hosts_apart (h ∷ hs) ns ts x =
       alike_more ns (hosts_told c domain ts (h ∷ hs)) (after_host c domain ts h) ts (hosts_apart hs ns (after_host c domain ts h) x.1) (host_apart h (telling_of h ts) (seen_from c h domain) ns ts x.0)
+
+-- ---- what it was told
+
+told_alike : (c : Shown) (domain : Key) (ns : List Key) (ts us : List Telling) → AreAlike ns ts us → AreToldOf c domain us ns → AreToldOf c domain ts ns
+told_alike c domain [] ts us a told = tt
+told_alike c domain (n ∷ ns) ts us a told = (subst (λ t. IsToldOf n t (seen_from c n domain)) (sym a.0) told.0, told_alike c domain ns ts us a.1 told.1)
+
+-- of another wavelet
+pub told_beside : (c : Shown) (name : Key) (v : ℕ) (told : Bool) (ts : List Telling) (p : Party) → IsNoneOf name c.hosts → AreToldTo c ts p → AreToldTo c (told_at name v told ts) p
+told_beside c name v told ts Nobody none all = tt
+told_beside c name v told ts (User user) none all = tt
+told_beside c name v told ts (Domain domain) none all = told_alike c domain c.hosts (told_at name v told ts) ts (told_apart name v told c.hosts ts none) all
+
+-- of other copies
+pub told_apart_from : (c other : Shown) (ts : List Telling) (domain : Key) → AllByRecursion (λ h. IsNoneOf h other.hosts) c.hosts → AreToldTo other ts (Domain domain)
+    → AreToldTo other (hosts_told c domain ts c.hosts) (Domain domain)
+told_apart_from c other ts domain none all = told_alike other domain other.hosts (hosts_told c domain ts c.hosts) ts (hosts_apart c domain c.hosts other.hosts ts none) all

@@ -30,7 +30,8 @@ use Rattle.session_steps.specs.declared.step.LinkStep.TheVariants.{Read, Deliver
 use Rattle.session_steps.specs.Going.{Grow, IsReaching, HasWorked, reading_list, reply_frames}
 use Rattle.session_steps.specs.Served.{IsWalk, IsBroken, IsWhole, IsOver, HaveNothingLeft, EndsClosed}
 use Rattle.session_steps.specs.Steps.{Progress, start, Work, length_at, last_length, IsAsked, IsStep, reading_of}
-use Rattle.session_steps.proofs.Growing.{prefix_self, prefix_length, walk_later}
+use Rattle.shard_marks.proofs.Prefixes.{prefix_self, prefix_length}
+use Rattle.session_steps.proofs.Growing.{walk_later}
 
 same_number : (a b : ℕ) → nat_eq a b ≡ true → a ≡ b
 same_number a b e = grind (arith, nat_tests)

@@ -1,11 +1,12 @@
 -- Histories that marks give, one moment after another.
 --     ascend_replayed     their names ascend
---     deltas_follow       the deltas of a name, followed by what further marks give of it
+--     deltas_since        the deltas of a name are those that marks give of it, and after them those that the later marks alone give
+--     deltas_follow       so the deltas of a name follow those of an earlier moment
 --     none_elsewhere      a name that isn't the shard's has none
 --     of_replayed         each name is the shard's
 --     have_replayed       each has a delta
 --     all_there           each history is that of its name
-use Rattle.std.proofs.Common.{Less, Equal, Greater, ◌≡◌, ◌≢◌, ◌⊎◌, inl, inr, ℕ, Bool, true, false, cond, List, [], ◌∷◌, ◌++◌, refl, sym, ap, ◌∙◌, append-nil, append_assoc, true≢false}
+use Rattle.std.proofs.Common.{Less, Equal, Greater, ◌≡◌, ◌≢◌, ◌⊎◌, inl, inr, ℕ, Bool, true, false, cond, List, [], ◌∷◌, ◌++◌, refl, sym, ap, subst, ◌∙◌, append-nil, append_assoc, true≢false}
 use Rattle.std.specs.Cmp.Lexicographic.{slice_cmp}
 use Rattle.std.specs.List.{AllByRecursion}
 use Rattle.std.specs.Ordering.{nat_cmp, ordering_reverse}
@@ -128,33 +129,49 @@ module _ (d : Key) (k : ℕ) where
 
   -- ---- deltas
 
+  -- two lists of histories, of which the one has these deltas of a name before those that the other has
+  abbrev AreBoth : Key → List DeltaOf → List Hosted → List Hosted → Type 0
+  AreBoth n before hs gs = deltas_in hs n ≡ before ++ deltas_in gs n
+
+  both_grown : (n : Key) (before : List DeltaOf) (hs gs : List Hosted) (p : Key) (x : DeltaOf) → AreAscending (names_of hs) → AreAscending (names_of gs) → AreBoth n before hs gs
+      → AreBoth n before (grown_in hs p x) (grown_in gs p x)
+  both_grown n before hs gs p x a b same = go (same_or_not n p)
+    where
+      go : (n ≡ p) ⊎ (n ≢ p) → AreBoth n before (grown_in hs p x) (grown_in gs p x)
+      go (inl e) = subst (λ m. AreBoth m before (grown_in hs p x) (grown_in gs p x)) (sym e)
+          (grows_alone.there hs p x a ∙ ap (λ l. l ++ x ∷ []) (subst (λ m. AreBoth m before hs gs) e same) ∙ append_assoc before (deltas_in gs p) (x ∷ [])
+          ∙ ap (λ l. before ++ l) (sym (grows_alone.there gs p x b)))
+      go (inr ne) = grows_alone.others hs p x n ne ∙ same ∙ ap (λ l. before ++ l) (sym (grows_alone.others gs p x n ne))
+
+  both_after : (n : Key) (before : List DeltaOf) (hs gs : List Hosted) (m : Mark) → AreAscending (names_of hs) → AreAscending (names_of gs) → AreBoth n before hs gs
+      → AreBoth n before (after_mark d k hs m) (after_mark d k gs m)
+  both_after n before hs gs (Began e j) a b same = same
+  both_after n before hs gs (Applied p x) a b same = go (is_of d k p)
+    where
+      go : (t : Bool) → AreBoth n before (cond t (grown_in hs p x) hs) (cond t (grown_in gs p x) gs)
+      go true = both_grown n before hs gs p x a b same
+      go false = same
+  both_after n before hs gs (Fault p i) a b same = same
+  both_after n before hs gs (Queued p s) a b same = same
+  both_after n before hs gs (Answered p i v) a b same = same
+  both_after n before hs gs (Dropped p) a b same = same
+
+  both_on : (n : Key) (before : List DeltaOf) (hs gs : List Hosted) (ms : List Mark) → AreAscending (names_of hs) → AreAscending (names_of gs) → AreBoth n before hs gs
+      → AreBoth n before (replayed_on d k hs ms) (replayed_on d k gs ms)
+  both_on n before hs gs [] a b same = same
+  both_on n before hs gs (m ∷ ms) a b same =
+      both_on n before (after_mark d k hs m) (after_mark d k gs m) ms (ascend_after hs m a) (ascend_after gs m b) (both_after n before hs gs m a b same)
+
+  pub deltas_since : (n : Key) (ms ns : List Mark) → deltas_in (replayed d k (ms ++ ns)) n ≡ deltas_in (replayed d k ms) n ++ deltas_in (replayed d k ns) n
+  deltas_since n ms ns =
+      ap (λ z. deltas_in z n) (replayed_more d k [] ms ns)
+      ∙ both_on n (deltas_in (replayed d k ms) n) (replayed d k ms) [] ns (ascend_replayed ms) tt (sym (append-nil (deltas_in (replayed d k ms) n)))
+
   abbrev pub Follow : Key → List Hosted → List Hosted → Type 0
   Follow n hs gs = (more : List DeltaOf) × (deltas_in gs n ≡ deltas_in hs n ++ more)
 
-  follow_after : (n : Key) (hs : List Hosted) (m : Mark) → AreAscending (names_of hs) → Follow n hs (after_mark d k hs m)
-  follow_after n hs (Began e j) a = ([], sym (append-nil (deltas_in hs n)))
-  follow_after n hs (Applied p x) a = go (is_of d k p) (same_or_not n p)
-    where
-      go : (b : Bool) → (n ≡ p) ⊎ (n ≢ p) → Follow n hs (cond b (grown_in hs p x) hs)
-      go true (inl e) = (x ∷ [], ap (deltas_in (grown_in hs p x)) e ∙ grows_alone.there hs p x a ∙ ap (λ z. deltas_in hs z ++ x ∷ []) (sym e))
-      go true (inr ne) = ([], grows_alone.others hs p x n ne ∙ sym (append-nil (deltas_in hs n)))
-      go false o = ([], sym (append-nil (deltas_in hs n)))
-  follow_after n hs (Fault p i) a = ([], sym (append-nil (deltas_in hs n)))
-  follow_after n hs (Queued p s) a = ([], sym (append-nil (deltas_in hs n)))
-  follow_after n hs (Answered p i v) a = ([], sym (append-nil (deltas_in hs n)))
-  follow_after n hs (Dropped p) a = ([], sym (append-nil (deltas_in hs n)))
-
-  follow_on : (n : Key) (hs : List Hosted) (ms : List Mark) → AreAscending (names_of hs) → Follow n hs (replayed_on d k hs ms)
-  follow_on n hs [] a = ([], sym (append-nil (deltas_in hs n)))
-  follow_on n hs (m ∷ ms) a =
-      let one = follow_after n hs m a in
-      let rest = follow_on n (after_mark d k hs m) ms (ascend_after hs m a) in
-      (one.0 ++ rest.0, rest.1 ∙ ap (λ z. z ++ rest.0) one.1 ∙ append_assoc (deltas_in hs n) one.0 rest.0)
-
   pub deltas_follow : (n : Key) (ms ns : List Mark) → IsPrefix ms ns → Follow n (replayed d k ms) (replayed d k ns)
-  deltas_follow n ms ns p =
-      let more = follow_on n (replayed d k ms) p.0 (ascend_replayed ms) in
-      (more.0, ap (λ z. deltas_in (replayed d k z) n) (sym p.1) ∙ ap (λ z. deltas_in z n) (replayed_more d k [] ms p.0) ∙ more.1)
+  deltas_follow n ms ns p = (deltas_in (replayed d k p.0) n, ap (λ z. deltas_in (replayed d k z) n) (sym p.1) ∙ deltas_since n ms p.0)
 
   none_after : (n : Key) (hs : List Hosted) (m : Mark) → is_of d k n ≡ false → deltas_in (after_mark d k hs m) n ≡ deltas_in hs n
   none_after n hs (Began e j) other = refl

@@ -6,3 +6,5 @@ pub mod Deciding
 pub mod Copying
 pub mod Judging
 pub mod Telling
+pub mod Publishing
+pub mod Prefixes

@@ -4,11 +4,12 @@
 --     after_at         and the session then
 --     sent_at          whether it was sent all
 --     had_at           after a `have`
-use Rattle.std.proofs.Common.{◌≡◌, ℕ, List, Option, ap, ◌∙◌}
+--     named_at, named_after_at     of some names alone, in deliveries and then
+use Rattle.std.proofs.Common.{◌≡◌, ℕ, List, Option, refl, ap, ◌∙◌}
 use Rattle.doc_items.specs.Maps.{Key}
 use Rattle.wave_base.specs.Versions.{VersionAt}
 use Rattle.session_core.specs.declared.session.Session.{Session}
-use Rattle.session_core.specs.Access.{Shown}
+use Rattle.session_core.specs.Access.{Shown, with_hosts}
 use Rattle.session_core.specs.Answers.{attached, had}
 use Rattle.session_core.specs.Current.{are_sent}
 use Rattle.session_core.specs.Deliveries.{delivered, after_delivery}
@@ -38,3 +39,13 @@ module _ (c : Shown) (d : Key) (k : ℕ) (ms : List Mark) (hs : List Hosted) (cs
 
   pub had_at : (s : Session) (name : Key) (from : VersionAt) → had c s name from ≡ had (shown_at d k ms) s name from
   had_at s name from = had_alike c (shown_among d hs cs) same s name from ∙ ap (λ x. had x s name from) seen
+
+  module _ (ns : List Key) where
+    same_named : IsSameShown (with_hosts c ns) (with_hosts (shown_among d hs cs) ns)
+    same_named = record { copy = same.copy; hosts = refl; drops = same.drops; outcome = same.outcome }
+
+    pub named_at : (s : Session) → delivered (with_hosts c ns) s ≡ delivered (with_hosts (shown_at d k ms) ns) s
+    named_at s = delivered_alike (with_hosts c ns) (with_hosts (shown_among d hs cs) ns) same_named s ∙ ap (λ x. delivered (with_hosts x ns) s) seen
+
+    pub named_after_at : (s : Session) → after_delivery (with_hosts c ns) s ≡ after_delivery (with_hosts (shown_at d k ms) ns) s
+    named_after_at s = after_alike (with_hosts c ns) (with_hosts (shown_among d hs cs) ns) same_named s ∙ ap (λ x. after_delivery (with_hosts x ns) s) seen

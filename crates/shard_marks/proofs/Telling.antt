@@ -1,5 +1,10 @@
 -- What a peer is told of hosted wavelets, once and not again.
---     nothing_told      to a peer that was told all there is nothing to tell
+--     apart             names that ascend from one are others
+--     no_news, no_change      of a wavelet of which a peer was told all there is nothing to tell, and telling it changes nothing
+--     still_told        it stays told of it where it is told of another
+--     all_told          after it was sent all it was told all
+--     nothing_told      so there is nothing to tell then
+--     told_moment       so it is with a session and a shard
 --     legal_sound       a legal history is whole, and its deltas are short
 --     sound_hosts       so is what is shown to a peer of a shard whose histories are
 --     delivered_short   what a session is sent of such a shard may stand in messages
@@ -28,7 +33,7 @@ use Rattle.session_core.specs.declared.session.Telling.{Telling}
 use Rattle.session_core.specs.Access.{Shown, has_domain, seen_from}
 use Rattle.session_core.specs.Answers.{place_told, put_told, told_at}
 use Rattle.session_core.specs.Current.{is_none_left}
-use Rattle.session_core.specs.Deliveries.{since, applieds, telling_of, host_news, host_told, after_host, hosts_sent, hosts_told, delivered_to, delivered}
+use Rattle.session_core.specs.Deliveries.{since, applieds, telling_of, host_news, host_told, after_host, hosts_sent, hosts_told, delivered_to, delivered, after_for, after_delivery}
 use Rattle.session_core.specs.Rules.{party_is_peer}
 use Rattle.session_core.proofs.Current.{nothing_behind}
 use Rattle.wavelet_shelf.specs.FileNames.{shard_of}
@@ -41,6 +46,7 @@ use Rattle.shard_copies.specs.Shown.{copy_among}
 use Rattle.shard_marks.specs.declared.mark.Mark.{Mark}
 use Rattle.shard_marks.specs.Histories.{hosted_as, history_of, is_whole, is_short, is_sound, are_sound}
 use Rattle.shard_marks.specs.Marks.{is_of, replayed, copied, shown_at}
+use Rattle.shard_marks.specs.Told.{IsToldOf, AreToldOf, AreToldTo, AreTold}
 use Rattle.shard_marks.proofs.Following.{ascend_replayed, of_replayed, all_there}
 
 -- ---- what was told of a wavelet
@@ -70,13 +76,23 @@ told_other m n v b ne (t ∷ ts) = go (same_text t.name n) refl (told_other m n 
         ap (λ e. cond e (telling n v b) (telling_of m ts)) (decided n m (λ e. ne (sym e))) ∙ sym (ap (λ e. cond e t (telling_of m ts)) apart)
     go false other rest = ap (telling_of m) (put_more n v b t ts (place_told n ts)) ∙ ap (λ l. cond (same_text t.name m) t l) rest
 
+-- what was told so already
+told_again : (n : Key) (v : ℕ) (ts : List Telling) → telling_of n ts ≡ telling n v true → told_at n v true ts ≡ ts
+told_again n v [] e = absurd (true≢false (sym (ap (λ (t : Telling). t.told) e)))
+told_again n v (t ∷ ts) e = go (same_text t.name n) e (told_again n v ts)
+  where
+    go : (b : Bool) → cond b t (telling_of n ts) ≡ telling n v true → (telling_of n ts ≡ telling n v true → told_at n v true ts ≡ ts)
+        → put_told n v true (t ∷ ts) (cond b (Some 0) (option_map (λ i. i + 1) (place_told n ts))) ≡ t ∷ ts
+    go true is rest = ap (λ x. x ∷ ts) (sym is)
+    go false is rest = put_more n v true t ts (place_told n ts) ∙ ap (λ l. t ∷ l) (rest is)
+
 -- ---- all that is hosted
 
 pub record IsSound (h : HistoryOf) : Type 0 where
   pub whole : since (head_of h).at.version h ≡ []
   pub short : list_all is_short h.deltas ≡ true
 
-apart : (n : Key) (ns : List Key) → AscendFrom n ns → AllByRecursion (λ m. m ≢ n) ns
+pub apart : (n : Key) (ns : List Key) → AscendFrom n ns → AllByRecursion (λ m. m ≢ n) ns
 apart n [] a = tt
 apart n (m ∷ ns) a = (λ e. below_none n (subst (λ z. slice_cmp nat_cmp n z ≡ Less) e a.0), apart n ns (lower n m ns a.0 a.1))
 
@@ -85,21 +101,34 @@ module _ (c : Shown) (domain : Key) where
   IsSoundFrom n = IfSome (seen_from c n domain) IsSound
 
   abbrev IsTold : List Telling → Key → Type 0
-  IsTold ts n = host_news n (telling_of n ts) (seen_from c n domain) ≡ []
+  IsTold ts n = IsToldOf n (telling_of n ts) (seen_from c n domain)
 
-  abbrev AreTold : List Telling → List Key → Type 0
-  AreTold ts ns = AllByRecursion (IsTold ts) ns
-
-  told_after : (n : Key) (ts : List Telling) → IsSoundFrom n → IsTold (after_host c domain ts n) n
-  told_after n ts whole = go (seen_from c n domain) whole
+  -- there is nothing to tell then
+  pub no_news : (n : Key) (ts : List Telling) → IsSoundFrom n → IsTold ts n → host_news n (telling_of n ts) (seen_from c n domain) ≡ []
+  no_news n ts sound told = go (seen_from c n domain) sound told
     where
-      dropped : (t : Bool) → (telling_of n ts).told ≡ t → host_news n (telling_of n (cond t (told_at n (telling_of n ts).sent false ts) ts)) None ≡ []
-      dropped true e = ap (λ (t : Telling). host_news n t None) (told_here n (telling_of n ts).sent false ts)
-      dropped false e = ap (λ t. cond t (Dropped n ∷ []) []) e
+      go : (seen : Option HistoryOf) → IfSome seen IsSound → IsToldOf n (telling_of n ts) seen → host_news n (telling_of n ts) seen ≡ []
+      go None w e = ap (λ t. cond t (Dropped n ∷ []) []) e
+      go (Some h) w e = ap (λ (t : Telling). applieds n (since t.sent h)) e ∙ ap (applieds n) w.whole
 
-      go : (seen : Option HistoryOf) → IfSome seen IsSound → host_news n (telling_of n (host_told n ts (telling_of n ts) seen)) seen ≡ []
-      go None w = dropped (telling_of n ts).told refl
-      go (Some h) w = ap (λ (t : Telling). host_news n t (Some h)) (told_here n (head_of h).at.version true ts) ∙ ap (applieds n) w.whole
+  -- and nothing changes
+  pub no_change : (n : Key) (ts : List Telling) → IsTold ts n → after_host c domain ts n ≡ ts
+  no_change n ts told = go (seen_from c n domain) told
+    where
+      go : (seen : Option HistoryOf) → IsToldOf n (telling_of n ts) seen → host_told n ts (telling_of n ts) seen ≡ ts
+      go None e = ap (λ t. cond t (told_at n (telling_of n ts).sent false ts) ts) e
+      go (Some h) e = told_again n (head_of h).at.version ts e
+
+  told_after : (n : Key) (ts : List Telling) → IsTold (after_host c domain ts n) n
+  told_after n ts = go (seen_from c n domain)
+    where
+      dropped : (t : Bool) → (telling_of n ts).told ≡ t → (telling_of n (cond t (told_at n (telling_of n ts).sent false ts) ts)).told ≡ false
+      dropped true e = ap (λ (t : Telling). t.told) (told_here n (telling_of n ts).sent false ts)
+      dropped false e = e
+
+      go : (seen : Option HistoryOf) → IsToldOf n (telling_of n (host_told n ts (telling_of n ts) seen)) seen
+      go None = dropped (telling_of n ts).told refl
+      go (Some h) = told_here n (head_of h).at.version true ts
 
   telling_stays : (m n : Key) (ts : List Telling) → m ≢ n → telling_of m (after_host c domain ts n) ≡ telling_of m ts
   telling_stays m n ts ne = go (seen_from c n domain)
@@ -112,28 +141,36 @@ module _ (c : Shown) (domain : Key) where
       go None = dropped (telling_of n ts).told
       go (Some h) = told_other m n (head_of h).at.version true ne ts
 
-  still_told : (m n : Key) (ts : List Telling) → m ≢ n → IsTold ts m → IsTold (after_host c domain ts n) m
-  still_told m n ts ne told = ap (λ (t : Telling). host_news m t (seen_from c m domain)) (telling_stays m n ts ne) ∙ told
+  pub still_told : (m n : Key) (ts : List Telling) → m ≢ n → IsTold ts m → IsTold (after_host c domain ts n) m
+  still_told m n ts ne told = subst (λ t. IsToldOf m t (seen_from c m domain)) (sym (telling_stays m n ts ne)) told
 
   -- by the others, in turn
   told_on : (n : Key) (ns : List Key) → AllByRecursion (λ m. m ≢ n) ns → (ts : List Telling) → IsTold ts n → IsTold (hosts_told c domain ts ns) n
   told_on n [] ne ts told = told
   told_on n (m ∷ ns) ne ts told = told_on n ns ne.1 (after_host c domain ts m) (still_told n m ts (λ e. ne.0 (sym e)) told)
 
-  are_told : (ns : List Key) → AreAscending ns → AllByRecursion IsSoundFrom ns → (ts : List Telling) → AreTold (hosts_told c domain ts ns) ns
-  are_told [] a w ts = tt
-  are_told (n ∷ ns) a w ts = (told_on n ns (apart n ns a) (after_host c domain ts n) (told_after n ts w.0), are_told ns (any n ns a) w.1 (after_host c domain ts n))
+  pub all_told : (ns : List Key) → AreAscending ns → (ts : List Telling) → AreToldOf c domain (hosts_told c domain ts ns) ns
+  all_told [] a ts = tt
+  all_told (n ∷ ns) a ts = (told_on n ns (apart n ns a) (after_host c domain ts n) (told_after n ts), all_told ns (any n ns a) (after_host c domain ts n))
 
-  others_told : (n : Key) (ns : List Key) → AllByRecursion (λ m. m ≢ n) ns → (ts : List Telling) → AreTold ts ns → AreTold (after_host c domain ts n) ns
-  others_told n [] ne ts told = tt
-  others_told n (m ∷ ns) ne ts told = (still_told m n ts ne.0 told.0, others_told n ns ne.1 ts told.1)
-
-  none_sent : (ns : List Key) → AreAscending ns → (ts : List Telling) → AreTold ts ns → hosts_sent c domain ts ns ≡ []
-  none_sent [] a ts told = refl
-  none_sent (n ∷ ns) a ts told = λ i. told.0 i ++ none_sent ns (any n ns a) (after_host c domain ts n) (others_told n ns (apart n ns a) ts told.1) i
+  none_sent : (ns : List Key) → AllByRecursion IsSoundFrom ns → (ts : List Telling) → AreToldOf c domain ts ns → hosts_sent c domain ts ns ≡ []
+  none_sent [] w ts told = refl
+  none_sent (n ∷ ns) w ts told = (λ i. no_news n ts w.0 told.0 i ++ hosts_sent c domain (no_change n ts told.0 i) ns) ∙ none_sent ns w.1 ts told.1
 
   pub nothing_told : (ns : List Key) → AreAscending ns → AllByRecursion IsSoundFrom ns → (ts : List Telling) → hosts_sent c domain (hosts_told c domain ts ns) ns ≡ []
-  nothing_told ns a w ts = none_sent ns a (hosts_told c domain ts ns) (are_told ns a w ts)
+  nothing_told ns a w ts = none_sent ns w (hosts_told c domain ts ns) (all_told ns a ts)
+
+-- a session that was given all of a shard
+pub told_moment : (d : Key) (k : ℕ) (ms : List Mark) (s : Session) → AreTold (shown_at d k ms) (after_delivery (shown_at d k ms) s)
+told_moment d k ms s = go s.party refl
+  where
+    c : Shown
+    c = shown_at d k ms
+
+    go : (party : Party) → s.party ≡ party → AreToldTo c (after_for c s party).tellings (after_for c s party).party
+    go Nobody e = subst (AreToldTo c s.tellings) (sym e) tt
+    go (User user) e = subst (AreToldTo c s.tellings) (sym e) tt
+    go (Domain domain) e = subst (AreToldTo c (hosts_told c domain s.tellings c.hosts)) (sym e) (all_told c domain c.hosts (ascend_replayed d k ms) s.tellings)
 
 -- ---- sound histories
 

@@ -7,3 +7,4 @@ pub mod Answers
 pub mod Outcomes
 pub mod Passes
 pub mod Givings
+pub mod Told

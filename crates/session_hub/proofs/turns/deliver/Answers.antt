@@ -1,8 +1,13 @@
 use Rattle.std.proofs.Common.{rules, ◌≡◌, map, length, ap, sym, ◌∙◌, inl}
 use Rattle.session_hub.specs.Entries.{entries_of}
 use Rattle.turn_lock.specs.Passes.{seen}
+use Rattle.session_hub.proofs.Looking.{told_from}
 use Rattle.session_hub.proofs.Turning.{later_of, frames_moment, after_moment, told_moment}
 use Rattle.session_hub.proofs.turns.deliver.Goals as goal
+
+pub deliver-frames-requires : goal.deliver-frames-requires
+deliver-frames-requires g c =
+    record { told = told_from (seen c.args.pass.now) c.in_ok-guard.guard.value c.value-shard.result.now c.args.session.now c.args.sent c.requires.told c.in_ok-guard.ensures.value c.value-shard.ensures.value }
 
 pub leave-requires-clause-one : goal.leave-requires-clause-one
 leave-requires-clause-one g c = inl (c.deliver-frames.ensures.marks ∙ ap entries_of c.value-shard.ensures.value ∙ c.in_ok-guard.ensures.guard.2)

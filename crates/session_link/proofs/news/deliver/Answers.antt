@@ -1,4 +1,4 @@
-use Rattle.std.proofs.Common.{ap, sym, subst, ◌∙◌, ◌≡◌, map}
+use Rattle.std.proofs.Common.{rules, ap, sym, subst, ◌∙◌, ◌≡◌, map}
 use Rattle.session_core.specs.Deliveries.{delivered}
 use Rattle.shard_marks.specs.Passes.{marks_of}
 use Rattle.shard_marks.specs.Marks.{shown_at}
@@ -11,6 +11,10 @@ use Rattle.session_steps.proofs.Serving.{added_same, news_goes, news_breaks, tur
 use Rattle.session_steps.proofs.Taking.{after_session}
 use Rattle.session_link.proofs.Quiet.{quiet_delivered}
 use Rattle.session_link.proofs.news.deliver.Goals as goal
+
+-- what the shard told a peer so far
+pub deliver-delivered-requires-clause-told : goal.deliver-delivered-requires-clause-told
+deliver-delivered-requires-clause-told g c = search (rules, (c.requires.sent c.args.shard c.requires.shard).told)
 
 pub returns-in-Ok-send_all-clause-later : goal.returns-in-Ok-send_all-clause-later
 returns-in-Ok-send_all-clause-later g c = turned_grow _ _ _ c.deliver-delivered.ensures.turned

@@ -1,5 +1,5 @@
 use Rattle.std.proofs.Common.{◌≡◌, ◌≤◌, ◌∙◌, arith}
-use Rattle.session_steps.proofs.Growing.{prefix_more}
+use Rattle.shard_marks.proofs.Prefixes.{prefix_more}
 use Rattle.session_link.proofs.sending.send_all.Goals as goal
 
 pub loop-place-preserved : goal.loop-place-preserved

@@ -1,15 +1,23 @@
-use Rattle.std.proofs.Common.{◌≡◌, [], map, refl}
+use Rattle.std.proofs.Common.{◌≡◌, [], map, refl, subst}
 use Rattle.session_core.specs.Deliveries.{delivered, after_delivery}
 use Rattle.shard_marks.specs.Frames.{frames_of}
+use Rattle.turn_cells.specs.Cells.{seen_of}
 use Rattle.shard_marks.specs.Marks.{shown_at}
+use Rattle.shard_marks.specs.Told.{AreToldAt}
 use Rattle.session_hub.proofs.Turning.{with_pass, turn_at, now_at, turned_at, look_at, own_after, unadded_at, seen_now, spent_exit}
 use Rattle.session_hub.proofs.hub.Hub.deliver.Goals as goal
 
 -- as of a submission, with the shard that is given
-pub deliver-requires : goal.deliver-requires
-deliver-requires g c =
+pub deliver-requires-clause-own : goal.deliver-requires-clause-own
+deliver-requires-clause-own g c =
     let t = turn_at c.args.self.now c.args.passes.now c.args.shard c.args.shard c.index.result.now c.index_mut.result.now c.requires.own refl c.requires.shard c.index.ensures c.index_mut.ensures.value in
-    record { own = t.own }
+    t.own
+
+pub deliver-requires-clause-told : goal.deliver-requires-clause-told
+deliver-requires-clause-told g c =
+    let t = turn_at c.args.self.now c.args.passes.now c.args.shard c.args.shard c.index.result.now c.index_mut.result.now c.requires.own refl c.requires.shard c.index.ensures c.index_mut.ensures.value in
+    let d = c.args.self.now.domain in
+    record { domain = d; number = c.args.shard; founded = t.founded; told = subst (λ o. AreToldAt d c.args.shard (seen_of o) c.args.session.now c.args.sent) t.at c.requires.told }
 
 pub returns-clause-own : goal.returns-clause-own
 returns-clause-own g c =

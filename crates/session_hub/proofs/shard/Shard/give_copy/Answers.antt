@@ -21,7 +21,7 @@ invariant_of-self-2 g c =
     let hs = hosted_by s.domain (hosted_of s.shelf) in
     let ns = marks_in s.domain s.number c.keep_if.new.records.items in
     let own = ap (is_copied s.domain s.number) (gift_name n c.args.giving.now) ∙ is_copy s.domain s.number n c.requires.other c.requires.own in
-    let e : ns ≡ entries_of s ++ marks_if b m = gift_marks s.domain s.number s.records.items c.keep_if.new.records.items b m c.gift_record.result c.gift_record.ensures (search rules) in
+    let e : ns ≡ entries_of s ++ marks_if b m = gift_marks s.domain s.number s.records.items c.keep_if.new.records.items b m c.in_ok-newest.newest c.in_ok-newest.ensures (search rules) in
     record {
       replay = hosted_given s.domain s.number (entries_of s) ns m b gift own e hs s.replay;
       copies = copied_given s.domain s.number (entries_of s) ns m b gift own e (worlds_of s.replicas) (worlds_of c.give_to.new.replicas) s.copies c.in_ok-given.ensures.after c.in_ok-given.ensures.taken;
@@ -40,7 +40,7 @@ returns g c =
     let gift = gift_is n c.args.giving.now in
     let ns = marks_in s.domain s.number c.keep_if.new.records.items in
     let own = ap (is_copied s.domain s.number) (gift_name n c.args.giving.now) ∙ is_copy s.domain s.number n c.requires.other c.requires.own in
-    let e : ns ≡ entries_of s ++ marks_if b m = gift_marks s.domain s.number s.records.items c.keep_if.new.records.items b m c.gift_record.result c.gift_record.ensures (search rules) in
+    let e : ns ≡ entries_of s ++ marks_if b m = gift_marks s.domain s.number s.records.items c.keep_if.new.records.items b m c.in_ok-newest.newest c.in_ok-newest.ensures (search rules) in
     record {
       given = given_at s.domain s.number (entries_of s) ns m b gift own e (worlds_of s.replicas) c.in_ok-given.given s.copies c.in_ok-given.ensures.taken c.in_ok-given.ensures.given;
       same = tt;
