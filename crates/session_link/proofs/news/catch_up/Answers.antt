@@ -1,9 +1,11 @@
-use Rattle.std.proofs.Common.{◌≡◌, ◌∙◌, sym, subst}
+use Rattle.std.proofs.Common.{◌≡◌, ◌∙◌, Bool, List, sym, subst}
+use Rattle.session_core.specs.declared.session.Session.{Session}
 use Rattle.shard_marks.specs.Passes.{marks_of}
 use Rattle.session_hub.specs.Hubs.{server_of}
 use Rattle.session_steps.specs.Going.{GoesOn}
 use Rattle.session_steps.proofs.Growing.{looked_grow, grow_more, sent_later}
 use Rattle.session_steps.proofs.Serving.{added_same, goes_later}
+use Rattle.session_link.specs.Opened.{AreUnopened}
 use Rattle.session_link.proofs.Quiet.{sent_quiet}
 use Rattle.session_link.proofs.news.catch_up.Goals as goal
 
@@ -40,6 +42,10 @@ pub returns-in-false-clause-sent : goal.returns-in-false-clause-sent
 returns-in-false-clause-sent g c =
     sent_quiet c.args.hub.now.domain (marks_of c.news.new.passes) _ _ _ _ _ c.args.shard c.requires.quiet (sym c.has_opened.ensures ∙ c.in-false.is) c.note.ensures.session
     (c.note.ensures.here ∙ c.in-Grown.ensures.tells.0) c.note.ensures.others (sent_later c.args.hub.now.domain (marks_of c.args.passes.now) (marks_of c.news.new.passes) _ _ (looked_grow c.args.passes.now c.news.new.passes c.args.shard c.news.ensures.later c.news.ensures.others) c.requires.sent)
+
+pub returns-in-false-clause-quiet : goal.returns-in-false-clause-quiet
+returns-in-false-clause-quiet g c =
+    subst (λ (z : Session × List Bool). AreUnopened c.args.hub.now.domain z.0 z.1) (λ i. (sym c.note.ensures.session i, sym c.note.ensures.opened i)) c.requires.quiet
 
 pub returns-in-false-clause-going : goal.returns-in-false-clause-going
 returns-in-false-clause-going g c o on =
