@@ -18,7 +18,8 @@ use wave_outside::{Clock, Folder, Gate, Net, Spawner};
 
 // Takes the room for the report of one end more than so many jobs give, where ends are kept.
 fn reserve_report(ended: &mut Vec<Ended>, jobs: usize, keeps: bool) -> Result<(), AllocError>
-    ensures ended { (ended.new.items ≡ ended.old.items) × (vec_len ended.new ≡ vec_len ended.old) × (vec_capacity ended.old ≤ vec_capacity ended.new) }
+    ensures ended { (ended.new.items ≡ ended.old.items) × (vec_len ended.new ≡ vec_len ended.old)
+        × (vec_capacity ended.old ≤ vec_capacity ended.new) }
     ensures report { OnOk result (keeps ≡ true → vec_len ended.new + (jobs + 1) ≤ vec_capacity ended.new) }
 {
     if !keeps {
@@ -34,7 +35,8 @@ fn reserve_report(ended: &mut Vec<Ended>, jobs: usize, keeps: bool) -> Result<()
 fn reserve<J>(ended: &mut Vec<Ended>, jobs: &mut Vec<J>, keeps: bool) -> Result<(), AllocError>
     ensures jobs { (jobs.new.items ≡ jobs.old.items) × (vec_len jobs.new ≡ vec_len jobs.old) }
     ensures room { OnOk result (vec_len jobs.new + 1 ≤ vec_capacity jobs.new) }
-    ensures ended { (ended.new.items ≡ ended.old.items) × (vec_len ended.new ≡ vec_len ended.old) × (vec_capacity ended.old ≤ vec_capacity ended.new) }
+    ensures ended { (ended.new.items ≡ ended.old.items) × (vec_len ended.new ≡ vec_len ended.old)
+        × (vec_capacity ended.old ≤ vec_capacity ended.new) }
     ensures report { OnOk result (keeps ≡ true → vec_len ended.new + (vec_len jobs.new + 1) ≤ vec_capacity ended.new) }
 {
     match reserve_report(ended, jobs.len(), keeps) {
