@@ -24,7 +24,8 @@ use Rattle.wave_server.specs.Running.{BeginWith}
 use Rattle.wave_server.specs.Statuses.{IsServerStatus}
 use Rattle.wave_program.specs.Store.{AreStanding, IsUnloaded, entered_at}
 
-abbrev pub IfServe : Option CommandOf → ((domain listen : List ℕ) → (peers : List Peer) → (sessions : Option ℕ) → (store : Option (List ℕ)) → Type 0) → Type 0
+abbrev pub IfServe : Option CommandOf → ((domain listen : List ℕ) → (peers : List Peer) → (sessions : Option ℕ)
+    → (store : Option (List ℕ)) → Type 0) → Type 0
 IfServe None P = Unit {0}
 IfServe (Some (Pipe folder)) P = Unit {0}
 IfServe (Some (Load n)) P = Unit {0}
@@ -44,7 +45,8 @@ IsServer (Some (Edit user client connect)) = ⊥
 
 -- the folder before and after it
 abbrev pub IsEntered : {F D : Type 0} → folder_of.Ghosts F D → List Entry → F → F → ℕ → Type 0
-IsEntered folder entries f g status = ((folder.log g).entries ≡ entries) ⊎ ((status ≡ 8) × ((folder.log g).entries ≡ (folder.log f).entries))
+IsEntered folder entries f g status = ((folder.log g).entries ≡ entries)
+    ⊎ ((status ≡ 8) × ((folder.log g).entries ≡ (folder.log f).entries))
 
 module _ {F D : Type 0} (folder : folder_of.Ghosts F D) (disk : disk_of.Ghosts D) where
   abbrev pub AreLeft : F → F → Type 0

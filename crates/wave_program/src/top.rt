@@ -49,12 +49,12 @@ use wave_outside::{Clock, Folder, Gate, Net, Sink, Source, Spawner};
 /// statuses; both end with 0 at the end of the input or at the line `quit`. On `load N`, with N up to 100,000, it runs the stated
 /// workload and writes its summary as a line: 0, 4 where the sink failed, 8 out of memory. On `serve --domain D --listen A` it serves the
 /// wavelets of D over the net, each session in a job of its own, with those of a folder DIR where `--store DIR` names one: 0 once the
-/// number of sessions that `--sessions N` gives have ended, and without one it doesn't end; 5, 6 and 8 as before, 7 where the door failed,
-/// 9 where a session couldn't be started, and 12 where a shard has no turn left. The robots take part in the server's wavelets; over them no
-/// turn was taken yet. `--echo` asks for a robot that whoever calls has among them. On `edit --user U --client K --connect A` it is the
-/// terminal client of U with the key K, over a link with the server at A: 0 at the end of the input or at the line `quit`, 3, 4, 8 and 10
-/// as before, 7 where the dialling or the link failed, and 11 where the server closed the link. With other words it writes the usage
-/// text and gives 2, or 8 out of memory.
+/// number of sessions that `--sessions N` gives have ended, and without one it doesn't end; it accepts no more links than that number.
+/// 5, 6 and 8 as before, 7 where the door failed, 9 where a session couldn't be started, and 12 where a shard has no turn left. The
+/// robots take part in the server's wavelets; over them no turn was taken yet. `--echo` asks for a robot that whoever calls has among
+/// them. On `edit --user U --client K --connect A` it is the terminal client of U with the key K, over a link with the server at A: 0
+/// at the end of the input or at the line `quit`, 3, 4, 8 and 10 as before, 7 where the dialling or the link failed, and 11 where the
+/// server closed the link. With other words it writes the usage text and gives 2, or 8 out of memory.
 pub fn run<
     R: Wait,
     S: Source,
