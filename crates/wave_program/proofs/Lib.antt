@@ -1,5 +1,6 @@
 pub mod Asking
 pub mod Completing
+pub mod Hosting
 pub mod LoadWords
 pub mod Piping
 pub mod Leaving

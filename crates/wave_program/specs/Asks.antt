@@ -22,7 +22,8 @@ histories_of hs = indexed (names_of hs) (deltas_in hs)
 
 -- the room is one that the history has, and shows in no answer
 abbrev pub IsPlayed : List Hosted → Key → (left0 left1 held0 held1 : Option (List ℕ)) → ℕ → Type 0
-IsPlayed hs n left0 left1 held0 held1 status = (room : ℕ) × IsObeyed player (at_version (history_in hs n room) 0) left0 left1 held0 held1 status
+IsPlayed hs n left0 left1 held0 held1 status = (room : ℕ)
+    × IsObeyed player (at_version (history_in hs n room) 0) left0 left1 held0 held1 status
 
 abbrev pub IsListed : List Hosted → Key → (left0 left1 held0 held1 : Option (List ℕ)) → ℕ → Type 0
 IsListed hs user left0 left1 held0 held1 status = IsObeyed clerk (start (histories_of hs) user) left0 left1 held0 held1 status

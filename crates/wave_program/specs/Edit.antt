@@ -58,7 +58,8 @@ module _ {N L : Type 0} (net : net_of.Ghosts N L) (link : link_of.Ghosts L) (con
     pub back : net.back m ≡ net.back n
     pub asked : IsTrue net.tells → (net.asked m ≡ net.asked n ++ connect ∷ []) ⊎ ((status ≡ 8) × (net.asked m ≡ net.asked n))
 
-  abbrev pub IsEditRun : {S W : Type 0} → (S → Option (List ℕ)) → (W → Option (List ℕ)) → Key → ℕ → (source0 source1 : S) → (sink0 sink1 : W) → ℕ → Type 0
+  abbrev pub IsEditRun : {S W : Type 0} → (S → Option (List ℕ)) → (W → Option (List ℕ)) → Key → ℕ → (source0 source1 : S)
+      → (sink0 sink1 : W) → ℕ → Type 0
   IsEditRun left held user client source0 source1 sink0 sink1 status =
       IsEdited user client (left source0) (left source1) (held sink0) (held sink1) status
       ⊎ ((source1 ≡ source0) × ((sink1 ≡ sink0) × IsUndialled status))

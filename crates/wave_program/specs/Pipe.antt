@@ -40,8 +40,11 @@ module _ {F D : Type 0} {folder : folder_of.Ghosts F D} {disk : disk_of.Ghosts D
     -- and whenever the run was cut off, a crash left a history on the way
     pub moments : IsKept a → IsSettled a → AreWrittenOn a b (λ n. StandsAlong (start (hosted_of a)) n (turns ++ tried))
     pub begun : AreBegun a b (hosted_after (hosted_of a) (turns ++ tried))
-    pub unmade : (m : List ℕ) → (HasFile b m → ⊥) → (IsFileWith (hosted_after (hosted_of a) turns) m → ⊥) → IsUnmadeIn folder disk m (in_folder a) (in_folder b)
-    pub files : IsKept a → IsSettled a → (n : Key) → IfSome (container_in b n) (IsFileOfEither n (deltas_in (hosted_after (hosted_of a) turns) n) (deltas_in (hosted_after (hosted_of a) (turns ++ tried)) n))
+    pub unmade : (m : List ℕ) → (HasFile b m → ⊥) → (IsFileWith (hosted_after (hosted_of a) turns) m → ⊥)
+        → IsUnmadeIn folder disk m (in_folder a) (in_folder b)
+    pub files : IsKept a → IsSettled a → (n : Key)
+        → IfSome (container_in b n) (IsFileOfEither n (deltas_in (hosted_after (hosted_of a) turns) n)
+        (deltas_in (hosted_after (hosted_of a) (turns ++ tried)) n))
 
 module _ {F D K : Type 0} {folder : folder_of.Ghosts F D} {disk : disk_of.Ghosts D} (clock : clock_of.Ghosts K) where
   pub record IsOver (a b : Shelf F D folder disk) (was : K) (left0 left1 held0 held1 : Option (List ℕ)) (status : ℕ) : Type 0 where

@@ -8,10 +8,11 @@
 --     IsFileEither o n ds es    as it reads, and in each image, the file stands for the one history of the name or the other
 --     IsEmptiedSince o p        the file reads as empty, and a crash leaves it empty, or as it was before
 --     IsFileTried o p n es      the file stands for the empty history of the name or for this one, or is as it was, or emptied
---     IsFileSince o p P         the file stands at both ends of a run, and a crash since the first left what it might have left before, or what
---                               has P
+--     IsFileSince o p P         the file stands at both ends of a run, and a crash since the first left what it might have left before, or
+--                               what has P
 --     IsFileBegun p P           it was made in the run, empty, and a crash since then left it so, or with what has P
 --     AreApartIn P              no two names with P have one file
+--     AreApartAmong loaded ts   so of the names whose files were loaded and those to which one of these turns submits
 --     IsBeforeIn a b            the files of no container read as before, and a crash leaves no more of them, or what they read
 --     IsLoaded a m              the shelf m is a with its files loaded
 --     IsClosed a g              the disks of the shelf a were put back into the folder g
@@ -23,7 +24,8 @@
 --     IsReadRun P               histories looked at in the files of a folder, with P of them, and the files as before
 --     IsStoredAs                the one or the other, by the service
 --     IsUnloaded                a run that ended before its first line
-use Rattle.std.specs.Prelude.{◌≡◌, ◌≢◌, ◌⊎◌, ◌≤◌, ◌-◌, ◌^◌, min, ℕ, List, [], ◌++◌, Option, Some, None, Bool, true, false, IsTrue, IsSome, IfSome}
+use Rattle.std.specs.Prelude.{◌≡◌, ◌≢◌, ◌⊎◌, ◌≤◌, ◌-◌, ◌^◌, min, ℕ, List, [], ◌++◌, Option, Some, None, Bool, true, false, IsTrue, IsSome}
+use Rattle.std.specs.Prelude.{IfSome}
 use Rattle.std.specs.List.{All}
 use Rattle.doc_items.specs.Maps.{Key}
 use Rattle.wavelet_op.specs.Deltas.{DeltaOf}
@@ -114,15 +116,21 @@ IsFileTried view o p n es = IsFileEither view p n [] es ⊎ (IsAsBefore view o p
 abbrev pub AreApartIn : (Key → Type 0) → Type 0
 AreApartIn P = (n m : Key) → P n → P m → file_name_of n ≡ file_name_of m → n ≡ m
 
+abbrev pub AreApartAmong : (Key → Bool) → List Turn → Type 0
+AreApartAmong loaded turns = AreApartIn (λ n. (loaded n ≡ true) ⊎ (submitted_in turns n ≡ true))
+
 -- ---- shelves
 
 module _ {F D : Type 0} {folder : folder_of.Ghosts F D} {disk : disk_of.Ghosts D} where
   -- the files of the folder that are no container's
   abbrev pub IsBeforeIn : Shelf F D folder disk → Shelf F D folder disk → Type 0
-  IsBeforeIn a b = IfSome (in_folder a) (λ f. IfSome (in_folder b) (λ g. (m : List ℕ) → ((n : Key) → IsSome (container_in b n) → m ≢ file_name_of n) → IsAsBefore disk.view (folder.files f m) (folder.files g m)))
+  IsBeforeIn a b = IfSome (in_folder a) (λ f. IfSome (in_folder b)
+      (λ g. (m : List ℕ) → ((n : Key) → IsSome (container_in b n) → m ≢ file_name_of n)
+      → IsAsBefore disk.view (folder.files f m) (folder.files g m)))
 
   pub record IsLoaded (a m : Shelf F D folder disk) : Type 0 where
-    pub read : IsTrue disk.tells → IfSome (in_folder a) (λ f. (n : Key) → IfSome (container_in m n) (λ c. IsReadFrom (folder.files f (file_name_of n)) c))
+    pub read : IsTrue disk.tells → IfSome (in_folder a)
+        (λ f. (n : Key) → IfSome (container_in m n) (λ c. IsReadFrom (folder.files f (file_name_of n)) c))
     pub all : IsTrue disk.tells → IfSome (in_folder a) (λ f. HasAll disk.view (folder.files f) (hosted_of m))
     pub sound : IsTrue disk.tells → IfSome (in_folder a) (λ f. (m : List ℕ) → IsSound disk.view (folder.files f m) m)
     pub kept : IsTrue disk.tells → IsKept m × IsSettled m
@@ -133,8 +141,10 @@ module _ {F D : Type 0} {folder : folder_of.Ghosts F D} {disk : disk_of.Ghosts D
 
   -- its disks were put back into the folder g
   pub record IsClosed (a : Shelf F D folder disk) (g : F) : Type 0 where
-    pub back : IsTrue disk.tells → AreApart a → (n : Key) → IfSome (container_in a n) (λ c. IfSome (journal_of c) (λ j. IsPutBack disk.view (on_disk j) (folder.files g (file_name_of n))))
-    pub stored : IsKept a → IsSettled a → AreApart a → (n : Key) → IfSome (container_in a n) (λ c. IsStoredFile disk.view (folder.files g (file_name_of n)) n (history_of c).deltas)
+    pub back : IsTrue disk.tells → AreApart a → (n : Key)
+        → IfSome (container_in a n) (λ c. IfSome (journal_of c) (λ j. IsPutBack disk.view (on_disk j) (folder.files g (file_name_of n))))
+    pub stored : IsKept a → IsSettled a → AreApart a → (n : Key)
+        → IfSome (container_in a n) (λ c. IsStoredFile disk.view (folder.files g (file_name_of n)) n (history_of c).deltas)
     pub others : IsTrue disk.tells → IfSome (in_folder a) (λ f. (m : List ℕ) → (HasFile a m → ⊥) → folder.files g m ≡ folder.files f m)
     pub still : IfSome (in_folder a) (λ f. IsStill folder f g)
     pub counted : min (folder.faults g) (2 ^ 64 - 1) ≡ fault_count a
@@ -149,7 +159,8 @@ module _ {F D : Type 0} {folder : folder_of.Ghosts F D} {disk : disk_of.Ghosts D
     pub as_before : IsTrue disk.tells → IsBeforeIn a b
     pub still : IsStillIn folder (in_folder a) (in_folder b)
 
-  pub record IsShelfRun {K : Type 0} (clock : clock_of.Ghosts K) (service : Service) (a b : Shelf F D folder disk) (was : K) (left0 left1 held0 held1 : Option (List ℕ)) (status : ℕ) : Type 0 where
+  pub record IsShelfRun {K : Type 0} (clock : clock_of.Ghosts K) (service : Service) (a b : Shelf F D folder disk) (was : K)
+      (left0 left1 held0 held1 : Option (List ℕ)) (status : ℕ) : Type 0 where
     pub shelf : Shelf F D folder disk
     pub loaded : IsLoaded a shelf
     pub done : IsDone clock service shelf b was left0 left1 held0 held1 status
@@ -164,7 +175,8 @@ module _ {F D : Type 0} (folder : folder_of.Ghosts F D) (disk : disk_of.Ghosts D
   pub record IsUnloaded (entries : List Entry) (f g : F) (held0 held1 : Option (List ℕ)) (before now : ℕ) (status : ℕ) : Type 0 where
     pub known : (status ≡ 5) ⊎ ((status ≡ 6) ⊎ (status ≡ 8))
     pub silent : (status ≡ 5) ⊎ (status ≡ 8) → held1 ≡ held0
-    pub damaged : status ≡ 6 → (file : List ℕ) × (offset : ℕ) × IsWritten held0 held1 before now (damage_line file offset) × IsFirstRefused disk.view (folder.files f) file offset
+    pub damaged : status ≡ 6 → (file : List ℕ) × (offset : ℕ) × IsWritten held0 held1 before now (damage_line file offset)
+        × IsFirstRefused disk.view (folder.files f) file offset
     pub as_before : (m : List ℕ) → IsAsBefore disk.view (folder.files f m) (folder.files g m)
     -- nothing more was entered; for want of memory, maybe nothing at all
     pub entered : ((folder.log g).entries ≡ entries) ⊎ ((status ≡ 8) × ((folder.log g).entries ≡ (folder.log f).entries))
@@ -178,7 +190,8 @@ module _ {F D : Type 0} (folder : folder_of.Ghosts F D) (disk : disk_of.Ghosts D
     pub apart : AreApartIn (λ n. loaded n ≡ true)
 
   -- the folder before and behind it
-  pub record IsStoredRun {K : Type 0} (clock : clock_of.Ghosts K) (entries : List Entry) (f g : F) (was : K) (left0 left1 held0 held1 : Option (List ℕ)) (status : ℕ) : Type 0 where
+  pub record IsStoredRun {K : Type 0} (clock : clock_of.Ghosts K) (entries : List Entry) (f g : F) (was : K)
+      (left0 left1 held0 held1 : Option (List ℕ)) (status : ℕ) : Type 0 where
     -- the histories for which the files stand, and the names whose files were loaded
     pub hosted : List Hosted
     pub loaded : Key → Bool
@@ -192,23 +205,33 @@ module _ {F D : Type 0} (folder : folder_of.Ghosts F D) (disk : disk_of.Ghosts D
     pub lines : IsPrefix (lines_in run.turns ++ lines_in tried) (turned true run.read)
     -- whatever was sent stands in the histories, and these in the files: just these, where no turn failed
     pub held : All (λ s. IsHeld (hosted_after hosted run.turns) s.message) (sent (start hosted) run.turns)
-    pub stored : AreApartIn (λ n. (loaded n ≡ true) ⊎ (submitted_in (run.turns ++ tried) n ≡ true)) → AreStoredFrom disk.view (folder.files g) (hosted_after hosted run.turns)
-    pub whole : IsWhole status → AreApartIn (λ n. (loaded n ≡ true) ⊎ (submitted_in (run.turns ++ tried) n ≡ true)) → AreStored disk.view (folder.files g) (IsThere loaded (hosted_after hosted run.turns)) (hosted_after hosted run.turns)
+    pub stored : AreApartAmong loaded (run.turns ++ tried)
+        → AreStoredFrom disk.view (folder.files g) (hosted_after hosted run.turns)
+    pub whole : IsWhole status → AreApartAmong loaded (run.turns ++ tried)
+        → AreStored disk.view (folder.files g) (IsThere loaded (hosted_after hosted run.turns)) (hosted_after hosted run.turns)
     -- one turn at most was tried; each file stands for its history before that, or for the one that it leads to
     pub one : IsOneAtMost tried
-    pub left : AreApartIn (λ n. (loaded n ≡ true) ⊎ (submitted_in (run.turns ++ tried) n ≡ true)) → (n : Key) → IsThere loaded (hosted_after hosted run.turns) n
-        → IsFileEither disk.view (folder.files g (file_name_of n)) n (deltas_in (hosted_after hosted run.turns) n) (deltas_in (hosted_after hosted (run.turns ++ tried)) n)
-    -- at whatever moment the run is cut off, a crash leaves each file as it was found, or as a journal of its history after some of the turns
-    pub moments : AreApartIn (λ n. (loaded n ≡ true) ⊎ (submitted_in (run.turns ++ tried) n ≡ true)) → (n : Key) → loaded n ≡ true
-        → IsFileSince disk.view (folder.files f (file_name_of n)) (folder.files g (file_name_of n)) (StandsAlong (start hosted) n (run.turns ++ tried))
+    pub left : AreApartAmong loaded (run.turns ++ tried) → (n : Key)
+        → IsThere loaded (hosted_after hosted run.turns) n
+        → IsFileEither disk.view (folder.files g (file_name_of n)) n (deltas_in (hosted_after hosted run.turns) n)
+        (deltas_in (hosted_after hosted (run.turns ++ tried)) n)
+    -- at whatever moment the run is cut off, a crash leaves each file as it was found, or as a journal of its history after some of the
+    -- turns
+    pub moments : AreApartAmong loaded (run.turns ++ tried) → (n : Key) → loaded n ≡ true
+        → IsFileSince disk.view (folder.files f (file_name_of n)) (folder.files g (file_name_of n))
+        (StandsAlong (start hosted) n (run.turns ++ tried))
     -- and so it leaves one that was made, from then on
-    pub begun : AreApartIn (λ n. (loaded n ≡ true) ⊎ (submitted_in (run.turns ++ tried) n ≡ true)) → (n : Key) → loaded n ≡ false → deltas_in (hosted_after hosted run.turns) n ≢ []
+    pub begun : AreApartAmong loaded (run.turns ++ tried) → (n : Key) → loaded n ≡ false
+        → deltas_in (hosted_after hosted run.turns) n ≢ []
         → IsFileBegun disk.view (folder.files g (file_name_of n)) (StandsAlong (start hosted) n (run.turns ++ tried))
     -- the file of a name of which no delta was acknowledged stands for none, or for the one that was tried, or is as it was, or emptied
-    pub first : AreApartIn (λ n. (loaded n ≡ true) ⊎ (submitted_in (run.turns ++ tried) n ≡ true)) → (n : Key) → loaded n ≡ false → submitted_in (run.turns ++ tried) n ≡ true → deltas_in (hosted_after hosted run.turns) n ≡ []
-        → IsFileTried disk.view (folder.files f (file_name_of n)) (folder.files g (file_name_of n)) n (deltas_in (hosted_after hosted (run.turns ++ tried)) n)
+    pub first : AreApartAmong loaded (run.turns ++ tried) → (n : Key) → loaded n ≡ false
+        → submitted_in (run.turns ++ tried) n ≡ true → deltas_in (hosted_after hosted run.turns) n ≡ []
+        → IsFileTried disk.view (folder.files f (file_name_of n)) (folder.files g (file_name_of n)) n
+        (deltas_in (hosted_after hosted (run.turns ++ tried)) n)
     -- all other files are as they were, but for what a sync settles: also that of a name to which no delta was accepted
-    pub others : (m : List ℕ) → ((n : Key) → IsThere loaded (hosted_after hosted (run.turns ++ tried)) n → m ≢ file_name_of n) → IsAsBefore disk.view (folder.files f m) (folder.files g m)
+    pub others : (m : List ℕ) → ((n : Key) → IsThere loaded (hosted_after hosted (run.turns ++ tried)) n → m ≢ file_name_of n)
+        → IsAsBefore disk.view (folder.files f m) (folder.files g m)
 
   -- the folder before and after it
   pub record IsReadRun (P : List Hosted → Type 0) (entries : List Entry) (f g : F) : Type 0 where
@@ -219,7 +242,10 @@ module _ {F D : Type 0} (folder : folder_of.Ghosts F D) (disk : disk_of.Ghosts D
     pub answered : P hosted
     pub as_before : (m : List ℕ) → IsAsBefore disk.view (folder.files f m) (folder.files g m)
 
-  abbrev pub IsStoredAs : {K : Type 0} → clock_of.Ghosts K → Service → List Entry → F → F → K → (left0 left1 held0 held1 : Option (List ℕ)) → ℕ → Type 0
+  abbrev pub IsStoredAs : {K : Type 0} → clock_of.Ghosts K → Service → List Entry → F → F → K
+      → (left0 left1 held0 held1 : Option (List ℕ)) → ℕ → Type 0
   IsStoredAs clock Lines entries f g was left0 left1 held0 held1 status = IsStoredRun clock entries f g was left0 left1 held0 held1 status
-  IsStoredAs clock (Play wavelet) entries f g was left0 left1 held0 held1 status = IsReadRun (λ hs. IsPlayed hs wavelet left0 left1 held0 held1 status) entries f g
-  IsStoredAs clock (Inbox user) entries f g was left0 left1 held0 held1 status = IsReadRun (λ hs. IsListed hs user left0 left1 held0 held1 status) entries f g
+  IsStoredAs clock (Play wavelet) entries f g was left0 left1 held0 held1 status = IsReadRun
+      (λ hs. IsPlayed hs wavelet left0 left1 held0 held1 status) entries f g
+  IsStoredAs clock (Inbox user) entries f g was left0 left1 held0 held1 status = IsReadRun
+      (λ hs. IsListed hs user left0 left1 held0 held1 status) entries f g

@@ -25,7 +25,8 @@ fn play_history<S: Source, W: Sink>(
     source: &mut S,
     sink: &mut W,
 ) -> u8
-    ensures played { IsObeyed player (at_version history.now 0) (S.left source.old) (S.left source.new) (W.written sink.old) (W.written sink.new) result }
+    ensures played { IsObeyed player (at_version history.now 0) (S.left source.old) (S.left source.new) (W.written sink.old)
+        (W.written sink.new) result }
     ensures source_failed { result ≡ 3 → Rose (S.faults source.old) (S.faults source.new) }
     ensures sink_failed { result ≡ 4 → Rose (W.faults sink.old) (W.faults sink.new) }
     ensures known { IsCommandStatus result }
@@ -42,7 +43,8 @@ pub fn play_over<S: Source, W: Sink, F: Folder>(
     source: &mut S,
     sink: &mut W,
 ) -> u8
-    ensures played { IsPlayed (hosted_of shelf.now) wavelet (S.left source.old) (S.left source.new) (W.written sink.old) (W.written sink.new) result }
+    ensures played { IsPlayed (hosted_of shelf.now) wavelet (S.left source.old) (S.left source.new) (W.written sink.old)
+        (W.written sink.new) result }
     ensures source_failed { result ≡ 3 → Rose (S.faults source.old) (S.faults source.new) }
     ensures sink_failed { result ≡ 4 → Rose (W.faults sink.old) (W.faults sink.new) }
     ensures known { IsCommandStatus result }
@@ -61,7 +63,8 @@ fn answer_inbox<S: Source, W: Sink>(
     source: &mut S,
     sink: &mut W,
 ) -> u8
-    ensures listed { IsObeyed clerk (inbox_of machine) (S.left source.old) (S.left source.new) (W.written sink.old) (W.written sink.new) result }
+    ensures listed { IsObeyed clerk (inbox_of machine) (S.left source.old) (S.left source.new) (W.written sink.old)
+        (W.written sink.new) result }
     ensures source_failed { result ≡ 3 → Rose (S.faults source.old) (S.faults source.new) }
     ensures sink_failed { result ≡ 4 → Rose (W.faults sink.old) (W.faults sink.new) }
     ensures known { IsCommandStatus result }
@@ -78,7 +81,8 @@ pub fn inbox_over<S: Source, W: Sink, F: Folder>(
     source: &mut S,
     sink: &mut W,
 ) -> u8
-    ensures listed { IsListed (hosted_of shelf.now) user (S.left source.old) (S.left source.new) (W.written sink.old) (W.written sink.new) result }
+    ensures listed { IsListed (hosted_of shelf.now) user (S.left source.old) (S.left source.new) (W.written sink.old)
+        (W.written sink.new) result }
     ensures source_failed { result ≡ 3 → Rose (S.faults source.old) (S.faults source.new) }
     ensures sink_failed { result ≡ 4 → Rose (W.faults sink.old) (W.faults sink.new) }
     ensures known { IsCommandStatus result }

@@ -30,7 +30,8 @@ pub fn write_damage<W: Sink>(
     file: &str,
     offset: u64,
 ) -> Result<(), Memory>
-    ensures told { OnOk result (IsWritten (W.written sink.old) (W.written sink.new) (W.faults sink.old) (W.faults sink.new) (damage_line file.now offset)) }
+    ensures told { OnOk result (IsWritten (W.written sink.old) (W.written sink.new) (W.faults sink.old) (W.faults sink.new)
+        (damage_line file.now offset)) }
     ensures silent { OnErr result (sink.new ≡ sink.old) }
 {
     let line = line_of_damage(alloc, file, offset)?;

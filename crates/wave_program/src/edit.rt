@@ -23,7 +23,8 @@ pub fn edit_over<S: Source, W: Sink, N: Net>(
     connect: &str,
 ) -> u8
     requires key { client ≤ max_count }
-    ensures edited { IsEditRun N.Net N.Link.Link connect.now net.old net.new S.left W.written user client source.old source.new sink.old sink.new result }
+    ensures edited { IsEditRun N.Net N.Link.Link connect.now net.old net.new S.left W.written user client source.old source.new
+        sink.old sink.new result }
     ensures line { result ≡ 7 → Rose (N.line net.old) (N.line net.new) }
     ensures door { N.door net.new ≡ N.door net.old }
     ensures accepted { N.accepted net.new ≡ N.accepted net.old }
@@ -53,7 +54,8 @@ fn edit_on<S: Source, W: Sink, N: Net>(
     requires out { 0 < N.out net.old }
     ensures edited { (used : N.Link) × (N.back net.new ≡ N.back net.old ++ used ∷ [])
         × (N.line net.new ≡ min (N.line net.old + N.Link.faults used) (2 ^ 64 - 1))
-        × IsRunAs N.Link.tells (origin_of user client [] (W.written sink.old)) (N.Link.events used) (S.left source.old) (S.left source.new) (W.written sink.new) result
+        × IsRunAs N.Link.tells (origin_of user client [] (W.written sink.old)) (N.Link.events used) (S.left source.old)
+        (S.left source.new) (W.written sink.new) result
         × (N.Link.closed used ≡ (result == 11))
         × (result ≡ 7 → Rose 0 (N.Link.faults used)) }
     ensures asked { IsTrue N.tells → N.asked net.new ≡ N.asked net.old }

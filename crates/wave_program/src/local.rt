@@ -48,7 +48,8 @@ pub fn obey<S: Source, W: Sink, F: Folder + Drop, C: Clock>(
     requires small { (n : ℕ) → shown command ≡ Load n → n ≤ 100000 }
     // Lines: they are answered, over no history.
     ensures served { shown command.entry ≡ Pipe None
-        → IsRun C.Clock (answers_over []) clock.old (S.left source.old) (S.left source.new) (W.written sink.old) (W.written sink.new) result }
+        → IsRun C.Clock (answers_over []) clock.old (S.left source.old) (S.left source.new) (W.written sink.old)
+        (W.written sink.new) result }
     ensures complete { shown command.entry ≡ Pipe None
         → (Rose (S.faults source.old) (S.faults source.new) → ⊥)
         → (Rose (W.faults sink.old) (W.faults sink.new) → ⊥)
@@ -59,10 +60,14 @@ pub fn obey<S: Source, W: Sink, F: Folder + Drop, C: Clock>(
     // refused. Lines are answered over the histories for which they stand, and what is sent stands there; commands of a playback or of
     // an inbox are answered over these histories, and each file is as it was, but for what a sync settles. Or no line was read, and
     // each file is so.
-    ensures stored { (path : List ℕ) (service : Service) → service_of (Some (shown command.entry)) ≡ Some (path, service) → IsTrue F.tells → IsTrue F.Disk.tells
-        → IsStoredAs F.Folder F.Disk.Disk C.Clock service (entered_at F.Folder path folder.old) folder.old folder.new clock.old (S.left source.old) (S.left source.new) (W.written sink.old) (W.written sink.new) result
-        ⊎ ((source.new ≡ source.old) × IsUnloaded F.Folder F.Disk.Disk (entered_at F.Folder path folder.old) folder.old folder.new (W.written sink.old) (W.written sink.new) (W.faults sink.old) (W.faults sink.new) result) }
-    ensures stored_complete { (path : List ℕ) (service : Service) → service_of (Some (shown command.entry)) ≡ Some (path, service) → IsTrue F.tells → IsTrue F.Disk.tells
+    ensures stored { (path : List ℕ) (service : Service) → service_of (Some (shown command.entry)) ≡ Some (path, service)
+        → IsTrue F.tells → IsTrue F.Disk.tells
+        → IsStoredAs F.Folder F.Disk.Disk C.Clock service (entered_at F.Folder path folder.old) folder.old folder.new clock.old
+        (S.left source.old) (S.left source.new) (W.written sink.old) (W.written sink.new) result
+        ⊎ ((source.new ≡ source.old) × IsUnloaded F.Folder F.Disk.Disk (entered_at F.Folder path folder.old) folder.old folder.new
+        (W.written sink.old) (W.written sink.new) (W.faults sink.old) (W.faults sink.new) result) }
+    ensures stored_complete { (path : List ℕ) (service : Service) → service_of (Some (shown command.entry)) ≡ Some (path, service)
+        → IsTrue F.tells → IsTrue F.Disk.tells
         → ((file : List ℕ) → IsSound F.Disk.view (F.files folder.old file) file)
         → (Rose (S.faults source.old) (S.faults source.new) → ⊥)
         → (Rose (W.faults sink.old) (W.faults sink.new) → ⊥)

@@ -1,23 +1,18 @@
 // The commands over a net: a server, and its clients.
-ghost use Rattle.std.specs.Prelude.{◌≡◌, ◌<◌, ◌⊎◌, ◌+◌, ◌-◌, ◌^◌, ℕ, List, length, map, min, vec_len, true, false, [], ◌≤◌, Some, None, is_some, option_map, IsTrue, IsSome, IfSome};
+ghost use Rattle.std.specs.Prelude.{◌≡◌, ℕ, List, map, vec_len, true, false, ◌≤◌, Some, is_some, option_map};
 ghost use denote.Param.Send.{IsSend};
 ghost use Rattle.command_words.specs.Commands.{needs_net, Edit};
 ghost use Rattle.command_words.specs.Shown.{shown};
 ghost use Rattle.doc_items.specs.Limits.{max_count};
 ghost use Rattle.wave_outside.specs.Counts.{Rose};
 ghost use Rattle.peer_rounds.specs.Peers.{names_by};
-ghost use Rattle.peer_rounds.specs.Stands.{AreDialled};
-ghost use Rattle.shard_marks.specs.Passes.{marks_of};
 ghost use Rattle.shard_marks.specs.Servers.{server as server_by};
 ghost use Rattle.robot_host.specs.Hosts.{host_as, IsNew};
-ghost use Rattle.wave_server.specs.Meeting.{HasMet};
-ghost use Rattle.wave_server.specs.Robots.{WereServed};
-ghost use Rattle.wave_server.specs.Running.{BeginWith, HasServed};
-ghost use Rattle.wave_server.specs.Statuses.{IsServerStatus};
+ghost use Rattle.wave_server.specs.Runs.{HasRun};
 ghost use Rattle.wave_program.specs.Edit.{IfEdit, IsClient, HasNetCause, IsEditRun};
-ghost use Rattle.wave_program.specs.Net.{IfServe, IsServer, IsServedFrom, IsEntered, AreLeft};
+ghost use Rattle.wave_program.specs.Net.{IfServe, IsServer, IsHostedFrom, IsHosted};
 ghost use Rattle.wave_program.specs.Run.{IsStatus};
-ghost use Rattle.wave_program.specs.Store.{entered_at, IsUnloaded};
+ghost use Rattle.wave_program.specs.Store.{entered_at};
 ghost use Rattle.wave_program.specs.Words.{IsStoring};
 
 use crate::edit::edit_over;
@@ -57,46 +52,35 @@ pub fn net_command<
     requires new { IsNew (host_as ⟦<dyn Robot as Robot>⟧ robots.old) }
     requires net { needs_net (shown command) ≡ true }
     requires key { (user connect : List ℕ) (k : ℕ) → shown command ≡ Edit user k connect → k ≤ max_count }
-    requires empty { (vec_len outside.old.server.ended ≡ 0) × (is_some outside.old.server.spent ≡ false) × (is_some outside.old.server.passes ≡ false) }
-    ensures served { IfServe (Some (shown command.entry)) (λ domain listen peers sessions store.
-        IfSome outside.new.server.passes (λ p. HasServed N.Link.Link (server_by domain (map (λ a. a.0) peers)) (marks_of p)
-        (is_some outside.new.server.spent) (N.back outside.old.server.net) (N.back outside.new.server.net) outside.new.server.ended.items)) }
-    ensures done { IfServe (Some (shown command.entry)) (λ domain listen peers sessions store.
-        result ≡ 0 → (n : ℕ) × (sessions ≡ Some n) × (vec_len outside.new.server.ended ≡ n) × (is_some outside.new.server.passes ≡ true)
-        × (N.accepted outside.old.server.net < 2 ^ 64 → N.accepted outside.new.server.net ≡ min (N.accepted outside.old.server.net + n) (2 ^ 64 - 1))) }
-    ensures met { IfServe (Some (shown command.entry)) (λ domain listen peers sessions store.
-        result ≡ 0 → HasMet N.Link.Link (N.back outside.old.server.net) (N.back outside.new.server.net) (N.line outside.old.server.net)
-        (N.line outside.new.server.net) domain (length peers) outside.new.server.ended.items) }
-    ensures dialled { IfServe (Some (shown command.entry)) (λ domain listen peers sessions store.
-        result ≡ 0 → IsTrue N.tells → AreDialled (N.asked outside.new.server.net) (names_by domain peers)) }
-    ensures robots { IfServe (Some (shown command.entry)) (λ domain listen peers sessions store.
-        result ≡ 0 → IfSome outside.new.server.passes (λ p. WereServed domain (marks_of p) (host_as ⟦<dyn Robot as Robot>⟧ robots.new))) }
-    ensures robots_left { (IsServer (Some (shown command.entry)) → ⊥) → robots.new ≡ robots.old }
-    ensures plain { IfServe (Some (shown command.entry)) (λ domain listen peers sessions store. store ≡ None → IfSome outside.new.server.passes (λ p. BeginWith domain [] (marks_of p))) }
+    requires empty { (vec_len outside.old.server.ended ≡ 0) × (is_some outside.old.server.spent ≡ false)
+        × (is_some outside.old.server.passes ≡ false) }
+    ensures run { IfServe (Some (shown command.entry)) (λ domain listen peers sessions store.
+        HasRun N.Net N.Link.Link (server_by domain (map (λ a. a.0) peers)) domain (names_by domain peers) sessions
+        outside.old.server.net outside.new.server.net outside.new.server.ended.items (vec_len outside.new.server.ended)
+        outside.new.server.passes (is_some outside.new.server.spent) (host_as ⟦<dyn Robot as Robot>⟧ robots.new)
+        (P.refused outside.old.server.spawner) (P.refused outside.new.server.spawner) result) }
+    ensures hosted { IfServe (Some (shown command.entry)) (λ domain listen peers sessions store.
+        IsHosted F.Folder F.Disk.Disk W.Sink domain store outside.new.server.passes outside.old.folder outside.new.folder
+        outside.old.sink outside.new.sink result) }
+    ensures source { IfServe (Some (shown command.entry))
+        (λ domain listen peers sessions store. outside.new.source ≡ outside.old.source) }
     ensures alone { (IsStoring (Some (shown command.entry)) → ⊥) → outside.new.folder ≡ outside.old.folder }
-    ensures silent { IfServe (Some (shown command.entry)) (λ domain listen peers sessions store. (result ≡ 6 → ⊥) → outside.new.sink ≡ outside.old.sink) }
-    ensures entered { IfServe (Some (shown command.entry)) (λ domain listen peers sessions store. IfSome store (λ path. IsTrue F.tells
-        → IsEntered F.Folder (entered_at F.Folder path outside.old.folder) outside.old.folder outside.new.folder result)) }
-    ensures stored { IfServe (Some (shown command.entry)) (λ domain listen peers sessions store. IfSome store (λ path. IsTrue F.tells → IsTrue F.Disk.tells
-        → IfSome outside.new.server.passes (λ p. IsServedFrom F.Folder F.Disk.Disk domain (marks_of p) (entered_at F.Folder path outside.old.folder) outside.old.folder outside.new.folder))) }
-    ensures unloaded { IfServe (Some (shown command.entry)) (λ domain listen peers sessions store. IfSome store (λ path. IsTrue F.tells → IsTrue F.Disk.tells → (result ≡ 5) ⊎ (result ≡ 6)
-        → IsUnloaded F.Folder F.Disk.Disk (entered_at F.Folder path outside.old.folder) outside.old.folder outside.new.folder (W.written outside.old.sink) (W.written outside.new.sink) (W.faults outside.old.sink) (W.faults outside.new.sink) result)) }
-    ensures left { IfServe (Some (shown command.entry)) (λ domain listen peers sessions store. IsTrue F.tells → IsTrue F.Disk.tells → is_some outside.new.server.passes ≡ false
-        → AreLeft F.Folder F.Disk.Disk outside.old.folder outside.new.folder) }
+    ensures robots_left { (IsServer (Some (shown command.entry)) → ⊥) → robots.new ≡ robots.old }
     ensures edited { IfEdit (Some (shown command.entry)) (λ user client connect.
-        IsEditRun N.Net N.Link.Link connect outside.old.server.net outside.new.server.net S.left W.written user client outside.old.source outside.new.source outside.old.sink outside.new.sink result) }
+        IsEditRun N.Net N.Link.Link connect outside.old.server.net outside.new.server.net S.left W.written user client
+        outside.old.source outside.new.source outside.old.sink outside.new.sink result) }
     ensures unserved { IfEdit (Some (shown command.entry)) (λ user client connect.
-        (outside.new.server.ended ≡ outside.old.server.ended) × (outside.new.server.spent ≡ outside.old.server.spent) × (outside.new.server.passes ≡ outside.old.server.passes)) }
+        (outside.new.server.ended ≡ outside.old.server.ended) × (outside.new.server.spent ≡ outside.old.server.spent)
+        × (outside.new.server.passes ≡ outside.old.server.passes)) }
     ensures net_failed { result ≡ 7 → HasNetCause (Some (shown command.entry))
-        (Rose (N.door outside.old.server.net) (N.door outside.new.server.net)) (Rose (N.line outside.old.server.net) (N.line outside.new.server.net)) }
+        (Rose (N.door outside.old.server.net) (N.door outside.new.server.net))
+        (Rose (N.line outside.old.server.net) (N.line outside.new.server.net)) }
     ensures closed { result ≡ 11 → IsClient (Some (shown command.entry)) }
     ensures source_failed { result ≡ 3 → Rose (S.faults outside.old.source) (S.faults outside.new.source) }
     ensures sink_failed { result ≡ 4 → Rose (W.faults outside.old.sink) (W.faults outside.new.sink) }
     ensures refused { result ≡ 9 → Rose (P.refused outside.old.server.spawner) (P.refused outside.new.server.spawner) }
     ensures spent { (result ≡ 12 → is_some outside.new.server.spent ≡ true) × (is_some outside.new.server.spent ≡ true → result ≡ 12) }
-    ensures source { IfServe (Some (shown command.entry)) (λ domain listen peers sessions store. outside.new.source ≡ outside.old.source) }
     ensures store_failed { result ≡ 5 → Rose (F.faults outside.old.folder) (F.faults outside.new.folder) }
-    ensures served_status { IfServe (Some (shown command.entry)) (λ domain listen peers sessions store. IsServerStatus result ⊎ ((result ≡ 5) ⊎ (result ≡ 6))) }
     ensures known { IsStatus result × (result ≡ 2 → ⊥) }
     ensures damaged { result ≡ 6 → IsStoring (Some (shown command.entry)) }
 {
@@ -158,32 +142,15 @@ fn serve_net<
 ) -> u8
     requires sends { IsSend R.row }
     requires new { IsNew (host_as ⟦<dyn Robot as Robot>⟧ robots.old) }
-    requires empty { (vec_len outside.old.server.ended ≡ 0) × (is_some outside.old.server.spent ≡ false) × (is_some outside.old.server.passes ≡ false) }
-    ensures served { IfSome outside.new.server.passes (λ p. HasServed N.Link.Link (server_by domain (map (λ a. a.0) peers.now)) (marks_of p)
-        (is_some outside.new.server.spent) (N.back outside.old.server.net) (N.back outside.new.server.net) outside.new.server.ended.items) }
-    ensures done { result ≡ 0 → (n : ℕ) × (sessions ≡ Some n) × (vec_len outside.new.server.ended ≡ n) × (is_some outside.new.server.passes ≡ true)
-        × (N.accepted outside.old.server.net < 2 ^ 64 → N.accepted outside.new.server.net ≡ min (N.accepted outside.old.server.net + n) (2 ^ 64 - 1)) }
-    ensures met { result ≡ 0 → HasMet N.Link.Link (N.back outside.old.server.net) (N.back outside.new.server.net) (N.line outside.old.server.net)
-        (N.line outside.new.server.net) domain (length peers.now) outside.new.server.ended.items }
-    ensures dialled { result ≡ 0 → IsTrue N.tells → AreDialled (N.asked outside.new.server.net) (names_by domain peers.now) }
-    ensures robots { result ≡ 0 → IfSome outside.new.server.passes (λ p. WereServed domain (marks_of p) (host_as ⟦<dyn Robot as Robot>⟧ robots.new)) }
-    ensures door { result ≡ 7 → Rose (N.door outside.old.server.net) (N.door outside.new.server.net) }
-    ensures refused { result ≡ 9 → Rose (P.refused outside.old.server.spawner) (P.refused outside.new.server.spawner) }
-    ensures spent { (result ≡ 12 → is_some outside.new.server.spent ≡ true) × (is_some outside.new.server.spent ≡ true → result ≡ 12) }
+    requires empty { (vec_len outside.old.server.ended ≡ 0) × (is_some outside.old.server.spent ≡ false)
+        × (is_some outside.old.server.passes ≡ false) }
+    ensures run { HasRun N.Net N.Link.Link (server_by domain (map (λ a. a.0) peers.now)) domain (names_by domain peers.now) sessions
+        outside.old.server.net outside.new.server.net outside.new.server.ended.items (vec_len outside.new.server.ended)
+        outside.new.server.passes (is_some outside.new.server.spent) (host_as ⟦<dyn Robot as Robot>⟧ robots.new)
+        (P.refused outside.old.server.spawner) (P.refused outside.new.server.spawner) result }
+    ensures hosted { IsHosted F.Folder F.Disk.Disk W.Sink domain (option_map (λ s. s.now) store.entry) outside.new.server.passes
+        outside.old.folder outside.new.folder outside.old.sink outside.new.sink result }
     ensures source { outside.new.source ≡ outside.old.source }
-    ensures plain { store.entry ≡ None → IfSome outside.new.server.passes (λ p. BeginWith domain [] (marks_of p)) }
-    ensures alone { store.entry ≡ None → outside.new.folder ≡ outside.old.folder }
-    ensures silent { (result ≡ 6 → ⊥) → outside.new.sink ≡ outside.old.sink }
-    ensures entered { IfSome (option_map (λ s. s.now) store.entry) (λ path. IsTrue F.tells
-        → IsEntered F.Folder (entered_at F.Folder path outside.old.folder) outside.old.folder outside.new.folder result) }
-    ensures stored { IfSome (option_map (λ s. s.now) store.entry) (λ path. IsTrue F.tells → IsTrue F.Disk.tells
-        → IfSome outside.new.server.passes (λ p. IsServedFrom F.Folder F.Disk.Disk domain (marks_of p) (entered_at F.Folder path outside.old.folder) outside.old.folder outside.new.folder)) }
-    ensures unloaded { IfSome (option_map (λ s. s.now) store.entry) (λ path. IsTrue F.tells → IsTrue F.Disk.tells → (result ≡ 5) ⊎ (result ≡ 6)
-        → IsUnloaded F.Folder F.Disk.Disk (entered_at F.Folder path outside.old.folder) outside.old.folder outside.new.folder (W.written outside.old.sink) (W.written outside.new.sink) (W.faults outside.old.sink) (W.faults outside.new.sink) result) }
-    ensures left { IsTrue F.tells → IsTrue F.Disk.tells → is_some outside.new.server.passes ≡ false → AreLeft F.Folder F.Disk.Disk outside.old.folder outside.new.folder }
-    ensures store_failed { result ≡ 5 → Rose (F.faults outside.old.folder) (F.faults outside.new.folder) }
-    ensures known { IsServerStatus result ⊎ ((result ≡ 5) ⊎ (result ≡ 6)) }
-    ensures damaged { result ≡ 6 → IsSome store.entry }
 {
     match store {
         None => {
@@ -230,27 +197,15 @@ fn serve_path<
 ) -> u8
     requires sends { IsSend R.row }
     requires new { IsNew (host_as ⟦<dyn Robot as Robot>⟧ robots.old) }
-    requires empty { (vec_len outside.old.server.ended ≡ 0) × (is_some outside.old.server.spent ≡ false) × (is_some outside.old.server.passes ≡ false) }
-    ensures served { IfSome outside.new.server.passes (λ p. HasServed N.Link.Link (server_by domain (map (λ a. a.0) peers.now)) (marks_of p)
-        (is_some outside.new.server.spent) (N.back outside.old.server.net) (N.back outside.new.server.net) outside.new.server.ended.items) }
-    ensures done { result ≡ 0 → (n : ℕ) × (sessions ≡ Some n) × (vec_len outside.new.server.ended ≡ n) × (is_some outside.new.server.passes ≡ true)
-        × (N.accepted outside.old.server.net < 2 ^ 64 → N.accepted outside.new.server.net ≡ min (N.accepted outside.old.server.net + n) (2 ^ 64 - 1)) }
-    ensures met { result ≡ 0 → HasMet N.Link.Link (N.back outside.old.server.net) (N.back outside.new.server.net) (N.line outside.old.server.net)
-        (N.line outside.new.server.net) domain (length peers.now) outside.new.server.ended.items }
-    ensures dialled { result ≡ 0 → IsTrue N.tells → AreDialled (N.asked outside.new.server.net) (names_by domain peers.now) }
-    ensures robots { result ≡ 0 → IfSome outside.new.server.passes (λ p. WereServed domain (marks_of p) (host_as ⟦<dyn Robot as Robot>⟧ robots.new)) }
-    ensures door { result ≡ 7 → Rose (N.door outside.old.server.net) (N.door outside.new.server.net) }
-    ensures refused { result ≡ 9 → Rose (P.refused outside.old.server.spawner) (P.refused outside.new.server.spawner) }
-    ensures spent { (result ≡ 12 → is_some outside.new.server.spent ≡ true) × (is_some outside.new.server.spent ≡ true → result ≡ 12) }
+    requires empty { (vec_len outside.old.server.ended ≡ 0) × (is_some outside.old.server.spent ≡ false)
+        × (is_some outside.old.server.passes ≡ false) }
+    ensures run { HasRun N.Net N.Link.Link (server_by domain (map (λ a. a.0) peers.now)) domain (names_by domain peers.now) sessions
+        outside.old.server.net outside.new.server.net outside.new.server.ended.items (vec_len outside.new.server.ended)
+        outside.new.server.passes (is_some outside.new.server.spent) (host_as ⟦<dyn Robot as Robot>⟧ robots.new)
+        (P.refused outside.old.server.spawner) (P.refused outside.new.server.spawner) result }
+    ensures hosted { IsHostedFrom F.Folder F.Disk.Disk W.Sink domain (entered_at F.Folder path.now outside.old.folder)
+        outside.new.server.passes outside.old.folder outside.new.folder outside.old.sink outside.new.sink result }
     ensures source { outside.new.source ≡ outside.old.source }
-    ensures silent { (result ≡ 6 → ⊥) → outside.new.sink ≡ outside.old.sink }
-    ensures entered { IsTrue F.tells → IsEntered F.Folder (entered_at F.Folder path.now outside.old.folder) outside.old.folder outside.new.folder result }
-    ensures stored { IsTrue F.tells → IsTrue F.Disk.tells → IfSome outside.new.server.passes (λ p. IsServedFrom F.Folder F.Disk.Disk domain (marks_of p) (entered_at F.Folder path.now outside.old.folder) outside.old.folder outside.new.folder) }
-    ensures unloaded { IsTrue F.tells → IsTrue F.Disk.tells → (result ≡ 5) ⊎ (result ≡ 6)
-        → IsUnloaded F.Folder F.Disk.Disk (entered_at F.Folder path.now outside.old.folder) outside.old.folder outside.new.folder (W.written outside.old.sink) (W.written outside.new.sink) (W.faults outside.old.sink) (W.faults outside.new.sink) result }
-    ensures left { IsTrue F.tells → IsTrue F.Disk.tells → is_some outside.new.server.passes ≡ false → AreLeft F.Folder F.Disk.Disk outside.old.folder outside.new.folder }
-    ensures store_failed { result ≡ 5 → Rose (F.faults outside.old.folder) (F.faults outside.new.folder) }
-    ensures known { IsServerStatus result ⊎ ((result ≡ 5) ⊎ (result ≡ 6)) }
 {
     match outside.folder.enter(alloc, path) {
         Ok(()) => serve_folder(rt, alloc, domain, peers, listen, sessions, outside, robots),
@@ -281,27 +236,15 @@ fn serve_folder<
 ) -> u8
     requires sends { IsSend R.row }
     requires new { IsNew (host_as ⟦<dyn Robot as Robot>⟧ robots.old) }
-    requires empty { (vec_len outside.old.server.ended ≡ 0) × (is_some outside.old.server.spent ≡ false) × (is_some outside.old.server.passes ≡ false) }
-    ensures served { IfSome outside.new.server.passes (λ p. HasServed N.Link.Link (server_by domain (map (λ a. a.0) peers.now)) (marks_of p)
-        (is_some outside.new.server.spent) (N.back outside.old.server.net) (N.back outside.new.server.net) outside.new.server.ended.items) }
-    ensures done { result ≡ 0 → (n : ℕ) × (sessions ≡ Some n) × (vec_len outside.new.server.ended ≡ n) × (is_some outside.new.server.passes ≡ true)
-        × (N.accepted outside.old.server.net < 2 ^ 64 → N.accepted outside.new.server.net ≡ min (N.accepted outside.old.server.net + n) (2 ^ 64 - 1)) }
-    ensures met { result ≡ 0 → HasMet N.Link.Link (N.back outside.old.server.net) (N.back outside.new.server.net) (N.line outside.old.server.net)
-        (N.line outside.new.server.net) domain (length peers.now) outside.new.server.ended.items }
-    ensures dialled { result ≡ 0 → IsTrue N.tells → AreDialled (N.asked outside.new.server.net) (names_by domain peers.now) }
-    ensures robots { result ≡ 0 → IfSome outside.new.server.passes (λ p. WereServed domain (marks_of p) (host_as ⟦<dyn Robot as Robot>⟧ robots.new)) }
-    ensures door { result ≡ 7 → Rose (N.door outside.old.server.net) (N.door outside.new.server.net) }
-    ensures refused { result ≡ 9 → Rose (P.refused outside.old.server.spawner) (P.refused outside.new.server.spawner) }
-    ensures spent { (result ≡ 12 → is_some outside.new.server.spent ≡ true) × (is_some outside.new.server.spent ≡ true → result ≡ 12) }
+    requires empty { (vec_len outside.old.server.ended ≡ 0) × (is_some outside.old.server.spent ≡ false)
+        × (is_some outside.old.server.passes ≡ false) }
+    ensures run { HasRun N.Net N.Link.Link (server_by domain (map (λ a. a.0) peers.now)) domain (names_by domain peers.now) sessions
+        outside.old.server.net outside.new.server.net outside.new.server.ended.items (vec_len outside.new.server.ended)
+        outside.new.server.passes (is_some outside.new.server.spent) (host_as ⟦<dyn Robot as Robot>⟧ robots.new)
+        (P.refused outside.old.server.spawner) (P.refused outside.new.server.spawner) result }
+    ensures hosted { IsHostedFrom F.Folder F.Disk.Disk W.Sink domain (F.log outside.old.folder).entries outside.new.server.passes
+        outside.old.folder outside.new.folder outside.old.sink outside.new.sink result }
     ensures source { outside.new.source ≡ outside.old.source }
-    ensures silent { (result ≡ 6 → ⊥) → outside.new.sink ≡ outside.old.sink }
-    ensures entered { IsTrue F.tells → (F.log outside.new.folder).entries ≡ (F.log outside.old.folder).entries }
-    ensures stored { IsTrue F.tells → IsTrue F.Disk.tells → IfSome outside.new.server.passes (λ p. IsServedFrom F.Folder F.Disk.Disk domain (marks_of p) (F.log outside.old.folder).entries outside.old.folder outside.new.folder) }
-    ensures unloaded { IsTrue F.tells → IsTrue F.Disk.tells → (result ≡ 5) ⊎ (result ≡ 6)
-        → IsUnloaded F.Folder F.Disk.Disk (F.log outside.old.folder).entries outside.old.folder outside.new.folder (W.written outside.old.sink) (W.written outside.new.sink) (W.faults outside.old.sink) (W.faults outside.new.sink) result }
-    ensures left { IsTrue F.tells → IsTrue F.Disk.tells → is_some outside.new.server.passes ≡ false → AreLeft F.Folder F.Disk.Disk outside.old.folder outside.new.folder }
-    ensures store_failed { result ≡ 5 → Rose (F.faults outside.old.folder) (F.faults outside.new.folder) }
-    ensures known { IsServerStatus result ⊎ ((result ≡ 5) ⊎ (result ≡ 6)) }
 {
     let Ok(other) = outside.folder.another(alloc) else {
         return 8;

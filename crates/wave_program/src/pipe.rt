@@ -36,7 +36,8 @@ pub fn serve_over<S: Source, W: Sink, F: Folder + Drop, C: Clock>(
     sink: &mut W,
     clock: &mut C,
 ) -> (Shelf<F>, u8)
-    ensures over { IsOver C.Clock shelf result.0 clock.old (S.left source.old) (S.left source.new) (W.written sink.old) (W.written sink.new) result.1 }
+    ensures over { IsOver C.Clock shelf result.0 clock.old (S.left source.old) (S.left source.new) (W.written sink.old)
+        (W.written sink.new) result.1 }
     ensures source_failed { result.1 ≡ 3 → Rose (S.faults source.old) (S.faults source.new) }
     ensures sink_failed { result.1 ≡ 4 → Rose (W.faults sink.old) (W.faults sink.new) }
     ensures store_failed { result.1 ≡ 5 → Rose (store_faults shelf) (store_faults result.0) }
@@ -57,7 +58,8 @@ pub fn serve<S: Source, W: Sink, F: Folder + Drop, C: Clock>(
 ) -> u8
     requires plain { in_folder shelf ≡ None }
     requires empty { entries_of shelf ≡ [] }
-    ensures served { IsRun C.Clock (answers_over []) clock.old (S.left source.old) (S.left source.new) (W.written sink.old) (W.written sink.new) result }
+    ensures served { IsRun C.Clock (answers_over []) clock.old (S.left source.old) (S.left source.new) (W.written sink.old)
+        (W.written sink.new) result }
     ensures source_failed { result ≡ 3 → Rose (S.faults source.old) (S.faults source.new) }
     ensures sink_failed { result ≡ 4 → Rose (W.faults sink.old) (W.faults sink.new) }
     ensures known { (result ≡ 0) ⊎ ((result ≡ 3) ⊎ ((result ≡ 4) ⊎ ((result ≡ 8) ⊎ (result ≡ 10)))) }

@@ -43,7 +43,8 @@ impl Service {
         clock: &mut C,
     ) -> (Shelf<F>, u8)
         requires { IsSome (in_folder shelf) }
-        ensures done { IsDone C.Clock self shelf result.0 clock.old (S.left source.old) (S.left source.new) (W.written sink.old) (W.written sink.new) result.1 }
+        ensures done { IsDone C.Clock self shelf result.0 clock.old (S.left source.old) (S.left source.new) (W.written sink.old)
+            (W.written sink.new) result.1 }
         ensures folder { IsSome (in_folder result.0) }
         ensures source_failed { result.1 ≡ 3 → Rose (S.faults source.old) (S.faults source.new) }
         ensures sink_failed { result.1 ≡ 4 → Rose (W.faults sink.old) (W.faults sink.new) }

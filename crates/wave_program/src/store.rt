@@ -28,8 +28,10 @@ pub fn serve_stored<S: Source, W: Sink, F: Folder + Drop, C: Clock>(
     clock: &mut C,
 ) -> u8
     ensures stored { IsTrue F.tells → IsTrue F.Disk.tells
-        → IsStoredAs F.Folder F.Disk.Disk C.Clock service (entered_at F.Folder path.now folder.old) folder.old folder.new clock.old (S.left source.old) (S.left source.new) (W.written sink.old) (W.written sink.new) result
-        ⊎ ((source.new ≡ source.old) × IsUnloaded F.Folder F.Disk.Disk (entered_at F.Folder path.now folder.old) folder.old folder.new (W.written sink.old) (W.written sink.new) (W.faults sink.old) (W.faults sink.new) result) }
+        → IsStoredAs F.Folder F.Disk.Disk C.Clock service (entered_at F.Folder path.now folder.old) folder.old folder.new clock.old
+        (S.left source.old) (S.left source.new) (W.written sink.old) (W.written sink.new) result
+        ⊎ ((source.new ≡ source.old) × IsUnloaded F.Folder F.Disk.Disk (entered_at F.Folder path.now folder.old) folder.old
+        folder.new (W.written sink.old) (W.written sink.new) (W.faults sink.old) (W.faults sink.new) result) }
     ensures source_failed { result ≡ 3 → Rose (S.faults source.old) (S.faults source.new) }
     ensures sink_failed { result ≡ 4 → Rose (W.faults sink.old) (W.faults sink.new) }
     ensures store_failed { result ≡ 5 → Rose (F.faults folder.old) (F.faults folder.new) }
@@ -52,8 +54,10 @@ fn serve_folder<S: Source, W: Sink, F: Folder + Drop, C: Clock>(
     clock: &mut C,
 ) -> u8
     ensures stored { IsTrue F.tells → IsTrue F.Disk.tells
-        → IsStoredAs F.Folder F.Disk.Disk C.Clock service (F.log folder.old).entries folder.old folder.new clock.old (S.left source.old) (S.left source.new) (W.written sink.old) (W.written sink.new) result
-        ⊎ ((source.new ≡ source.old) × IsUnloaded F.Folder F.Disk.Disk (F.log folder.old).entries folder.old folder.new (W.written sink.old) (W.written sink.new) (W.faults sink.old) (W.faults sink.new) result) }
+        → IsStoredAs F.Folder F.Disk.Disk C.Clock service (F.log folder.old).entries folder.old folder.new clock.old
+        (S.left source.old) (S.left source.new) (W.written sink.old) (W.written sink.new) result
+        ⊎ ((source.new ≡ source.old) × IsUnloaded F.Folder F.Disk.Disk (F.log folder.old).entries folder.old folder.new
+        (W.written sink.old) (W.written sink.new) (W.faults sink.old) (W.faults sink.new) result) }
     ensures source_failed { result ≡ 3 → Rose (S.faults source.old) (S.faults source.new) }
     ensures sink_failed { result ≡ 4 → Rose (W.faults sink.old) (W.faults sink.new) }
     ensures store_failed { result ≡ 5 → Rose (F.faults folder.old) (F.faults folder.new) }
@@ -90,8 +94,10 @@ fn serve_shelf<S: Source, W: Sink, F: Folder + Drop, C: Clock>(
 ) -> (Shelf<F>, u8)
     requires folder { IsSome (in_folder shelf) }
     requires empty { entries_of shelf ≡ [] }
-    ensures run { IsShelfRun C.Clock service shelf result.0 clock.old (S.left source.old) (S.left source.new) (W.written sink.old) (W.written sink.new) result.1
-        ⊎ ((source.new ≡ source.old) × IsShelfUnloaded shelf result.0 (W.written sink.old) (W.written sink.new) (W.faults sink.old) (W.faults sink.new) result.1) }
+    ensures run { IsShelfRun C.Clock service shelf result.0 clock.old (S.left source.old) (S.left source.new) (W.written sink.old)
+        (W.written sink.new) result.1
+        ⊎ ((source.new ≡ source.old) × IsShelfUnloaded shelf result.0 (W.written sink.old) (W.written sink.new) (W.faults sink.old)
+        (W.faults sink.new) result.1) }
     ensures folder { IsSome (in_folder result.0) }
     ensures source_failed { result.1 ≡ 3 → Rose (S.faults source.old) (S.faults source.new) }
     ensures sink_failed { result.1 ≡ 4 → Rose (W.faults sink.old) (W.faults sink.new) }
@@ -113,7 +119,9 @@ pub(crate) fn tell<W: Sink>(alloc: Global, sink: &mut W, fault: &ShelfFault) -> 
     ensures known { (result ≡ 5) ⊎ ((result ≡ 6) ⊎ (result ≡ 8)) }
     ensures failed { result ≡ 5 → fault.now ≡ Failed }
     ensures silent { (result ≡ 5) ⊎ (result ≡ 8) → sink.new ≡ sink.old }
-    ensures damaged { result ≡ 6 → IsSome (damage_of fault.now) × IfSome (damage_of fault.now) (λ d. IsWritten (W.written sink.old) (W.written sink.new) (W.faults sink.old) (W.faults sink.new) (damage_line d.0 d.1)) }
+    ensures damaged { result ≡ 6 → IsSome (damage_of fault.now)
+        × IfSome (damage_of fault.now) (λ d. IsWritten (W.written sink.old) (W.written sink.new) (W.faults sink.old)
+        (W.faults sink.new) (damage_line d.0 d.1)) }
 {
     match fault {
         ShelfFault::Damaged { file, offset } => {

@@ -1,8 +1,9 @@
 -- What became of peers, when a server ends.
 --     have_met       each was reached or made the count of the line rise, after the last steps of their links
 --     has_met        the links were put back
+--     names_length   there is a name for each peer
 --     same_length    peers with equal names are equally many
---     named_length   peers with the names of pairs are as many
+--     named_length   there is a name for each domain with its address
 --     ready_asked    peers stay ready where nothing was dialled since
 use Rattle.std.proofs.Common.{arith, refl, sym, ap, subst, ◌∙◌, ◌≡◌, inl, ◌<◌, ◌≤◌, ◌+◌, min, ℕ, suc, Bool, true, false, ◌||◌, nat_eq, IsTrue, List, [], ◌∷◌, ◌++◌, All, length}
 use Rattle.std.specs.Str.{encode_utf8_all}
@@ -91,19 +92,12 @@ module _ {L : Type 0} (link : link_of.Ghosts L) (v : ServerOf) (marks : ℕ → 
       }
 
 module _ {L : Type 0} {link : link_of.Ghosts L} where
-  names_length : (ps : List (Peer L link)) → length (names ps) ≡ length ps
+  pub names_length : (ps : List (Peer L link)) → length (names ps) ≡ length ps
   names_length [] = refl
   names_length (p ∷ ps) = ap suc (names_length ps)
 
   pub same_length : (ps qs : List (Peer L link)) → names ps ≡ names qs → length ps ≡ length qs
   same_length ps qs same = sym (names_length ps) ∙ ap length same ∙ names_length qs
-
-  pub named_length : (own : Key) (pairs : List (Key × List ℕ)) (ps : List (Peer L link)) → names ps ≡ names_by own pairs → length ps ≡ length pairs
-  named_length own pairs ps same = sym (names_length ps) ∙ ap length same ∙ by_length pairs
-    where
-      by_length : (pairs : List (Key × List ℕ)) → length (names_by own pairs) ≡ length pairs
-      by_length [] = refl
-      by_length (p ∷ pairs) = ap suc (by_length pairs)
 
   pub ready_asked : (tells : Bool) (asked asked' : List (List ℕ)) (ps : List (Peer L link)) → (IsTrue tells → asked' ≡ asked) → AreReady tells asked ps → AreReady tells asked' ps
   ready_asked tells asked asked' [] same ready = tt
@@ -111,3 +105,7 @@ module _ {L : Type 0} {link : link_of.Ghosts L} where
     record { dialled = λ uncut told. subst (WasDialled (encode_utf8_all p.link.address)) (sym (same told)) (ready.0.dialled uncut told); said = ready.0.said },
     ready_asked tells asked asked' ps same ready.1,
   )
+
+pub named_length : (own : Key) (pairs : List (Key × List ℕ)) → length (names_by own pairs) ≡ length pairs
+named_length own [] = refl
+named_length own (p ∷ pairs) = ap suc (named_length own pairs)

@@ -4,8 +4,8 @@
 --                                of each edit that they answered
 --     AreReady d marks g         so it is of each wavelet of each shard
 --     AreSettledBelow n d marks g      of the shards with numbers below n nothing is left for them
---     WereServed d marks g       of each history that the marks give: each robot that is there, where it tells its calls, was shown its whole
---                                view since it was added, and something came of each edit that it answered
+--     WereServed d marks g       of each history that the marks give: each robot that is there, where it tells its calls, was shown its
+--                                whole view since it was added, and something came of each edit that it answered
 use Rattle.std.specs.Prelude.{◌≡◌, ◌≢◌, ◌<◌, ℕ, Bool, true, false, List, []}
 use Rattle.doc_items.specs.Maps.{Key}
 use Rattle.wavelet_op.specs.declared.verdict.Verdict.{Verdict as Judgement}

@@ -9,7 +9,8 @@
 --     HasServed .. es           so the session of each entry; the links that were put back are those before and more
 --     faults_named back es      the faults of the links that entries name
 --     IsGoing ..                so far, with this many links put back, and the faults of those that entries name are counted as the line's
-use Rattle.std.specs.Prelude.{◌≡◌, ◌≢◌, ◌<◌, ◌≤◌, ◌+◌, ℕ, min, Bool, true, false, IsTrue, List, [], ◌∷◌, drop, filter, length, slice_get, Some}
+use Rattle.std.specs.Prelude.{◌≡◌, ◌≢◌, ◌<◌, ◌≤◌, ◌+◌, ℕ, min, Bool, true, false, IsTrue, List, [], ◌∷◌, drop, filter, length}
+use Rattle.std.specs.Prelude.{slice_get, Some}
 use Rattle.std.specs.List.{All}
 use Rattle.std.specs.Option.{option_map_or}
 use mathlib.Core.List.{IsPrefix}
@@ -75,7 +76,8 @@ module _ {L : Type 0} (link : link_of.Ghosts L) where
   faults_named back (e ∷ es) = option_map_or (λ l. link.faults l) (slice_get back e.place) 0 + faults_named back es
 
   -- `line` is the count of the line, before and now
-  pub record IsGoing (v : ServerOf) (marks : ℕ → List Mark) (spent : Bool) (put : ℕ) (before now : List L) (line line' : ℕ) (ended : List Ended) : Type 0 where
+  pub record IsGoing (v : ServerOf) (marks : ℕ → List Mark) (spent : Bool) (put : ℕ) (before now : List L) (line line' : ℕ)
+      (ended : List Ended) : Type 0 where
     pub served : HasServed v marks spent before now ended
     pub counted : length now ≡ length before + put
     pub raised : min (line + faults_named (returned before now) ended) last_count ≤ line'

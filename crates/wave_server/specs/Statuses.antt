@@ -1,7 +1,8 @@
 -- The status of each stop.
 --     IsStatus s n         this is the status
 --     IsServerStatus n     any that a server may end with
-use Rattle.std.specs.Prelude.{◌≡◌, ◌⊎◌, ℕ}
+--     TellsSpent b r       where a shard was seen to have no turn left a call stops for that, and for nothing of the kind where none was
+use Rattle.std.specs.Prelude.{◌≡◌, ◌≢◌, ◌⊎◌, ℕ, Bool, false, MatchBool, Result, MatchResult}
 use Rattle.wave_server.specs.declared.stop.Stop.{Stop}
 use Rattle.wave_server.specs.declared.stop.Stop.TheVariants.{Door, Memory, Refused, Spent}
 
@@ -13,3 +14,6 @@ IsStatus Spent n = n ≡ 12
 
 abbrev pub IsServerStatus : ℕ → Type 0
 IsServerStatus n = (n ≡ 0) ⊎ ((n ≡ 7) ⊎ ((n ≡ 8) ⊎ ((n ≡ 9) ⊎ (n ≡ 12))))
+
+abbrev pub TellsSpent : {A : Type 0} → Bool → Result A Stop → Type 0
+TellsSpent seen result = MatchResult result (λ _. seen ≡ false) (λ s. MatchBool seen (s ≡ Spent) (s ≢ Spent))

@@ -1,9 +1,11 @@
 // The peers of a server.
-ghost use Rattle.std.specs.Prelude.{◌≡◌, ◌≢◌, ◌≤◌, ◌+◌, ◌-◌, ◌^◌, ℕ, Bool, List, IsTrue, map, min, length, true, false, is_some, IfOk, IfErr, OnOk, MatchBool, MatchResult};
+ghost use Rattle.std.specs.Prelude.{◌≡◌, ◌≢◌, ◌≤◌, ◌+◌, ◌-◌, ◌^◌, IsTrue, map, min, length, false, is_some, IfOk};
+ghost use Rattle.std.specs.Prelude.{IfErr, OnOk, MatchBool};
 ghost use mathlib.Core.List.{IsPrefix};
 ghost use Rattle.peer_rounds.specs.Peers.{held, names};
 ghost use Rattle.peer_rounds.specs.Reached.{HaveReached};
 ghost use Rattle.peer_rounds.specs.Stands.{AreReady, AreDialled};
+ghost use Rattle.wave_server.specs.Statuses.{TellsSpent};
 ghost use Rattle.wave_server.specs.declared.stop.Stop.TheVariants.{Refused, Door, Spent};
 
 use crate::stop::Stop;
@@ -54,8 +56,9 @@ pub(crate) fn meet<R: Wait, N: Net, T: PeerTurns>(
     requires out { held peers.old.list.items ≤ N.out net.old }
     requires unspent { is_some spent.old ≡ false }
     ensures put { OnOk result (length (N.back net.new) + put.old ≡ length (N.back net.old) + put.new) }
-    ensures ready { OnOk result (AreReady N.tells (N.asked net.old) peers.old.list.items → AreReady N.tells (N.asked net.new) peers.new.list.items) }
-    ensures spent { MatchResult result (λ _. is_some spent.new ≡ false) (λ s. MatchBool (is_some spent.new) (s ≡ Spent) (s ≢ Spent)) }
+    ensures ready { OnOk result (AreReady N.tells (N.asked net.old) peers.old.list.items
+        → AreReady N.tells (N.asked net.new) peers.new.list.items) }
+    ensures spent { TellsSpent (is_some spent.new) result }
     ensures kinds { IfErr result (λ s. (s ≢ Refused) × (s ≢ Door)) }
     ensures rises { min (N.line net.old) (2 ^ 64 - 1) ≤ N.line net.new }
     ensures back { IsPrefix (N.back net.old) (N.back net.new) }
@@ -86,9 +89,11 @@ pub(crate) fn part<R: Wait, N: Net, T: PeerTurns>(
 ) -> Result<(), Stop>
     requires out { held peers.old.list.items ≤ N.out net.old }
     requires unspent { is_some spent.old ≡ false }
-    ensures reached { OnOk result (AreReady N.tells (N.asked net.old) peers.old.list.items → HaveReached (N.line net.old) (N.line net.new) peers.new.list.items) }
-    ensures dialled { OnOk result (AreReady N.tells (N.asked net.old) peers.old.list.items → IsTrue N.tells → AreDialled (N.asked net.new) (names peers.new.list.items)) }
-    ensures spent { MatchResult result (λ _. is_some spent.new ≡ false) (λ s. MatchBool (is_some spent.new) (s ≡ Spent) (s ≢ Spent)) }
+    ensures reached { OnOk result (AreReady N.tells (N.asked net.old) peers.old.list.items
+        → HaveReached (N.line net.old) (N.line net.new) peers.new.list.items) }
+    ensures dialled { OnOk result (AreReady N.tells (N.asked net.old) peers.old.list.items → IsTrue N.tells
+        → AreDialled (N.asked net.new) (names peers.new.list.items)) }
+    ensures spent { TellsSpent (is_some spent.new) result }
     ensures kinds { IfErr result (λ s. (s ≢ Refused) × (s ≢ Door)) }
     ensures rises { min (N.line net.old) (2 ^ 64 - 1) ≤ N.line net.new }
     ensures back { IsPrefix (N.back net.old) (N.back net.new) }

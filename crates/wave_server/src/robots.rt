@@ -1,5 +1,5 @@
 // Robots of a server.
-ghost use Rattle.std.specs.Prelude.{◌≡◌, ◌≢◌, ◌<◌, ◌≤◌, ℕ, IfOk, IfErr, IsSome, OnOk, MatchBool, MatchResult, true, false, is_some};
+ghost use Rattle.std.specs.Prelude.{◌≡◌, ◌≢◌, ◌<◌, IfOk, IfErr, IsSome, OnOk, MatchBool, true, false, is_some};
 ghost use Rattle.std.specs.List.{AllByRecursion};
 ghost use Rattle.robot_host.specs.Hosts.{host_as, AreFewer};
 ghost use Rattle.turn_cells.specs.Cells.{Begins};
@@ -10,6 +10,7 @@ ghost use Rattle.shard_marks.specs.Passes.{HaveTurned, marks_of};
 ghost use Rattle.session_hub.specs.Hubs.{AreOfHub};
 ghost use Rattle.session_hub.specs.Robots.{AreSettledAt};
 ghost use Rattle.wave_server.specs.Robots.{is_verdict_invalid, is_invalid, AreReady, AreSettledBelow};
+ghost use Rattle.wave_server.specs.Statuses.{TellsSpent};
 ghost use Rattle.wave_server.specs.declared.stop.Stop.TheVariants.{Refused, Door, Spent};
 
 use crate::attendant::Attendant;
@@ -69,7 +70,8 @@ fn submit_edit<R: Wait, F: Folder + Drop, C: Clock, G: Gate>(
     ensures own { AreOfHub hub.now passes.new }
     ensures turned { HaveTurned (shard_of name.now) passes.old passes.new }
     ensures fewer { AreFewer (host_as ⟦<dyn Robot as Robot>⟧ robots.old) (host_as ⟦<dyn Robot as Robot>⟧ robots.new) }
-    ensures outcome { OnOk result (HasOutcome hub.now.domain (shard_of name.now) (marks_of passes.old (shard_of name.now)) (marks_of passes.new (shard_of name.now)) name.now edit.now.submission) }
+    ensures outcome { OnOk result (HasOutcome hub.now.domain (shard_of name.now) (marks_of passes.old (shard_of name.now))
+        (marks_of passes.new (shard_of name.now)) name.now edit.now.submission) }
 {
     let time = attendant.time();
     let placed = hub.submit(rt, alloc, passes, name, &edit.submission, time)?;
@@ -97,7 +99,8 @@ fn submit_edits<R: Wait, F: Folder + Drop, C: Clock, G: Gate>(
     ensures own { AreOfHub hub.now passes.new }
     ensures turned { HaveTurned (shard_of name.now) passes.old passes.new }
     ensures fewer { AreFewer (host_as ⟦<dyn Robot as Robot>⟧ robots.old) (host_as ⟦<dyn Robot as Robot>⟧ robots.new) }
-    ensures outcomes { OnOk result (AllByRecursion (λ e. HasOutcome hub.now.domain (shard_of name.now) (marks_of passes.old (shard_of name.now)) (marks_of passes.new (shard_of name.now)) name.now e.submission) edits.now) }
+    ensures outcomes { OnOk result (AllByRecursion (λ e. HasOutcome hub.now.domain (shard_of name.now)
+        (marks_of passes.old (shard_of name.now)) (marks_of passes.new (shard_of name.now)) name.now e.submission) edits.now) }
 {
     for edit in edits {
         submit_edit::<R, F, C, G>(rt, alloc, hub, passes, robots, attendant, name, edit)?;
@@ -122,8 +125,10 @@ fn turn_at<R: Wait, F: Folder + Drop, C: Clock, G: Gate>(
     ensures own { AreOfHub hub.now passes.new }
     ensures later { Begins passes.old passes.new }
     ensures ready { OnOk result (AreReady hub.now.domain (marks_of passes.new) (host_as ⟦<dyn Robot as Robot>⟧ robots.new)) }
-    ensures settled { OnOk result (AreSettledBelow shard hub.now.domain (marks_of passes.old) (host_as ⟦<dyn Robot as Robot>⟧ robots.old) → AreSettledBelow shard hub.now.domain (marks_of passes.new) (host_as ⟦<dyn Robot as Robot>⟧ robots.new)) }
-    ensures done { IfOk result (λ o. IsSome o → AreSettledAt hub.now.domain shard (marks_of passes.new shard) (host_as ⟦<dyn Robot as Robot>⟧ robots.new)) }
+    ensures settled { OnOk result (AreSettledBelow shard hub.now.domain (marks_of passes.old) (host_as ⟦<dyn Robot as Robot>⟧ robots.old)
+        → AreSettledBelow shard hub.now.domain (marks_of passes.new) (host_as ⟦<dyn Robot as Robot>⟧ robots.new)) }
+    ensures done { IfOk result (λ o. IsSome o → AreSettledAt hub.now.domain shard (marks_of passes.new shard)
+        (host_as ⟦<dyn Robot as Robot>⟧ robots.new)) }
 {
     attendant.enter(shard);
     let turned = hub.robot_turn(rt, alloc, passes, robots, shard);
@@ -229,7 +234,7 @@ pub(crate) fn attend<R: Wait, F: Folder + Drop, C: Clock, G: Gate>(
     ensures own { AreOfHub hub.now passes.new }
     ensures later { Begins passes.old passes.new }
     ensures ready { OnOk result (AreReady hub.now.domain (marks_of passes.new) (host_as ⟦<dyn Robot as Robot>⟧ robots.new)) }
-    ensures spent { MatchResult result (λ _. is_some spent.new ≡ false) (λ s. MatchBool (is_some spent.new) (s ≡ Spent) (s ≢ Spent)) }
+    ensures spent { TellsSpent (is_some spent.new) result }
     ensures kinds { IfErr result (λ s. (s ≢ Refused) × (s ≢ Door)) }
 {
     if robots.is_deserted() {
@@ -258,8 +263,10 @@ fn settle_one<R: Wait, F: Folder + Drop, C: Clock, G: Gate>(
     ensures own { AreOfHub hub.now passes.new }
     ensures later { Begins passes.old passes.new }
     ensures ready { OnOk result (AreReady hub.now.domain (marks_of passes.new) (host_as ⟦<dyn Robot as Robot>⟧ robots.new)) }
-    ensures settled { OnOk result (AreSettledBelow shard hub.now.domain (marks_of passes.new) (host_as ⟦<dyn Robot as Robot>⟧ robots.new)) }
-    ensures done { OnOk result (AreSettledAt hub.now.domain shard (marks_of passes.new shard) (host_as ⟦<dyn Robot as Robot>⟧ robots.new)) }
+    ensures settled { OnOk result (AreSettledBelow shard hub.now.domain (marks_of passes.new)
+        (host_as ⟦<dyn Robot as Robot>⟧ robots.new)) }
+    ensures done { OnOk result (AreSettledAt hub.now.domain shard (marks_of passes.new shard)
+        (host_as ⟦<dyn Robot as Robot>⟧ robots.new)) }
 {
     for _ in rt.forever() {
         if turn_at::<R, F, C, G>(rt, alloc, hub, passes, robots, attendant, shard)?.is_some() {
@@ -308,7 +315,7 @@ pub(crate) fn settle<R: Wait, F: Folder + Drop, C: Clock, G: Gate>(
     ensures later { Begins passes.old passes.new }
     ensures ready { OnOk result (AreReady hub.now.domain (marks_of passes.new) (host_as ⟦<dyn Robot as Robot>⟧ robots.new)) }
     ensures settled { OnOk result (AreSettledBelow 16 hub.now.domain (marks_of passes.new) (host_as ⟦<dyn Robot as Robot>⟧ robots.new)) }
-    ensures spent { MatchResult result (λ _. is_some spent.new ≡ false) (λ s. MatchBool (is_some spent.new) (s ≡ Spent) (s ≢ Spent)) }
+    ensures spent { TellsSpent (is_some spent.new) result }
     ensures kinds { IfErr result (λ s. (s ≢ Refused) × (s ≢ Door)) }
 {
     match settle_all::<R, F, C, G>(rt, alloc, hub, passes, robots, attendant) {

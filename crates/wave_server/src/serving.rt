@@ -1,5 +1,6 @@
 // What a server does until its sessions have ended.
-ghost use Rattle.std.specs.Prelude.{◌≡◌, ◌≢◌, ◌<◌, ◌≤◌, ◌+◌, [], IsTrue, length, vec_len, vec_capacity, IfOk, IfErr, IfSome, OnOk, MatchBool, MatchResult, List, true, false, Some, is_some, cond, min, ◌-◌, ◌^◌, ℕ};
+ghost use Rattle.std.specs.Prelude.{◌≡◌, ◌≢◌, ◌<◌, ◌≤◌, ◌+◌, [], IsTrue, length, vec_len, vec_capacity, IfOk, IfErr, IfSome, OnOk};
+ghost use Rattle.std.specs.Prelude.{MatchBool, MatchResult, List, true, false, Some, is_some, cond, min, ◌-◌, ◌^◌, ℕ};
 ghost use Rattle.std.specs.Arc.{arc_value};
 ghost use denote.Param.Send.{IsSend};
 ghost use mathlib.Core.List.{IsPrefix};
@@ -11,9 +12,11 @@ ghost use Rattle.robot_host.specs.Hosts.{host_as};
 ghost use Rattle.peer_rounds.specs.Peers.{held, names};
 ghost use Rattle.peer_rounds.specs.Reached.{HaveReached};
 ghost use Rattle.peer_rounds.specs.Stands.{AreDialled, AreReady as PeersReady};
+ghost use Rattle.wave_server.specs.Counting.{WereAccepted};
 ghost use Rattle.wave_server.specs.Meeting.{HaveMet};
 ghost use Rattle.wave_server.specs.Robots.{AreReady, WereServed};
 ghost use Rattle.wave_server.specs.Running.{AreOurs, HasServed, IsGoing};
+ghost use Rattle.wave_server.specs.Statuses.{TellsSpent};
 ghost use Rattle.wave_server.specs.declared.stop.Stop.TheVariants.{Refused, Door, Spent};
 
 use crate::attendant::Attendant;
@@ -80,7 +83,8 @@ fn take_one<
     ensures refused { P.refused server.new.spawner ≡ P.refused server.old.spawner }
     ensures accepted { N.accepted server.new.net ≡ N.accepted server.old.net }
     ensures asked { IsTrue N.tells → N.asked server.new.net ≡ N.asked server.old.net }
-    ensures going { (before : List N.Link) (line : ℕ) → IsGoing N.Link.Link (server_of (arc_value hub.now)) (marks_of passes.old) (is_some server.old.spent) put.old before
+    ensures going { (before : List N.Link) (line : ℕ) → IsGoing N.Link.Link (server_of (arc_value hub.now)) (marks_of passes.old)
+        (is_some server.old.spent) put.old before
         (N.back server.old.net) line (N.line server.old.net) server.old.ended.items
         → IsGoing N.Link.Link (server_of (arc_value hub.now)) (marks_of passes.new) (is_some server.new.spent) put.new before
         (N.back server.new.net) line (N.line server.new.net) server.new.ended.items }
@@ -129,7 +133,9 @@ fn accept_one<
     ensures out { (held : ℕ) → vec_len jobs.old + held ≤ N.out server.old.net → vec_len jobs.new + held ≤ N.out server.new.net }
     ensures room { keeps ≡ true → vec_len server.new.ended + vec_len jobs.new ≤ vec_capacity server.new.ended }
     ensures started { IfOk result (λ b. MatchBool b (vec_len jobs.new ≡ vec_len jobs.old + 1) (vec_len jobs.new ≡ vec_len jobs.old)) }
-    ensures accepted { IfOk result (λ b. N.accepted server.new.net ≡ cond b (raised (N.accepted server.old.net)) (N.accepted server.old.net)) }
+    ensures accepted { MatchResult result
+        (λ b. N.accepted server.new.net ≡ cond b (raised (N.accepted server.old.net)) (N.accepted server.old.net))
+        (λ _. N.accepted server.new.net ≤ N.accepted server.old.net + 1) }
     ensures ended { (server.new.ended.items ≡ server.old.ended.items) × (N.back server.new.net ≡ N.back server.old.net) }
     ensures line { N.line server.new.net ≡ N.line server.old.net }
     ensures asked { IsTrue N.tells → N.asked server.new.net ≡ N.asked server.old.net }
@@ -201,13 +207,16 @@ fn accept_or_rest<
     ensures total { OnOk result (keeps ≡ true → vec_len server.new.ended + vec_len jobs.new ≡ started.new) }
     ensures most { OnOk result (started.new ≤ most) }
     ensures all { IfOk result (λ b. b ≡ true → (keeps ≡ true) × (vec_len server.new.ended ≡ most) × (started.new ≡ most)) }
-    ensures accepted { (base : ℕ) → N.accepted server.old.net ≡ min (base + started.old) (2 ^ 64 - 1) → OnOk result (N.accepted server.new.net ≡ min (base + started.new) (2 ^ 64 - 1)) }
-    ensures spent { MatchResult result (λ _. is_some server.new.spent ≡ false) (λ s. MatchBool (is_some server.new.spent) (s ≡ Spent) (s ≢ Spent)) }
+    ensures accepted { (base : ℕ) → WereAccepted base (N.accepted server.old.net) started.old
+        → MatchResult result (λ _. WereAccepted base (N.accepted server.new.net) started.new)
+        (λ _. N.accepted server.new.net ≤ base + most) }
+    ensures spent { TellsSpent (is_some server.new.spent) result }
     ensures refused { IfErr result (λ s. s ≡ Refused → Rose (P.refused server.old.spawner) (P.refused server.new.spawner)) }
     ensures door { IfErr result (λ s. s ≡ Door → Rose (N.door server.old.net) (N.door server.new.net)) }
     ensures counts { (P.refused server.old.spawner ≤ P.refused server.new.spawner) × (N.door server.old.net ≤ N.door server.new.net) }
     ensures asked { IsTrue N.tells → N.asked server.new.net ≡ N.asked server.old.net }
-    ensures going { (before : List N.Link) (line put : ℕ) → IsGoing N.Link.Link (server_of (arc_value hub.now)) (marks_of passes.old) (is_some server.old.spent) put before
+    ensures going { (before : List N.Link) (line put : ℕ) → IsGoing N.Link.Link (server_of (arc_value hub.now))
+        (marks_of passes.old) (is_some server.old.spent) put before
         (N.back server.old.net) line (N.line server.old.net) server.old.ended.items
         → IsGoing N.Link.Link (server_of (arc_value hub.now)) (marks_of passes.new) (is_some server.new.spent) put before
         (N.back server.new.net) line (N.line server.new.net) server.new.ended.items }
@@ -264,13 +273,16 @@ fn go_round<
     ensures total { OnOk result (keeps ≡ true → vec_len server.new.ended + vec_len jobs.new ≡ started.new) }
     ensures most { OnOk result (started.new ≤ most) }
     ensures all { IfOk result (λ b. b ≡ true → (keeps ≡ true) × (vec_len server.new.ended ≡ most) × (started.new ≡ most)) }
-    ensures accepted { (base : ℕ) → N.accepted server.old.net ≡ min (base + started.old) (2 ^ 64 - 1) → OnOk result (N.accepted server.new.net ≡ min (base + started.new) (2 ^ 64 - 1)) }
-    ensures spent { MatchResult result (λ _. is_some server.new.spent ≡ false) (λ s. MatchBool (is_some server.new.spent) (s ≡ Spent) (s ≢ Spent)) }
+    ensures accepted { (base : ℕ) → WereAccepted base (N.accepted server.old.net) started.old
+        → MatchResult result (λ _. WereAccepted base (N.accepted server.new.net) started.new)
+        (λ _. N.accepted server.new.net ≤ base + most) }
+    ensures spent { TellsSpent (is_some server.new.spent) result }
     ensures refused { IfErr result (λ s. s ≡ Refused → Rose (P.refused server.old.spawner) (P.refused server.new.spawner)) }
     ensures door { IfErr result (λ s. s ≡ Door → Rose (N.door server.old.net) (N.door server.new.net)) }
     ensures counts { (P.refused server.old.spawner ≤ P.refused server.new.spawner) × (N.door server.old.net ≤ N.door server.new.net) }
     ensures asked { IsTrue N.tells → N.asked server.new.net ≡ N.asked server.old.net }
-    ensures going { (before : List N.Link) (line put : ℕ) → IsGoing N.Link.Link (server_of (arc_value hub.now)) (marks_of passes.old) (is_some server.old.spent) put before
+    ensures going { (before : List N.Link) (line put : ℕ) → IsGoing N.Link.Link (server_of (arc_value hub.now))
+        (marks_of passes.old) (is_some server.old.spent) put before
         (N.back server.old.net) line (N.line server.old.net) server.old.ended.items
         → IsGoing N.Link.Link (server_of (arc_value hub.now)) (marks_of passes.new) (is_some server.new.spent) put before
         (N.back server.new.net) line (N.line server.new.net) server.new.ended.items }
@@ -325,13 +337,16 @@ fn turn<
     ensures total { OnOk result (keeps ≡ true → vec_len server.new.ended + vec_len jobs.new ≡ started.new) }
     ensures most { OnOk result (started.new ≤ most) }
     ensures all { IfOk result (λ b. b ≡ true → (keeps ≡ true) × (vec_len server.new.ended ≡ most) × (started.new ≡ most)) }
-    ensures accepted { (base : ℕ) → N.accepted server.old.net ≡ min (base + started.old) (2 ^ 64 - 1) → OnOk result (N.accepted server.new.net ≡ min (base + started.new) (2 ^ 64 - 1)) }
-    ensures spent { MatchResult result (λ _. is_some server.new.spent ≡ false) (λ s. MatchBool (is_some server.new.spent) (s ≡ Spent) (s ≢ Spent)) }
+    ensures accepted { (base : ℕ) → WereAccepted base (N.accepted server.old.net) started.old
+        → MatchResult result (λ _. WereAccepted base (N.accepted server.new.net) started.new)
+        (λ _. N.accepted server.new.net ≤ base + most) }
+    ensures spent { TellsSpent (is_some server.new.spent) result }
     ensures refused { IfErr result (λ s. s ≡ Refused → Rose (P.refused server.old.spawner) (P.refused server.new.spawner)) }
     ensures door { IfErr result (λ s. s ≡ Door → Rose (N.door server.old.net) (N.door server.new.net)) }
     ensures counts { (P.refused server.old.spawner ≤ P.refused server.new.spawner) × (N.door server.old.net ≤ N.door server.new.net) }
     ensures asked { IsTrue N.tells → N.asked server.new.net ≡ N.asked server.old.net }
-    ensures going { (before : List N.Link) (line : ℕ) → IsGoing N.Link.Link (server_of (arc_value hub.now)) (marks_of passes.old) (is_some server.old.spent) put.old before
+    ensures going { (before : List N.Link) (line : ℕ) → IsGoing N.Link.Link (server_of (arc_value hub.now)) (marks_of passes.old)
+        (is_some server.old.spent) put.old before
         (N.back server.old.net) line (N.line server.old.net) server.old.ended.items
         → IsGoing N.Link.Link (server_of (arc_value hub.now)) (marks_of passes.new) (is_some server.new.spent) put.new before
         (N.back server.new.net) line (N.line server.new.net) server.new.ended.items }
@@ -371,7 +386,7 @@ fn tend<R: Wait, N: Net, F: Folder + Drop, C: Clock, P, G: Gate, T: PeerTurns>(
     ensures own { AreOfHub hub.now passes.new }
     ensures later { Begins passes.old passes.new }
     ensures ready { OnOk result (AreReady hub.now.domain (marks_of passes.new) (host_as ⟦<dyn Robot as Robot>⟧ robots.new)) }
-    ensures spent { MatchResult result (λ _. is_some server.new.spent ≡ false) (λ s. MatchBool (is_some server.new.spent) (s ≡ Spent) (s ≢ Spent)) }
+    ensures spent { TellsSpent (is_some server.new.spent) result }
     ensures kinds { IfErr result (λ s. (s ≢ Refused) × (s ≢ Door)) }
     ensures same { (server.new.ended ≡ server.old.ended) × (server.new.spawner ≡ server.old.spawner) }
     ensures counts { (N.door server.new.net ≡ N.door server.old.net) × (N.accepted server.new.net ≡ N.accepted server.old.net) }
@@ -379,7 +394,8 @@ fn tend<R: Wait, N: Net, F: Folder + Drop, C: Clock, P, G: Gate, T: PeerTurns>(
     ensures rises { min (N.line server.old.net) (2 ^ 64 - 1) ≤ N.line server.new.net }
     ensures back { IsPrefix (N.back server.old.net) (N.back server.new.net) }
     ensures put { OnOk result (length (N.back server.new.net) + put.old ≡ length (N.back server.old.net) + put.new) }
-    ensures dialled { OnOk result (PeersReady N.tells (N.asked server.old.net) peers.old.list.items → PeersReady N.tells (N.asked server.new.net) peers.new.list.items) }
+    ensures dialled { OnOk result (PeersReady N.tells (N.asked server.old.net) peers.old.list.items
+        → PeersReady N.tells (N.asked server.new.net) peers.new.list.items) }
     ensures named { names peers.new.list.items ≡ names peers.old.list.items }
 {
     attend::<R, F, C, G>(rt, alloc, hub, passes, robots, attendant, &mut server.spent)?;
@@ -421,7 +437,7 @@ fn settle_all<R: Wait, N: Net, F: Folder + Drop, C: Clock, P, G: Gate, T: PeerTu
         → HaveReached (N.line server.old.net) (N.line server.new.net) peers.new.list.items) }
     ensures dialled { OnOk result (PeersReady N.tells (N.asked server.old.net) peers.old.list.items
         → IsTrue N.tells → AreDialled (N.asked server.new.net) (names peers.new.list.items)) }
-    ensures spent { MatchResult result (λ _. is_some server.new.spent ≡ false) (λ s. MatchBool (is_some server.new.spent) (s ≡ Spent) (s ≢ Spent)) }
+    ensures spent { TellsSpent (is_some server.new.spent) result }
     ensures kinds { IfErr result (λ s. (s ≢ Refused) × (s ≢ Door)) }
     ensures same { (server.new.ended ≡ server.old.ended) × (server.new.spawner ≡ server.old.spawner) }
     ensures counts { (N.door server.new.net ≡ N.door server.old.net) × (N.accepted server.new.net ≡ N.accepted server.old.net) }
@@ -434,8 +450,95 @@ fn settle_all<R: Wait, N: Net, F: Folder + Drop, C: Clock, P, G: Gate, T: PeerTu
     settle::<R, F, C, G>(rt, alloc, hub, passes, robots, attendant, &mut server.spent)
 }
 
-/// Accepts links, serves each, and takes the ends of all jobs, until so many sessions have ended; where ends aren't kept, until it stops. Between,
-/// robots take turns and the peers' links are stepped; and then until nothing is left for either.
+// Accepts links, serves each, and takes the ends of all jobs, of which none runs yet, until so many sessions have ended; where ends aren't
+// kept, until it stops. Between, robots take turns and the peers' links are stepped; and then until nothing is left for either.
+fn go_on<
+    R: Wait,
+    N: Net,
+    F: Folder + Drop,
+    C: Clock + Drop,
+    P: Spawner<LinkJob<N::Link, F, C, G>, R>,
+    G: Gate + Drop,
+    T: PeerTurns,
+>(
+    rt: &R,
+    alloc: Global,
+    server: &mut Server<N, F, P, G>,
+    clock: &C,
+    hub: &Arc<Hub<F>, Global>,
+    passes: &mut Passes<F>,
+    robots: &mut RobotHost,
+    peers: &mut Peers<N::Link>,
+    jobs: &mut Vec<P::Running>,
+    attendant: &mut Attendant<C, G>,
+    herald: &mut Herald<G>,
+    turns: &mut T,
+    most: u64,
+    keeps: bool,
+) -> Result<(), Stop>
+    requires sends { IsSend R.row }
+    requires own { AreOfHub (arc_value hub.now) passes.old }
+    requires idle { (jobs.old.items ≡ []) × (vec_len jobs.old ≡ 0) }
+    requires empty { (server.old.ended.items ≡ []) × (vec_len server.old.ended ≡ 0) × (is_some server.old.spent ≡ false) }
+    requires ready { AreReady (arc_value hub.now).domain (marks_of passes.old) (host_as ⟦<dyn Robot as Robot>⟧ robots.old) }
+    requires unlinked { held peers.old.list.items ≡ 0 }
+    requires undialled { PeersReady N.tells (N.asked server.old.net) peers.old.list.items }
+    ensures own { AreOfHub (arc_value hub.now) passes.new }
+    ensures later { Begins passes.old passes.new }
+    ensures robots { OnOk result (WereServed (arc_value hub.now).domain (marks_of passes.new)
+        (host_as ⟦<dyn Robot as Robot>⟧ robots.new)) }
+    ensures all { OnOk result ((keeps ≡ true) × (vec_len server.new.ended ≡ most)) }
+    ensures accepted { MatchResult result (λ _. WereAccepted (N.accepted server.old.net) (N.accepted server.new.net) most)
+        (λ _. N.accepted server.new.net ≤ N.accepted server.old.net + most) }
+    ensures spent { TellsSpent (is_some server.new.spent) result }
+    ensures refused { IfErr result (λ s. s ≡ Refused → Rose (P.refused server.old.spawner) (P.refused server.new.spawner)) }
+    ensures door { IfErr result (λ s. s ≡ Door → Rose (N.door server.old.net) (N.door server.new.net)) }
+    ensures served { HasServed N.Link.Link (server_of (arc_value hub.now)) (marks_of passes.new) (is_some server.new.spent)
+        (N.back server.old.net) (N.back server.new.net) server.new.ended.items }
+    ensures met { OnOk result (HaveMet N.Link.Link (N.back server.old.net) (N.back server.new.net) (N.line server.old.net)
+        (N.line server.new.net)
+        server.new.ended.items peers.new.list.items) }
+    ensures dialled { OnOk result (IsTrue N.tells → AreDialled (N.asked server.new.net) (names peers.new.list.items)) }
+    ensures named { names peers.new.list.items ≡ names peers.old.list.items }
+    ensures held { held peers.new.list.items ≤ N.out server.new.net }
+{
+    let mut started = 0u64;
+    let mut put = 0u64;
+    // Peers are dialled before it sleeps for the first time.
+    let mut awake = true;
+    for _ in rt.forever() {
+        match turn::<R, N, F, C, P, G>(
+            rt,
+            alloc,
+            server,
+            clock,
+            hub,
+            passes,
+            jobs,
+            &mut started,
+            most,
+            keeps,
+            &mut put,
+            awake,
+        ) {
+            Ok(true) => {
+                return settle_all::<R, N, F, C, P, G, T>(
+                    rt, alloc, server, hub, passes, robots, attendant, peers, turns,
+                );
+            }
+            Ok(false) => match tend::<R, N, F, C, P, G, T>(
+                rt, alloc, server, hub, passes, robots, attendant, peers, turns, herald, &mut put,
+            ) {
+                Ok(worked) => awake = worked,
+                Err(stop) => return Err(stop),
+            },
+            Err(stop) => return Err(stop),
+        }
+    }
+    unreachable!()
+}
+
+/// Makes what the server needs meanwhile, and goes on so.
 pub(crate) fn serve_all<
     R: Wait,
     N: Net,
@@ -463,15 +566,18 @@ pub(crate) fn serve_all<
     requires undialled { PeersReady N.tells (N.asked server.old.net) peers.old.list.items }
     ensures own { AreOfHub (arc_value hub.now) passes.new }
     ensures later { Begins passes.old passes.new }
-    ensures robots { OnOk result (WereServed (arc_value hub.now).domain (marks_of passes.new) (host_as ⟦<dyn Robot as Robot>⟧ robots.new)) }
+    ensures robots { OnOk result (WereServed (arc_value hub.now).domain (marks_of passes.new)
+        (host_as ⟦<dyn Robot as Robot>⟧ robots.new)) }
     ensures all { OnOk result ((keeps ≡ true) × (vec_len server.new.ended ≡ most)) }
-    ensures accepted { N.accepted server.old.net < 2 ^ 64 → OnOk result (N.accepted server.new.net ≡ min (N.accepted server.old.net + most) (2 ^ 64 - 1)) }
-    ensures spent { MatchResult result (λ _. is_some server.new.spent ≡ false) (λ s. MatchBool (is_some server.new.spent) (s ≡ Spent) (s ≢ Spent)) }
+    ensures accepted { MatchResult result (λ _. WereAccepted (N.accepted server.old.net) (N.accepted server.new.net) most)
+        (λ _. N.accepted server.new.net ≤ N.accepted server.old.net + most) }
+    ensures spent { TellsSpent (is_some server.new.spent) result }
     ensures refused { IfErr result (λ s. s ≡ Refused → Rose (P.refused server.old.spawner) (P.refused server.new.spawner)) }
     ensures door { IfErr result (λ s. s ≡ Door → Rose (N.door server.old.net) (N.door server.new.net)) }
     ensures served { HasServed N.Link.Link (server_of (arc_value hub.now)) (marks_of passes.new) (is_some server.new.spent)
         (N.back server.old.net) (N.back server.new.net) server.new.ended.items }
-    ensures met { OnOk result (HaveMet N.Link.Link (N.back server.old.net) (N.back server.new.net) (N.line server.old.net) (N.line server.new.net)
+    ensures met { OnOk result (HaveMet N.Link.Link (N.back server.old.net) (N.back server.new.net) (N.line server.old.net)
+        (N.line server.new.net)
         server.new.ended.items peers.new.list.items) }
     ensures dialled { OnOk result (IsTrue N.tells → AreDialled (N.asked server.new.net) (names peers.new.list.items)) }
     ensures named { names peers.new.list.items ≡ names peers.old.list.items }
@@ -482,60 +588,25 @@ pub(crate) fn serve_all<
     };
     let mut turns = HubTurns::new(hub, own);
     let mut jobs = Vec::new(alloc);
-    let mut started = 0u64;
-    let mut put = 0u64;
-    // Peers are dialled before it sleeps for the first time.
-    let mut awake = true;
     let mut attendant = Attendant::new(clock, &server.gate);
     let mut herald = Herald::new(&server.gate);
     if !hub.peers().is_empty() {
         herald.listen();
     }
-    for _ in rt.forever() {
-        match turn::<R, N, F, C, P, G>(
-            rt,
-            alloc,
-            server,
-            clock,
-            hub,
-            passes,
-            &mut jobs,
-            &mut started,
-            most,
-            keeps,
-            &mut put,
-            awake,
-        ) {
-            Ok(true) => {
-                return settle_all::<R, N, F, C, P, G, HubTurns<F>>(
-                    rt,
-                    alloc,
-                    server,
-                    hub,
-                    passes,
-                    robots,
-                    &mut attendant,
-                    peers,
-                    &mut turns,
-                );
-            }
-            Ok(false) => {
-                awake = tend::<R, N, F, C, P, G, HubTurns<F>>(
-                    rt,
-                    alloc,
-                    server,
-                    hub,
-                    passes,
-                    robots,
-                    &mut attendant,
-                    peers,
-                    &mut turns,
-                    &mut herald,
-                    &mut put,
-                )?;
-            }
-            Err(stop) => return Err(stop),
-        }
-    }
-    unreachable!()
+    go_on::<R, N, F, C, P, G, HubTurns<F>>(
+        rt,
+        alloc,
+        server,
+        clock,
+        hub,
+        passes,
+        robots,
+        peers,
+        &mut jobs,
+        &mut attendant,
+        &mut herald,
+        &mut turns,
+        most,
+        keeps,
+    )
 }

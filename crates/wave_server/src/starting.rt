@@ -14,11 +14,12 @@ use session_hub::{Hub, Passes};
 use session_link::LinkJob;
 use std::alloc::{AllocError, Global};
 use std::sync::{Arc, Wait};
-use wave_outside::{Clock, Folder, Gate, Net, Spawner};
+use wave_outside::{Clock, Folder, Gate, Link, Net, Spawner};
 
 // Takes the room for the report of one end more than so many jobs give, where ends are kept.
 fn reserve_report(ended: &mut Vec<Ended>, jobs: usize, keeps: bool) -> Result<(), AllocError>
-    ensures ended { (ended.new.items ≡ ended.old.items) × (vec_len ended.new ≡ vec_len ended.old) × (vec_capacity ended.old ≤ vec_capacity ended.new) }
+    ensures ended { (ended.new.items ≡ ended.old.items) × (vec_len ended.new ≡ vec_len ended.old)
+        × (vec_capacity ended.old ≤ vec_capacity ended.new) }
     ensures report { OnOk result (keeps ≡ true → vec_len ended.new + (jobs + 1) ≤ vec_capacity ended.new) }
 {
     if !keeps {
@@ -34,7 +35,8 @@ fn reserve_report(ended: &mut Vec<Ended>, jobs: usize, keeps: bool) -> Result<()
 fn reserve<J>(ended: &mut Vec<Ended>, jobs: &mut Vec<J>, keeps: bool) -> Result<(), AllocError>
     ensures jobs { (jobs.new.items ≡ jobs.old.items) × (vec_len jobs.new ≡ vec_len jobs.old) }
     ensures room { OnOk result (vec_len jobs.new + 1 ≤ vec_capacity jobs.new) }
-    ensures ended { (ended.new.items ≡ ended.old.items) × (vec_len ended.new ≡ vec_len ended.old) × (vec_capacity ended.old ≤ vec_capacity ended.new) }
+    ensures ended { (ended.new.items ≡ ended.old.items) × (vec_len ended.new ≡ vec_len ended.old)
+        × (vec_capacity ended.old ≤ vec_capacity ended.new) }
     ensures report { OnOk result (keeps ≡ true → vec_len ended.new + (vec_len jobs.new + 1) ≤ vec_capacity ended.new) }
 {
     match reserve_report(ended, jobs.len(), keeps) {
@@ -62,6 +64,40 @@ fn share<F: Folder + Drop>(
         Ok(part) => Some((theirs, part)),
         Err(_) => None,
     }
+}
+
+// A job for a link, for which there is room, and for the report of its end where ends are kept. None for want of memory.
+fn make_job<J, L: Link, F: Folder + Drop, C: Clock + Drop, G: Gate + Drop>(
+    alloc: Global,
+    ended: &mut Vec<Ended>,
+    jobs: &mut Vec<J>,
+    clock: &C,
+    gate: &G,
+    hub: &Arc<Hub<F>, Global>,
+    passes: &mut Passes<F>,
+    link: L,
+    number: u64,
+    keeps: bool,
+) -> Option<LinkJob<L, F, C, G>>
+    requires own { AreOfHub (arc_value hub.now) passes.old }
+    requires unused { length (L.events link) ≡ 0 }
+    ensures own { AreOfHub (arc_value hub.now) passes.new }
+    ensures later { Begins passes.old passes.new }
+    ensures jobs { (jobs.new.items ≡ jobs.old.items) × (vec_len jobs.new ≡ vec_len jobs.old) }
+    ensures ended { (ended.new.items ≡ ended.old.items) × (vec_len ended.new ≡ vec_len ended.old)
+        × (vec_capacity ended.old ≤ vec_capacity ended.new) }
+    ensures room { IfSome result (λ _. vec_len jobs.new + 1 ≤ vec_capacity jobs.new) }
+    ensures report { IfSome result (λ _. keeps ≡ true → vec_len ended.new + (vec_len jobs.new + 1) ≤ vec_capacity ended.new) }
+    ensures ours { IfSome result (λ j. arc_value j.hub ≡ arc_value hub.now) }
+{
+    if reserve(ended, jobs, keeps).is_err() {
+        return None;
+    }
+    let Some((theirs, part)) = share(alloc, hub, passes) else {
+        return None;
+    };
+    let (time, door) = (clock.another(), gate.another());
+    Some(LinkJob::new(theirs, part, link, time, door, number))
 }
 
 /// Starts a job for a link.
@@ -100,20 +136,20 @@ pub(crate) fn start_job<
     ensures later_refused { P.refused server.old.spawner ≤ P.refused server.new.spawner }
     ensures same { (server.new.net ≡ server.old.net) × (server.new.spent ≡ server.old.spent) }
 {
-    if reserve(&mut server.ended, jobs, keeps).is_err() {
-        return Err(Stop::Memory);
-    }
-    let Some((theirs, part)) = share(alloc, hub, passes) else {
+    let Some(job) = make_job(
+        alloc,
+        &mut server.ended,
+        jobs,
+        clock,
+        &server.gate,
+        hub,
+        passes,
+        link,
+        number,
+        keeps,
+    ) else {
         return Err(Stop::Memory);
     };
-    let job = LinkJob::new(
-        theirs,
-        part,
-        link,
-        clock.another(),
-        server.gate.another(),
-        number,
-    );
     match server.spawner.start(rt, alloc, job) {
         Ok(running) => {
             jobs.push_reserved(running);

@@ -1,5 +1,6 @@
 // What is done when a session has ended.
-ghost use Rattle.std.specs.Prelude.{◌≡◌, ◌≢◌, ◌<◌, ◌+◌, ◌-◌, ◌^◌, ◌++◌, ◌∷◌, [], ℕ, List, IsTrue, vec_len, vec_capacity, true, false, is_some, MatchBool};
+ghost use Rattle.std.specs.Prelude.{◌≡◌, ◌≢◌, ◌<◌, ◌+◌, ◌-◌, ◌^◌, ◌++◌, ◌∷◌, [], ℕ, List, IsTrue, vec_len, vec_capacity, true, false};
+ghost use Rattle.std.specs.Prelude.{is_some, MatchBool};
 ghost use Rattle.std.specs.Arc.{arc_value};
 ghost use Rattle.turn_cells.specs.Cells.{Begins};
 ghost use Rattle.shard_marks.specs.Passes.{marks_of};
@@ -27,7 +28,8 @@ fn keep(kept: &mut Option<Spent>, cause: EndCause)
 // Notes the end of a session whose link was put back at this place, where ends are kept.
 fn note(ended: &mut Vec<Ended>, keeps: bool, place: u64, cause: EndCause)
     requires { keeps ≡ true → vec_len ended.old < vec_capacity ended.old }
-    ensures noted { MatchBool keeps (ended.new.items ≡ ended.old.items ++ record { place = place; cause = cause } ∷ []) (ended.new.items ≡ ended.old.items) }
+    ensures noted { MatchBool keeps (ended.new.items ≡ ended.old.items ++ record { place = place; cause = cause } ∷ [])
+        (ended.new.items ≡ ended.old.items) }
     ensures room { MatchBool keeps (vec_len ended.new ≡ vec_len ended.old + 1) (vec_len ended.new ≡ vec_len ended.old) }
     ensures capacity { vec_capacity ended.new ≡ vec_capacity ended.old }
 {
@@ -62,13 +64,15 @@ pub(crate) fn take_end<
     ensures own { AreOfHub hub.now passes.new }
     ensures later { Begins passes.old passes.new }
     ensures out { N.out server.new.net + 1 ≡ N.out server.old.net }
-    ensures ended { MatchBool keeps (vec_len server.new.ended ≡ vec_len server.old.ended + 1) (vec_len server.new.ended ≡ vec_len server.old.ended) }
+    ensures ended { MatchBool keeps (vec_len server.new.ended ≡ vec_len server.old.ended + 1)
+        (vec_len server.new.ended ≡ vec_len server.old.ended) }
     ensures capacity { vec_capacity server.new.ended ≡ vec_capacity server.old.ended }
     ensures door { N.door server.new.net ≡ N.door server.old.net }
     ensures refused { P.refused server.new.spawner ≡ P.refused server.old.spawner }
     ensures accepted { N.accepted server.new.net ≡ N.accepted server.old.net }
     ensures asked { IsTrue N.tells → N.asked server.new.net ≡ N.asked server.old.net }
-    ensures going { (before : List N.Link) (line : ℕ) → IsGoing N.Link.Link (server_of hub.now) (marks_of passes.old) (is_some server.old.spent) put.old before
+    ensures going { (before : List N.Link) (line : ℕ) → IsGoing N.Link.Link (server_of hub.now) (marks_of passes.old)
+        (is_some server.old.spent) put.old before
         (N.back server.old.net) line (N.line server.old.net) server.old.ended.items
         → IsGoing N.Link.Link (server_of hub.now) (marks_of passes.new) (is_some server.new.spent) put.new before
         (N.back server.new.net) line (N.line server.new.net) server.new.ended.items }

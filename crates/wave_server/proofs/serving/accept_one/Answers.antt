@@ -41,9 +41,6 @@ returns-in-Err-Failed-clause-room g c = c.requires.room
 pub returns-in-Err-Failed-clause-started : goal.returns-in-Err-Failed-clause-started
 returns-in-Err-Failed-clause-started g c = tt
 
-pub returns-in-Err-Failed-clause-accepted : goal.returns-in-Err-Failed-clause-accepted
-returns-in-Err-Failed-clause-accepted g c = tt
-
 pub returns-in-Err-Memory-clause-own : goal.returns-in-Err-Memory-clause-own
 returns-in-Err-Memory-clause-own g c = c.requires.own
 
@@ -58,6 +55,3 @@ returns-in-Err-Memory-clause-room g c = c.requires.room
 
 pub returns-in-Err-Memory-clause-started : goal.returns-in-Err-Memory-clause-started
 returns-in-Err-Memory-clause-started g c = tt
-
-pub returns-in-Err-Memory-clause-accepted : goal.returns-in-Err-Memory-clause-accepted
-returns-in-Err-Memory-clause-accepted g c = tt

@@ -4,6 +4,7 @@ use Rattle.shard_marks.specs.Passes.{marks_of}
 use Rattle.std.proofs.lemmas.Bool.{false≢true}
 use Rattle.wave_server.specs.declared.stop.Stop.TheVariants.{Spent}
 use Rattle.session_hub.specs.Hubs.{server_of}
+use Rattle.wave_server.proofs.Accepting.{came_one, came_none, came_last}
 use Rattle.wave_server.proofs.Going.{going_same}
 use Rattle.wave_server.proofs.serving.accept_or_rest.Goals as goal
 
@@ -52,6 +53,9 @@ returns-in-Ok-true-clause-most g c = omega (arith, c.requires.most)
 pub returns-in-Ok-true-clause-all : goal.returns-in-Ok-true-clause-all
 returns-in-Ok-true-clause-all g c = λ e. absurd (false≢true e)
 
+pub returns-in-Ok-true-clause-accepted : goal.returns-in-Ok-true-clause-accepted
+returns-in-Ok-true-clause-accepted g c base h = came_one base _ _ _ _ c.in-Ok-true.field-0-test c.in-Ok-true.ensures.accepted h
+
 pub returns-in-Ok-true-clause-spent : goal.returns-in-Ok-true-clause-spent
 returns-in-Ok-true-clause-spent g c = ap is_some c.accept_one.ensures.spent.0 ∙ c.requires.spent
 
@@ -84,6 +88,9 @@ returns-in-Ok-false-clause-most g c = omega (arith, c.requires.most)
 
 pub returns-in-Ok-false-clause-all : goal.returns-in-Ok-false-clause-all
 returns-in-Ok-false-clause-all g c = λ e. absurd (false≢true e)
+
+pub returns-in-Ok-false-clause-accepted : goal.returns-in-Ok-false-clause-accepted
+returns-in-Ok-false-clause-accepted g c base h = came_none base _ _ _ _ _ c.in-Ok-false.field-0-test c.in-Ok-false.ensures.accepted c.rest.ensures.same.0 h
 
 pub returns-in-Ok-false-clause-spent : goal.returns-in-Ok-false-clause-spent
 returns-in-Ok-false-clause-spent g c = ap is_some c.accept_one.ensures.spent.0 ∙ c.requires.spent
@@ -122,7 +129,7 @@ pub returns-in-Err-clause-all : goal.returns-in-Err-clause-all
 returns-in-Err-clause-all g c = tt
 
 pub returns-in-Err-clause-accepted : goal.returns-in-Err-clause-accepted
-returns-in-Err-clause-accepted g c base e = tt
+returns-in-Err-clause-accepted g c base h = came_last base _ _ _ c.args.most c.in-Err.ensures.accepted c.requires.most h
 
 pub returns-in-Err-clause-spent : goal.returns-in-Err-clause-spent
 returns-in-Err-clause-spent g c = subst (λ b. MatchBool b (c.in-Err.stop ≡ Spent) (c.in-Err.stop ≢ Spent)) (sym (ap is_some c.accept_one.ensures.spent.0 ∙ c.requires.spent)) c.in-Err.ensures.spent.1

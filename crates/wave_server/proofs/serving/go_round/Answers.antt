@@ -1,8 +1,9 @@
-use Rattle.std.proofs.Common.{arith, ◌∙◌, refl}
+use Rattle.std.proofs.Common.{arith, refl}
 use Rattle.std.specs.Arc.{arc_value}
 use Rattle.std.proofs.lemmas.Bool.{false≢true}
 use Rattle.shard_marks.specs.Passes.{marks_of}
 use Rattle.session_hub.specs.Hubs.{server_of}
+use Rattle.wave_server.proofs.Accepting.{came_same}
 use Rattle.wave_server.proofs.Ending.{begins_self}
 use Rattle.wave_server.proofs.Going.{going_same}
 use Rattle.wave_server.proofs.serving.go_round.Goals as goal
@@ -38,7 +39,7 @@ returns g c = record {
   total = c.requires.total;
   most = c.requires.most;
   all = λ e. absurd (false≢true e);
-  accepted = λ base e. c.rest.ensures.same.0 ∙ e;
+  accepted = λ base h. came_same base _ _ _ c.rest.ensures.same.0 h;
   spent = c.requires.spent;
   refused = tt;
   door = tt;

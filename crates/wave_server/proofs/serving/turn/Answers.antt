@@ -1,5 +1,6 @@
 use Rattle.std.proofs.Common.{arith, ◌∙◌, ◌≡◌, ◌≢◌, MatchBool, refl, sym, subst}
 use Rattle.wave_server.specs.declared.stop.Stop.TheVariants.{Door, Memory, Refused, Spent}
+use Rattle.wave_server.proofs.Accepting.{came_few, came_to}
 use Rattle.wave_server.proofs.Ending.{begins_self}
 use Rattle.wave_server.proofs.Rounds.{ok_of, went_spent, went_on, went_refused, went_door}
 use Rattle.wave_server.proofs.serving.turn.Goals as goal
@@ -24,7 +25,7 @@ returns-then-put-eq18446744073709551615 g c = record {
   total = tt;
   most = tt;
   all = tt;
-  accepted = λ base e. tt;
+  accepted = λ base h. came_few base _ _ c.args.most c.requires.most h;
   spent = subst (λ b. MatchBool b (Memory ≡ Spent) (Memory ≢ Spent)) (sym c.requires.spent) not_spent;
   refused = λ e. absurd (not_refused e);
   door = λ e. absurd (not_door e);
@@ -44,7 +45,7 @@ returns-in-Some g c = record {
   total = ok_of c.goes_on.result (λ k. c.take_one.ensures.total k ∙ c.requires.total k);
   most = ok_of c.goes_on.result c.requires.most;
   all = went_on _ _ c.goes_on.result c.goes_on.ensures;
-  accepted = λ base e. ok_of c.goes_on.result (c.take_one.ensures.accepted ∙ e);
+  accepted = λ base h. came_to base _ _ _ c.args.most c.take_one.ensures.accepted c.requires.most c.goes_on.result h;
   spent = went_spent _ c.goes_on.result c.goes_on.ensures;
   refused = went_refused _ _ c.goes_on.result c.goes_on.ensures;
   door = went_door _ _ c.goes_on.result c.goes_on.ensures;

@@ -1,4 +1,4 @@
-use Rattle.std.proofs.Common.{◌≡◌, ◌≤◌, ◌<◌, ◌+◌, ◌-◌, ◌^◌, min, vec_len, vec_capacity, true, false, is_some}
+use Rattle.std.proofs.Common.{◌≡◌, ◌≤◌, ◌+◌, vec_len, vec_capacity, true, false, is_some}
 use Rattle.std.specs.Arc.{arc_value}
 use Rattle.turn_cells.specs.Cells.{Begins}
 use Rattle.shard_marks.specs.Passes.{marks_of}
@@ -6,9 +6,10 @@ use Rattle.session_hub.specs.Hubs.{AreOfHub, server_of}
 use Rattle.robot_host.specs.Hosts.{host_by}
 use Rattle.peer_rounds.specs.Peers.{held, names}
 use Rattle.peer_rounds.specs.Stands.{AreReady as PeersReady}
+use Rattle.wave_server.specs.Counting.{WereAccepted}
 use Rattle.wave_server.specs.Robots.{AreReady}
 use Rattle.wave_server.specs.Running.{AreOurs, IsGoing}
-use Rattle.wave_server.proofs.serving.serve_all.Given as goal
+use Rattle.wave_server.proofs.serving.go_on.Given as goal
 
 pub record IsUp (g : goal.Over) (l : goal.Live-loop g) : Type 0 where
   pub own : AreOfHub (arc_value l.hub) l.passes
@@ -20,7 +21,7 @@ pub record IsUp (g : goal.Over) (l : goal.Live-loop g) : Type 0 where
   pub total : l.keeps ≡ true → vec_len l.server.ended + vec_len l.jobs ≡ l.started
   pub most_is : l.started ≤ l.most
   pub spent : is_some l.server.spent ≡ false
-  pub accepted : g.N.Net.accepted l.fn.server.net < 2 ^ 64 → g.N.Net.accepted l.server.net ≡ min (g.N.Net.accepted l.fn.server.net + l.started) (2 ^ 64 - 1)
+  pub accepted : WereAccepted (g.N.Net.accepted l.fn.server.net) (g.N.Net.accepted l.server.net) l.started
   pub refused : g.P.Spawner.refused l.fn.server.spawner ≤ g.P.Spawner.refused l.server.spawner
   pub door : g.N.Net.door l.fn.server.net ≤ g.N.Net.door l.server.net
   pub dialled : PeersReady g.N.Net.tells (g.N.Net.asked l.server.net) l.peers.list.items
