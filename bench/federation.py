@@ -4,7 +4,7 @@
 ROUNDS is 100 unless it is given, PROGRAM crates/wave/out/wave (`rt run` in crates/wave builds it). Each domain hosts one wavelet, in which a user of each domain takes part. In
 each round every user types a letter into each of the three wavelets at the server of their own domain, and one server is killed by kill -9 and started again on its folder. An
 assertion fails where an edit is gone, where one is there twice, or where two users see different texts, versions or hashes at last. Then it prints what a
-submission costs at the host and at a copy, in processor time of both servers together.
+submission costs at the host and at a copy, in processor time of both servers together, and what it costs at the host once that has many more wavelets.
 """
 import os, random, signal, sys, tempfile, time
 from pathlib import Path
@@ -13,12 +13,12 @@ HOME = Path(__file__).resolve().parent.parent
 sys.path.insert(0, str(HOME / "examples"))
 from two_servers import open_copy, start
 from two_sessions import free_port
-from wave_client import Session
+from wave_client import Copy, Session
 
 ROUNDS = int(sys.argv[1]) if len(sys.argv) > 1 else 100
 PROGRAM = sys.argv[2] if len(sys.argv) > 2 else str(HOME / "crates/wave/out/wave")
 DOMAINS = ("a.com", "b.com", "c.com")
-SUBMISSIONS = 400
+SUBMISSIONS, MORE = 400, 5000
 
 
 def name_of(domain):
@@ -89,6 +89,18 @@ def cost(session, copy, pids):
     return (processor_time(pids) - before) / SUBMISSIONS * 1000
 
 
+def host_more(address, domain):
+    """Wavelets of one user of the domain alone, which nobody has open."""
+    maker = Session(address, f"maker@{domain}", 1)
+    for number in range(MORE):
+        copy = Copy(maker, f"{domain}/m{number}/{domain}/conv+root")
+        maker.copies = {copy.wavelet: copy}
+        copy.submit({"type": "add", "participant": maker.user})
+        while copy.flight is not None and copy.awaited is None:
+            maker.read()
+    maker.close()
+
+
 def rounds(ports, folders, servers, users, copies):
     chance, letters = random.Random(5), {}
     for number in range(ROUNDS):
@@ -137,6 +149,8 @@ def main():
         at_host = cost(users[0], copies[0]["a.com"], pids)
         at_copy = cost(users[1], copies[1]["a.com"], pids)
         print(f"a submission costs {at_host:.2f} ms of processor time at the host and {at_copy:.2f} at a copy, {at_copy / at_host:.1f} times as much, in both servers together")
+        host_more(f"127.0.0.1:{ports['a.com']}", "a.com")
+        print(f"and {cost(users[0], copies[0]['a.com'], pids):.2f} at the host once it has {MORE} more wavelets")
         for server in servers.values():
             server.kill()
             server.wait()
