@@ -4,7 +4,7 @@
 --     due_of                                         the names that a shard looks at are due
 --     shard_news, shard_after                        what is new to a session by the names that a shard looks at, and the session then
 --     told_from                                      what a peer was told of whosever marks it was told of the shard that was lent
-use Rattle.std.proofs.Common.{Less, Equal, Greater, ◌≡◌, ◌≢◌, ◌⊎◌, inl, inr, ◌<◌, ◌≤◌, ◌+◌, ◌-◌, ℕ, zero, suc, true, false, List, [], ◌∷◌, ◌++◌, length, map, take, drop, get_or, refl, sym, ap, subst, ◌∙◌, arith, append_assoc, add-one}
+use Rattle.std.proofs.Common.{Less, Equal, Greater, ◌≡◌, ◌≢◌, inl, inr, ◌<◌, ◌+◌, ◌-◌, ℕ, zero, suc, true, List, [], ◌∷◌, ◌++◌, length, map, take, drop, get_or, refl, sym, ap, subst, ◌∙◌, arith, append_assoc, add-one}
 use Rattle.std.specs.Prelude.{insert}
 use Rattle.std.specs.Cmp.Lexicographic.{slice_cmp}
 use Rattle.std.specs.Ordering.{nat_cmp}
@@ -17,7 +17,6 @@ use Rattle.wave_outside.specs.declared.folder.Folder as folder_of
 use Rattle.session_core.specs.declared.session.Session.{Session}
 use Rattle.session_core.specs.Access.{Shown, with_hosts}
 use Rattle.session_core.specs.Deliveries.{delivered, after_delivery}
-use Rattle.session_core.specs.Rules.{has_peer}
 use Rattle.replica_store.specs.Worlds.{worlds_of}
 use Rattle.wavelet_shelf.specs.Hosting.{Hosted, names_of}
 use Rattle.wavelet_shelf.specs.Shelves.{hosted_of}

@@ -59,13 +59,13 @@ fn put_name<'a>(names: &mut Vec<&'a WaveletName>, name: &'a WaveletName) -> Resu
 // Puts the name of a record among others, where its wavelet is hosted and grew. False where the record doesn't name it.
 fn put_record<'a>(
     domain: &Domain,
-    record: &'a Record,
+    kept: &'a Record,
     names: &mut Vec<&'a WaveletName>,
 ) -> Result<bool, Memory>
     ensures { IfOk result (λ b. b ≡ true
-        → map (λ n. n.now) names.new.items ≡ with_published domain.now (map (λ n. n.now) names.old.items) (mark_of record.entry.now)) }
+        → map (λ n. n.now) names.new.items ≡ with_published domain.now (map (λ n. n.now) names.old.items) (mark_of kept.entry.now)) }
 {
-    match record {
+    match kept {
         Record::Loaded { .. } => Ok(false),
         Record::Applied { name, .. } => {
             if is_hosted_by(domain, name) {

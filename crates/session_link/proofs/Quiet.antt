@@ -5,7 +5,7 @@
 --     answer_sent, answer_quiet  after the answer to a submission
 --     quiet_delivered            after news of a shard that has a flag
 --     sent_quiet                 of a shard that has no flag the session was sent all that there is
-use Rattle.std.proofs.Common.{◌≡◌, ◌≢◌, ◌⊎◌, inl, inr, ◌<◌, ◌≤◌, ℕ, arith, Bool, true, false, List, [], ◌∷◌, length, get_or, Some, refl, sym, ap, subst, ◌∙◌, true≢false}
+use Rattle.std.proofs.Common.{◌≡◌, ◌≢◌, ◌⊎◌, inl, inr, ◌<◌, ℕ, arith, Bool, true, false, List, length, get_or, Some, refl, sym, ap, subst, ◌∙◌, true≢false}
 use Rattle.doc_items.specs.Maps.{Key}
 use Rattle.wave_base.specs.Versions.{IdOf}
 use Rattle.message_json.specs.declared.message.Message.{Message}

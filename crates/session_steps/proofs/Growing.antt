@@ -4,7 +4,7 @@
 --     grow_begins               so the passes' own words say
 --     step_later, walk_later    steps stay what they were
 --     sent_later                what a session was sent stays so
-use Rattle.std.proofs.Common.{sym, ap, refl, subst, ◌∙◌, ◌≡◌, ◌≢◌, ◌≤◌, ◌⊎◌, inl, inr, ℕ, arith, List, [], ◌∷◌, ◌++◌, length, get_or, length-append, append_assoc, append-nil, Option, Some, None}
+use Rattle.std.proofs.Common.{sym, ap, refl, subst, ◌∙◌, ◌≡◌, ◌≢◌, ◌⊎◌, inl, inr, ℕ, arith, List, [], ◌∷◌, ◌++◌, length, get_or, Option, Some, None}
 use mathlib.Core.List.{IsPrefix}
 use Rattle.doc_items.specs.Maps.{Key}
 use Rattle.session_core.specs.declared.request.Request.{Request}

@@ -3,7 +3,7 @@
 --     prefix_length                it isn't longer
 --     prefix_both                  of two that begin one list, the one that isn't longer begins the other
 --     prefix_whole                 one that is as long is the whole
-use Rattle.std.proofs.Common.{◌≡◌, ◌≤◌, ℕ, List, [], ◌∷◌, ◌++◌, length, refl, sym, ap, subst, ◌∙◌, arith, append-nil, append_assoc, length-append}
+use Rattle.std.proofs.Common.{◌≡◌, ◌≤◌, List, [], ◌∷◌, ◌++◌, length, refl, sym, ap, subst, ◌∙◌, arith, append-nil, append_assoc, length-append}
 use mathlib.Core.List.{IsPrefix}
 
 module _ {X : Type 0} where

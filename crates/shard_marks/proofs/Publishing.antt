@@ -8,7 +8,7 @@
 --     due_news, due_after     so it is with the names that are due
 --     told_later          what was told at an earlier moment
 use Rattle.std.proofs.Common.{Less, Equal, Greater, ◌≡◌, ◌≢◌, ◌⊎◌, inl, inr, ℕ, zero, suc, take, drop, Bool, true, false, cond, ◌&&◌, nat_eq, List, [], ◌∷◌, ◌++◌, refl, sym, ap, subst, ◌∙◌, arith, length, Option, None, Some, option_and_then, not, append-nil, take-append-drop, length-take-le, true≢false}
-use Rattle.std.specs.Cmp.Lexicographic.{slice_cmp, bytes_decides}
+use Rattle.std.specs.Cmp.Lexicographic.{slice_cmp}
 use Rattle.std.specs.List.{AllByRecursion, list_all}
 use Rattle.std.specs.Ordering.{nat_cmp, ordering_reverse}
 use Rattle.std.specs.declared.cmp.Ordering.{Ordering}
@@ -16,7 +16,7 @@ use Rattle.std.proofs.lemmas.Bool.{and_parts}
 use mathlib.Core.List.{IsPrefix}
 use Rattle.doc_items.specs.Maps.{Key, same_text}
 use Rattle.wavelet_op.specs.Deltas.{DeltaOf}
-use Rattle.delta_history.specs.Copying.{AscendFrom, AreAscending}
+use Rattle.delta_history.specs.Copying.{AreAscending}
 use Rattle.delta_history.specs.Histories.{HistoryOf}
 use Rattle.session_core.specs.declared.session.Party.{Party}
 use Rattle.session_core.specs.declared.session.Party.TheVariants.{Nobody, User, Domain}
@@ -30,7 +30,7 @@ use Rattle.wavelet_shelf.specs.FileNames.{shard_of}
 use Rattle.wavelet_shelf.specs.Hosting.{Hosted, names_of, deltas_in, grown_by, grown_in, copy_of, HaveDeltas}
 use Rattle.wavelet_shelf.specs.Parts.{is_in}
 use Rattle.wavelet_shelf.proofs.Growing.{no_deltas}
-use Rattle.wavelet_shelf.proofs.Names.{own, decided, any, lower, tied, turned, same_or_not}
+use Rattle.wavelet_shelf.proofs.Names.{own, decided, any, tied, turned, same_or_not}
 use Rattle.hosted_copies.specs.Domains.{is_hosted_by}
 use Rattle.replica_store.specs.Worlds.{world_at}
 use Rattle.shard_marks.specs.declared.mark.Mark.{Mark}
