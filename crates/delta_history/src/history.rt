@@ -8,13 +8,13 @@ ghost use Rattle.delta_history.specs.Legal.{adds_first, standing, may_write, IsL
 ghost use Rattle.wavelet_state.specs.Snapshots.{max_inserted};
 ghost use Rattle.delta_history.specs.Points.{start, acts_of, point_at, state_of};
 ghost use Rattle.delta_history.specs.Pushes.{IsAsked, IsInvalid, IsReady, IsRefused};
-ghost use Rattle.delta_history.specs.Steps.{IsFitting, IsWritten};
+ghost use Rattle.delta_history.specs.Steps.{IsFitting, IsWritten, step_behind};
 ghost use Rattle.delta_history.specs.Twins.{IsBehind};
 ghost use Rattle.delta_history.specs.Verdicts.{kept};
 
 use crate::log::Log;
 use crate::states::{lead_on, state_behind};
-use crate::step::{Written, next_step};
+use crate::step::{Step, Written, next_step, step_of};
 use crate::twin::{Twin, forget, keep};
 use crate::{HistoryFault, Kept};
 use doc_items::Memory;
@@ -200,15 +200,15 @@ impl History {
         self.state.role(&delta.id.author) == Some(Role::Full)
     }
 
-    // What the delta leads to, if its author may write; else `NotLegal`.
-    fn if_may_write(&self, delta: &AppliedDelta, written: Written) -> Result<Written, HistoryFault>
+    // What was found of the delta, if its author may write; else `NotLegal`.
+    fn if_may_write<T: Drop>(&self, delta: &AppliedDelta, found: T) -> Result<T, HistoryFault>
         requires { IsFitting self.now delta.now }
-        ensures same { IfOk result (λ w. w ≡ written) }
+        ensures same { IfOk result (λ f. f ≡ found) }
         ensures may { OnOk result (may_write (standing self.now.deltas (head_of self.now) delta.now.id.author (acts_of delta.now)) ≡ true) }
         ensures refused { IfErr result (IsRefused self.now delta.now) }
     {
         if self.may_write(delta) {
-            Ok(written)
+            Ok(found)
         } else {
             Err(HistoryFault::NotLegal)
         }
@@ -225,6 +225,22 @@ impl History {
         let _deltas = self.log.deltas();
         match next_step(alloc, &self.log, delta) {
             Ok(written) => self.if_may_write(delta, written),
+            Err(fault) => Err(fault),
+        }
+    }
+
+    // So it is of a delta that has these bytes.
+    fn step_of(&self, delta: &AppliedDelta, bytes: &[u8]) -> Result<Step, HistoryFault>
+        requires { bytes.now ≡ delta_bytes delta.now }
+        ensures asked { OnOk result (IsAsked self.now delta.now) }
+        ensures step { IfOk result (λ s. s ≡ step_behind (head_of self.now).at (head_of self.now).count delta.now) }
+        ensures refused { IfErr result (IsRefused self.now delta.now) }
+        ensures legal { IsLegal self.now.name self.now.deltas }
+    {
+        let _len = len(delta);
+        let _deltas = self.log.deltas();
+        match step_of(&self.log, delta, bytes) {
+            Ok(step) => self.if_may_write(delta, step),
             Err(fault) => Err(fault),
         }
     }
@@ -255,14 +271,20 @@ impl History {
         Ok(state)
     }
 
-    /// The delta is behind the others. Refusals: `NotNext` exactly where it doesn't start at the head; then `NotLegal` exactly where
-    /// the longer history wouldn't be legal. After a refusal, `Memory` included, all but the room is as it was.
-    pub fn push_applied(&mut self, alloc: Global, delta: AppliedDelta) -> Result<(), HistoryFault>
+    // The delta, which leads to this step but for its state, is behind the others. It is refused where its operations aren't valid.
+    fn push_step(
+        &mut self,
+        alloc: Global,
+        delta: AppliedDelta,
+        step: Step,
+    ) -> Result<(), HistoryFault>
+        requires legal { IsLegal self.old.name self.old.deltas }
+        requires asked { IsAsked self.old delta }
+        requires step { step ≡ step_behind (head_of self.old).at (head_of self.old).count delta }
         ensures ok { OnOk result (IsGrown self.old delta self.new) }
         ensures refused { IfErr result (IsRefused self.old delta) }
         ensures same { OnErr result (IsSameHistory self.old self.new) }
     {
-        let step = self.step(alloc, &delta)?.step;
         self.log.reserve(alloc)?;
         forget(&mut self.twin);
         match applied(alloc, &mut self.state, &delta.ops) {
@@ -272,6 +294,33 @@ impl History {
             }
             Err(fault) => Err(fault),
         }
+    }
+
+    /// The delta is behind the others. Refusals: `NotNext` exactly where it doesn't start at the head; then `NotLegal` exactly where
+    /// the longer history wouldn't be legal. After a refusal, `Memory` included, all but the room is as it was.
+    pub fn push_applied(&mut self, alloc: Global, delta: AppliedDelta) -> Result<(), HistoryFault>
+        ensures ok { OnOk result (IsGrown self.old delta self.new) }
+        ensures refused { IfErr result (IsRefused self.old delta) }
+        ensures same { OnErr result (IsSameHistory self.old self.new) }
+    {
+        let step = self.step(alloc, &delta)?.step;
+        self.push_step(alloc, delta, step)
+    }
+
+    /// So it is with a delta that was read from these bytes, which aren't written anew.
+    pub fn push_read(
+        &mut self,
+        alloc: Global,
+        delta: AppliedDelta,
+        bytes: &[u8],
+    ) -> Result<(), HistoryFault>
+        requires { bytes.now ≡ delta_bytes delta }
+        ensures ok { OnOk result (IsGrown self.old delta self.new) }
+        ensures refused { IfErr result (IsRefused self.old delta) }
+        ensures same { OnErr result (IsSameHistory self.old self.new) }
+    {
+        let step = self.step_of(&delta, bytes)?;
+        self.push_step(alloc, delta, step)
     }
 
     /// The delta with what it leads to, for `commit`; there is room for it then. The refusals are those of `push_applied`. All but

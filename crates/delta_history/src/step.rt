@@ -1,11 +1,11 @@
 // What is tested of the next delta, its state apart.
-ghost use Rattle.std.specs.Prelude.{◌≡◌, ◌≤◌, ◌<◌, ◌*◌, ℕ, length, take, true, IfOk, IfErr, OnOk, MatchOption, IsSome};
+ghost use Rattle.std.specs.Prelude.{◌≡◌, ◌≤◌, ◌<◌, ◌*◌, ℕ, length, take, true, false, IfOk, IfErr, OnOk, MatchOption, IsSome};
 ghost use Rattle.wavelet_codec.specs.Spelling.{delta_bytes, IsDelta};
 ghost use Rattle.wavelet_op.specs.Acts.{inserted_act, inserted, meaning, meanings};
 ghost use Rattle.delta_history.specs.Histories.{head_of};
-ghost use Rattle.delta_history.specs.Legal.{max_delta};
+ghost use Rattle.delta_history.specs.Legal.{has_id, max_delta};
 ghost use Rattle.wavelet_state.specs.Snapshots.{max_inserted};
-ghost use Rattle.delta_history.specs.Steps.{IsWithin, IsWritten, IsFitting, IsUnfit};
+ghost use Rattle.delta_history.specs.Steps.{IsWithin, IsWritten, IsFitting, IsUnfit, step_behind};
 ghost use Rattle.doc_items.specs.Limits.{max_count};
 
 use crate::HistoryFault;
@@ -84,7 +84,23 @@ fn bytes(alloc: Global, delta: &AppliedDelta) -> Result<Option<Vec<u8>>, Memory>
     Ok(Some(bytes))
 }
 
-// What a delta leads to from a hashed version, where so many items were inserted; None where a bound is broken.
+// What a delta of these bytes leads to from a hashed version, where so many items were inserted; None where a bound is broken.
+fn step_behind(at: HashedVersion, count: u64, delta: &AppliedDelta, bytes: &[u8]) -> Option<Step>
+    requires count { count ≤ max_inserted }
+    requires bytes { bytes.now ≡ delta_bytes delta.now }
+    ensures { MatchOption result (¬ (IsWithin at count delta.now)) (λ s. IsWithin at count delta.now × (s ≡ step_behind at count delta.now)) }
+{
+    let version = at.version + delta.ops.len();
+    let inserted = count + inserted(&delta.ops);
+    if version > MAX_COUNT || inserted > MAX_INSERTED || bytes.len() as u64 > MAX_DELTA {
+        return None;
+    }
+    let hash = next_hash(&at.hash, bytes);
+    let to = HashedVersion { version, hash };
+    Some(Step { to, inserted })
+}
+
+// So it is, with its bytes, which are written here.
 fn write(
     alloc: Global,
     at: HashedVersion,
@@ -94,18 +110,30 @@ fn write(
     requires { count ≤ max_inserted }
     ensures { IfOk result (λ o. MatchOption o (¬ (IsWithin at count delta.now)) (λ w. IsWritten at count delta.now w.step w.bytes.items)) }
 {
-    let version = at.version + delta.ops.len();
-    let inserted = count + inserted(&delta.ops);
-    if version > MAX_COUNT || inserted > MAX_INSERTED {
-        return Ok(None);
-    }
     let Some(bytes) = bytes(alloc, delta)? else {
         return Ok(None);
     };
-    let hash = next_hash(&at.hash, bytes.as_slice());
-    let to = HashedVersion { version, hash };
-    let step = Step { to, inserted };
-    Ok(Some(Written { step, bytes }))
+    match step_behind(at, count, delta, bytes.as_slice()) {
+        Some(step) => Ok(Some(Written { step, bytes })),
+        None => Ok(None),
+    }
+}
+
+// Whether a delta starts at the head, and has a new id. Refusals: `NotNext`, then `NotLegal`.
+fn starts(log: &Log, delta: &AppliedDelta) -> Result<(), HistoryFault>
+    ensures starts { OnOk result (delta.now.from ≡ (head_of log.now).at) }
+    ensures new { OnOk result (has_id delta.now.id log.now.deltas ≡ false) }
+    ensures refused { IfErr result (IsUnfit log.now delta.now) }
+{
+    let have = log.head();
+    let got = delta.from;
+    if got != have {
+        return Err(HistoryFault::NotNext { have, got });
+    }
+    if log.has(&delta.id) {
+        return Err(HistoryFault::NotLegal);
+    }
+    Ok(())
 }
 
 /// What a delta leads to from the head. Refusals: `NotNext`, then `NotLegal` where its id isn't new or a bound is broken.
@@ -118,16 +146,23 @@ pub(crate) fn next_step(
     ensures fits { OnOk result (IsFitting log.now delta.now) }
     ensures refused { IfErr result (IsUnfit log.now delta.now) }
 {
-    let have = log.head();
-    let got = delta.from;
-    if got != have {
-        return Err(HistoryFault::NotNext { have, got });
-    }
-    if log.has(&delta.id) {
-        return Err(HistoryFault::NotLegal);
-    }
-    match write(alloc, have, log.inserted(), delta)? {
+    starts(log, delta)?;
+    match write(alloc, log.head(), log.inserted(), delta)? {
         Some(written) => Ok(written),
+        None => Err(HistoryFault::NotLegal),
+    }
+}
+
+/// What a delta of these bytes leads to from the head, with the refusals of `next_step`.
+pub(crate) fn step_of(log: &Log, delta: &AppliedDelta, bytes: &[u8]) -> Result<Step, HistoryFault>
+    requires { bytes.now ≡ delta_bytes delta.now }
+    ensures ok { IfOk result (λ s. s ≡ step_behind (head_of log.now).at (head_of log.now).count delta.now) }
+    ensures fits { OnOk result (IsFitting log.now delta.now) }
+    ensures refused { IfErr result (IsUnfit log.now delta.now) }
+{
+    starts(log, delta)?;
+    match step_behind(log.head(), log.inserted(), delta, bytes) {
+        Some(step) => Ok(step),
         None => Err(HistoryFault::NotLegal),
     }
 }

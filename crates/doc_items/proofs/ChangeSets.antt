@@ -2,16 +2,16 @@
 --     get_change, get_unchanged     what a list with ascending keys makes of one of its keys, and of any other
 --     with_changes_next, put_next, without_next     one change more, one key fewer
 --     tested_*                      a test of each key, along the list
-use Rattle.std.proofs.Common.{is_eq, Ordering, Less, Equal, Greater, zero, suc, ◌⊎◌, inl, inr, ◌≡◌, ℕ, ◌+◌, ◌<◌, Bool, true, false, cond, List, [], ◌∷◌, ◌++◌, length, take, drop, get_or, refl, sym, ap, subst, ◌∙◌, arith, add-one, true≢false, below_more, Option, None, Some}
+use Rattle.std.proofs.Common.{is_eq, Ordering, Less, Equal, Greater, zero, suc, ◌⊎◌, inl, inr, ◌≡◌, ℕ, ◌+◌, ◌<◌, Bool, true, false, cond, List, [], ◌∷◌, ◌++◌, length, take, get_or, refl, sym, ap, subst, ◌∙◌, arith, add-one, true≢false, below_more, Option, None, Some}
 use Rattle.std.proofs.Math.Seq.{take-suc}
 use Rattle.std.proofs.lemmas.List.{get_or_default}
 use Rattle.std.specs.Str.{encode_utf8_all}
 use Rattle.std.specs.Ordering.{nat_cmp, is_lt, eq_by_cmp}
 use Rattle.std.specs.Cmp.Lexicographic.{slice_cmp}
 use Rattle.std.proofs.lemmas.Cmp.{nat_list_cmp_total, eq_by_cmp_equiv}
-use Rattle.std.specs.FinMap.{get, insert, empty, remove, get-insert, get-remove, get-empty}
-use Rattle.doc_items.specs.Maps.{Key, Map, set_key, same_value, merge, matches}
-use Rattle.doc_items.specs.Changes.{KeyChange, ChangeSet, key_change, without, with_changes, change_set, none_running, before, ascends, AscendsFrom, IsAscending, fits_old, set_new, agrees, put}
+use Rattle.std.specs.FinMap.{get, insert, remove, get-insert, get-remove, get-empty}
+use Rattle.doc_items.specs.Maps.{Key, Map, set_key}
+use Rattle.doc_items.specs.Changes.{KeyChange, ChangeSet, key_change, without, with_changes, change_set, none_running, before, AscendsFrom, IsAscending, fits_old, set_new, agrees, put}
 use Rattle.doc_items.specs.declared.change.Change.{Change}
 use Rattle.doc_items.proofs.Maps.{tie, tied, alike, get-merge, matches_at, matches_all}
 

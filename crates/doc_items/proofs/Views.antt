@@ -75,7 +75,7 @@ none_left : {A : Type 0} (es : List A) → length es ≡ 0 → es ≡ []
 none_left [] e = refl
 none_left (x ∷ es) e = absurd (omega arith)
 
-no_entries : finite.entries (finite.empty {K = List ℕ} {X = List ℕ} {R = slice_cmp nat_cmp}) ≡ []
+pub no_entries : finite.entries (finite.empty {K = List ℕ} {X = List ℕ} {R = slice_cmp nat_cmp}) ≡ []
 no_entries = none_left _ (sym (finite.len-entries (finite.empty {K = List ℕ} {X = List ℕ} {R = slice_cmp nat_cmp})) ∙ finite.len-empty (slice_cmp nat_cmp) (List ℕ))
 
 pub entries-stored : (es : List (String Global × String Global)) → IsStrictlySortedBy string_cmp (keys_of es) → finite.entries (stored es) ≡ map pair_of es

@@ -9,14 +9,18 @@
 --     matches p m n                       p of m's and n's value at each key of either
 --     set_key m k v                       m with v at k; None takes k away
 --     strings es                          the map of these stored strings to values
+--     shared t                            the map of a table that may be absent
+--     listed r                            what is left of a walk that may be absent
 --     stored, map_code                    the map of these stored strings to strings, and its code
 use Rattle.std.specs.Prelude.{ℕ, Bool, true, ◌&&◌, List, [], ◌∷◌, ◌++◌, map, nat_eq, Option, None, Some, string_bytes, String}
 use Rattle.std.specs.Option.{option_eq, option_map}
 use Rattle.std.specs.Ordering.{nat_cmp, is_lt}
 use Rattle.std.specs.Cmp.Lexicographic.{slice_cmp, pointwise}
 use Rattle.std.specs.Coded.{Coded, coded_ℕ, coded_list}
-use Rattle.std.specs.FinMap.{FinMap, get, keys, from_entries, insert, remove, code}
+use Rattle.std.specs.FinMap.{FinMap, get, keys, empty, from_entries, insert, remove, code}
 use Rattle.std.specs.Global.{Global}
+use Rattle.std.specs.declared.sync.Arc.{Arc}
+use Rattle.std.specs.Arc.{arc_value}
 
 abbrev pub Key : Type 0
 Key = List ℕ
@@ -81,3 +85,11 @@ stored es = from_entries (map pair_of es)
 
 abbrev pub map_code : Coded (Map Key)
 map_code = code (coded_list coded_ℕ) (coded_list coded_ℕ)
+
+abbrev pub shared : Option (Arc (Map Key) Global) → Map Key
+shared None = empty
+shared (Some table) = arc_value table
+
+abbrev pub listed : Option (List (String Global × String Global)) → List (String Global × String Global)
+listed None = []
+listed (Some rest) = rest

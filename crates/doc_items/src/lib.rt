@@ -5,12 +5,15 @@
 mod change;
 mod document;
 mod item;
+mod pairs;
+mod table;
 mod text;
 mod text_map;
 
 pub use change::{Boundary, Change, Changes, Keys};
 pub use document::Document;
 pub use item::{Content, Item};
+pub use pairs::Pairs;
 pub use text::Text;
 pub use text_map::{Attributes, Notes, TextMap, is_next};
 

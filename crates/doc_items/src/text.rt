@@ -6,20 +6,22 @@ ghost use Rattle.doc_items.specs.Maps.{same_text};
 use crate::Memory;
 use std::alloc::Global;
 use std::marker::Model;
+use std::sync::Arc;
 
-/// A text, seen as its list of characters (Unicode scalar values).
+/// A text, seen as its list of characters (Unicode scalar values). Copies share its bytes.
 #[derive(Debug, Drop)]
 pub struct Text {
-    string: String,
+    string: Arc<String, Global>,
 }
 
 impl Model for Text {
     ghost use Rattle.std.specs.Prelude.{List, ℕ, string_bytes};
     ghost use Rattle.std.specs.Str.{chars};
+    ghost use Rattle.std.specs.Arc.{arc_value};
 
     ghost Value = { List ℕ };
 
-    ghost view = { λ t. chars (string_bytes t.string) };
+    ghost view = { λ t. chars (string_bytes (arc_value t.string)) };
 }
 
 impl Text {
@@ -28,6 +30,7 @@ impl Text {
         ensures { IfOk result (λ t. t ≡ chars text.now) }
     {
         let string = String::from_str(alloc, text)?;
+        let string = Arc::new(alloc, string)?;
         Ok(Text { string })
     }
 
@@ -69,9 +72,10 @@ impl Text {
     }
 
     /// An equal text.
-    pub fn copy(&self, alloc: Global) -> Result<Text, Memory>
+    pub fn copy(&self, _alloc: Global) -> Result<Text, Memory>
         ensures { IfOk result (λ t. t ≡ self.now) }
     {
-        Text::from_str(alloc, self.string.as_str())
+        let string = Arc::try_clone(&self.string)?;
+        Ok(Text { string })
     }
 }

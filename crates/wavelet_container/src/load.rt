@@ -60,7 +60,7 @@ fn push(alloc: Global, history: &mut History, bytes: &[u8]) -> Result<(), Record
 {
     let _deltas = history.deltas();
     let delta = read(alloc, history, bytes)?;
-    match history.push_applied(alloc, delta) {
+    match history.push_read(alloc, delta, bytes) {
         Ok(()) => Ok(()),
         Err(HistoryFault::NotNext { .. }) => Err(RecordFault::Illegal),
         Err(HistoryFault::NotLegal) => Err(RecordFault::Illegal),

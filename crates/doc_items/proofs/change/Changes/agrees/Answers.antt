@@ -1,4 +1,4 @@
-use Rattle.std.proofs.Common.{◌≡◌, List, true, false, length, sym, subst, ◌∙◌, arith}
+use Rattle.std.proofs.Common.{◌≡◌, List, true, false, sym, subst, ◌∙◌, arith}
 use Rattle.doc_items.specs.Changes.{IsAscending, change_set, agrees}
 use Rattle.doc_items.specs.declared.change.Change.{Change}
 use Rattle.doc_items.proofs.ChangeSets.{all_fit, one_misfits}

@@ -2,7 +2,7 @@ use Rattle.std.proofs.Common.{sym, ap, ◌∙◌}
 use Rattle.std.specs.Option.{option_map}
 use Rattle.std.specs.Str.{encode_utf8_all}
 use Rattle.doc_items.specs.Maps.{set_key}
-use Rattle.doc_items.specs.Changes.{key_change, change_set, none_running, with_changes, put}
+use Rattle.doc_items.specs.Changes.{key_change, change_set, none_running, put}
 use Rattle.std.proofs.Common.{take}
 use Rattle.doc_items.proofs.ChangeSets.{with_changes_next, put_next, put_none}
 use Rattle.doc_items.proofs.change.Changes.put.Goals as goal

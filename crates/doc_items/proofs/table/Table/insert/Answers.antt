@@ -1,7 +1,7 @@
 use Rattle.std.proofs.Common.{◌∙◌, Some, string_bytes}
 use Rattle.std.specs.FinMap as finite
 use Rattle.doc_items.proofs.Views.{set-stored}
-use Rattle.doc_items.proofs.text_map.TextMap.insert.Goals as goal
+use Rattle.doc_items.proofs.table.Table.insert.Goals as goal
 
 pub returns-clause-ok : goal.returns-clause-ok
 returns-clause-ok c =

@@ -1,7 +1,7 @@
 use Rattle.std.proofs.Common.{◌∙◌}
 use Rattle.doc_items.specs.Maps.{same_values}
 use Rattle.doc_items.proofs.Views.{same-decided}
-use Rattle.doc_items.proofs.text_map.TextMap.same.Goals as goal
+use Rattle.doc_items.proofs.table.Table.same.Goals as goal
 
 pub returns : goal.returns
 returns c =
