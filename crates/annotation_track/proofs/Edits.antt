@@ -13,7 +13,7 @@ use Rattle.doc_items.specs.Maps.{Key}
 use Rattle.doc_items.specs.Changes.{KeyChange, ChangeSet, key_change, with_changes, change_set, none_running, before, ascends, same_key, AscendsFrom, IsAscending}
 use Rattle.doc_items.specs.declared.change.Change.{Change}
 use Rattle.doc_items.proofs.Maps.{alike}
-use Rattle.doc_items.proofs.ChangeSets.{at, at-is, key, NoKey, before_trans, before_other, behind_less, none_behind, get_past, get_unchanged, with_changes-append}
+use Rattle.doc_items.proofs.ChangeSets.{at, at-is, key, NoKey, before_trans, before_other, after_less, none_behind, get_past, get_unchanged, with_changes-append}
 use Rattle.annotation_track.specs.Spots.{AscendsKey}
 
 -- ---- a list in three parts
@@ -49,12 +49,12 @@ get_middle xs ys c q =
     ap (λ u. get u q) (with_changes-append none_running xs (c ∷ ys)) ∙ get_with ys (insert (change_set xs) (key c) (key_change c)) q
     ∙ ap (first_or (get (change_set ys) q)) (get-insert nat_list_cmp_total (change_set xs) (key c) (key_change c) q)
 
--- ---- keys before and behind
+-- ---- keys before and after
 
 at_symm : (a b : Key) → at a b ≡ at b a
 at_symm a b = (eq_by_cmp_equiv nat_list_cmp_total).symm a b
 
--- a key of the list behind p, with k behind all
+-- a key of the list after p, with k after all
 ascends_head : (p : Option (List ℕ)) (x : Change) (xs : List Change) (k : List ℕ) → AscendsKey p (x ∷ xs) k → before x.key k ≡ true
 ascends_head p x [] k h = h.1
 ascends_head p x (y ∷ xs) k h = before_trans x.key y.key k h.1.0 (ascends_head (Some x.key) y xs k h.1)
@@ -81,15 +81,15 @@ ascends_up_to p [] i c h lt is = absurd (omega (arith, lt))
 ascends_up_to p (x ∷ cs) zero c h lt is = ap (λ (d : Change). ascends p d.key) is ∙ h.0
 ascends_up_to p (x ∷ cs) (suc i) c h lt is = (h.0, ascends_up_to (Some x.key) cs i c h.1 (omega (arith, lt)) is)
 
-ascends_behind : (p : Option (List ℕ)) (cs : List Change) (i : ℕ) (c : Change) → AscendsFrom p cs → i < length cs → c ≡ get_or cs i c → AscendsFrom (Some c.key) (drop (suc i) cs)
-ascends_behind p [] i c h lt is = absurd (omega (arith, lt))
-ascends_behind p (x ∷ cs) zero c h lt is = subst (λ (d : Change). AscendsFrom (Some d.key) cs) (sym is) h.1
-ascends_behind p (x ∷ cs) (suc i) c h lt is = ascends_behind (Some x.key) cs i c h.1 (omega (arith, lt)) is
+ascends_after : (p : Option (List ℕ)) (cs : List Change) (i : ℕ) (c : Change) → AscendsFrom p cs → i < length cs → c ≡ get_or cs i c → AscendsFrom (Some c.key) (drop (suc i) cs)
+ascends_after p [] i c h lt is = absurd (omega (arith, lt))
+ascends_after p (x ∷ cs) zero c h lt is = subst (λ (d : Change). AscendsFrom (Some d.key) cs) (sym is) h.1
+ascends_after p (x ∷ cs) (suc i) c h lt is = ascends_after (Some x.key) cs i c h.1 (omega (arith, lt)) is
 
-behind_last : (p : Option (List ℕ)) (xs : List Change) (a b : List ℕ) → AscendsKey p xs a → ascends (Some a) b ≡ true → AscendsKey p xs b
-behind_last None [] a b h e = refl
-behind_last (Some p) [] a b h e = before_trans p a b h e
-behind_last p (x ∷ xs) a b h e = (h.0, behind_last (Some x.key) xs a b h.1 e)
+after_last : (p : Option (List ℕ)) (xs : List Change) (a b : List ℕ) → AscendsKey p xs a → ascends (Some a) b ≡ true → AscendsKey p xs b
+after_last None [] a b h e = refl
+after_last (Some p) [] a b h e = before_trans p a b h e
+after_last p (x ∷ xs) a b h e = (h.0, after_last (Some x.key) xs a b h.1 e)
 
 ascends_snoc : (p : Option (List ℕ)) (xs : List Change) (c : Change) (k : List ℕ) → AscendsKey p xs c.key → before c.key k ≡ true → AscendsKey p (xs ++ c ∷ []) k
 ascends_snoc p [] c k h e = (h, e)
@@ -123,7 +123,7 @@ first_or_none (Some x) = refl
 or_same : (x : Option KeyChange) (y z : Option KeyChange) → x ≡ None → y ≡ z → first_or x y ≡ z
 or_same x y z e f = ap (λ o. first_or o y) e ∙ f
 
--- a change between those before its key and those behind it
+-- a change between those before its key and those after it
 pub inserted : (xs ys : List Change) (c : Change) → AscendsKey None xs c.key → AscendsFrom (Some c.key) ys → change_set (xs ++ c ∷ ys) ≡ insert (change_set (xs ++ ys)) (encode_utf8_all c.key) (key_change c)
 inserted xs ys c h k = alike _ _ (λ q.
     get_middle xs ys c q
@@ -177,7 +177,7 @@ found_later cs i c k h lt is e =
 pub found_before : (cs : List Change) (i : ℕ) (c : Change) (k : List ℕ) → IsAscending cs → i < length cs → c ≡ get_or cs i c → slice_cmp nat_cmp (encode_utf8_all k) (encode_utf8_all c.key) ≡ Less → AscendsFrom (Some k) (drop i cs)
 found_before cs i c k h lt is e =
     subst (λ (xs : List Change). AscendsFrom (Some k) xs) (sym (drop-cons cs i c lt ∙ ap (λ x. x ∷ drop (suc i) cs) (sym is)))
-    (ap is_lt e, ascends_behind None cs i c h lt is)
+    (ap is_lt e, ascends_after None cs i c h lt is)
 
 pub found_here : (a b : List ℕ) → slice_cmp nat_cmp (encode_utf8_all a) (encode_utf8_all b) ≡ Equal → same_key b a ≡ true
 found_here a b e = at_symm (encode_utf8_all b) (encode_utf8_all a) ∙ ap is_eq e
@@ -196,7 +196,7 @@ removed_at cs i k h lt s =
     let d = get_or cs i some_change in
     let same = same_key-is d.key k (s some_change) in
     let up = ascends_up_to None cs i d h lt (get_or_default cs i some_change d lt) in
-    let behind = ascends_behind None cs i d h lt (get_or_default cs i some_change d lt) in (
+    let behind = ascends_after None cs i d h lt (get_or_default cs i some_change d lt) in (
       ascends_without None (take i cs) (drop (suc i) cs) d.key up behind,
       removed (take i cs) (drop (suc i) cs) d (encode_utf8_all k) same
           (subst (λ x. NoKey x (take i cs)) same (none_before None (take i cs) d.key up))
@@ -226,7 +226,7 @@ replaced_at cs i c h lt s =
     let d = get_or cs i some_change in
     let same = same_key-is d.key c.key (s some_change) in
     let up = AscendsKey-same None (take i cs) d.key c.key same (ascends_up_to None cs i d h lt (get_or_default cs i some_change d lt)) in
-    let behind = AscendsFrom-same (drop (suc i) cs) d.key c.key same (ascends_behind None cs i d h lt (get_or_default cs i some_change d lt)) in
+    let behind = AscendsFrom-same (drop (suc i) cs) d.key c.key same (ascends_after None cs i d h lt (get_or_default cs i some_change d lt)) in
     let parts = set_parts cs i c lt in (
       subst (λ (xs : List Change). IsAscending xs) (sym parts) (ascends_joined None (take i cs) c (drop (suc i) cs) up behind),
       ap change_set parts ∙ replaced (take i cs) (drop (suc i) cs) c d same (none_behind c.key (drop (suc i) cs) behind)

@@ -1,7 +1,7 @@
 -- Spans: so many neighbouring items, and the changes that run over them.
 --     items_of ss       the changes over each item, one by one
 --     total ss          how many items there are
---     ends n ss         the places behind the spans that have items, where the first item's place is n
+--     ends n ss         the places after the spans that have items, where the first item's place is n
 --     is_end p ss       one of the spans ends at the place p
 use Rattle.std.specs.Prelude.{ℕ, ◌+◌, ◌==◌, if◌then◌else◌, Bool, List, [], ◌∷◌, ◌++◌, replicate}
 use Rattle.std.specs.List.{list_any}

@@ -1,5 +1,5 @@
 -- Where a key stands, or would stand, in a list of changes with ascending keys.
---     AscendsKey p cs k     the keys of cs ascend behind p, and k comes behind all of them
+--     AscendsKey p cs k     the keys of cs ascend after p, and k comes after all of them
 --     IsSpot cs k spot      Here i: the change at i is the key's; Before i: none is, and it would stand before that at i
 use Rattle.std.specs.Prelude.{◌≡◌, ℕ, ◌+◌, ◌<◌, ◌≤◌, List, [], ◌∷◌, length, take, drop, slice_index_or, true, Option, None, Some}
 use Rattle.doc_items.specs.Changes.{ascends, same_key, AscendsFrom}

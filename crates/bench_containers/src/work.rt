@@ -120,7 +120,7 @@ fn opened(alloc: Global, stored: Stored) -> Option<(u64, u32)> {
     Some((loaded.history().head().version, 1))
 }
 
-// Submissions that were made behind the first delta.
+// Submissions that were made after the first delta.
 fn behind(alloc: Global, container: &mut Container<MemoryDisk>) -> Option<(u64, u32)> {
     let hash = container.history().hash_at(1)?;
     let at = HashedVersion { version: 1, hash };

@@ -1,7 +1,7 @@
 //! What it costs to read, write, compose and transform operations, and to invert them at a document in pieces and apply them
 //! to it.
 //!
-//! Standard input is one spelling behind the other: a first (earlier) operation, a second (later) one, and one that makes a
+//! Standard input is one spelling after the other: a first (earlier) operation, a second (later) one, and one that makes a
 //! document. With no arguments each kind of work is done once, and what came of it is printed, which is the same in every run.
 //! With arguments, WORK and REPEATS, that work alone is done so often, and the nanoseconds for one time are printed too.
 #![tactic(auto)]

@@ -22,7 +22,7 @@ pub struct Inputs {
 }
 
 impl Inputs {
-    /// The operations whose spellings stand one behind the other, the third of which makes the document; None where they don't,
+    /// The operations whose spellings stand one after the other, the third of which makes the document; None where they don't,
     /// and for want of memory.
     pub fn read(alloc: Global, all: &[u8]) -> Option<Inputs> {
         let first = read(alloc, all).ok()?;

@@ -1,4 +1,4 @@
--- The boundary between two change sets: it fits behind the first, and the second runs behind it.
+-- The boundary between two change sets: it fits after the first, and the second runs after it.
 use Rattle.std.proofs.Common.{◌≡◌, ℕ, Bool, true, false, cond, ◌||◌, List, [], ◌∷◌, map, refl, sym, ap, ◌∙◌, true≢false, is_some, Option, None, Some}
 use Rattle.std.specs.Ordering.{nat_cmp, is_lt}
 use Rattle.std.specs.Str.{chars, encode_utf8_all}
@@ -42,7 +42,7 @@ among_keys q (e ∷ es) h = λ i. at q (encoded e.0 (key_text e.0 e.1 h.0) i) ||
 among_list : (q : Key) (m : ChangeSet) → AreTexts m → among q (key_list m) ≡ contains_key m q
 among_list q m t = among_keys q (entries m) (each_of IsText m (λ k c s. ap (is_text_at k) (sym s) ∙ t k)) ∙ sym (contains_key-keys m q)
 
--- ---- what runs behind
+-- ---- what runs after
 
 abbrev ended : ChangeSet → ChangeSet → ChangeSet
 ended u w = merge one_under u w
@@ -75,14 +75,14 @@ after_between u w h k =
 abbrev Runs : ChangeSet → Key → KeyChange → Type 0
 Runs u k c = IsText k c × (contains_key u k ≡ true)
 
-ends_behind : (u : ChangeSet) (p : Key) (es : List Entry) → encode_utf8_all (chars p) ≡ p → below p es ≡ true → rising es ≡ true → Each (Runs u) es → EndsFit u (Some (chars p)) (map chars (map (λ e. e.0) es))
-ends_behind u p [] s b h f = tt
-ends_behind u p (e ∷ es) s b h f =
+ends_after : (u : ChangeSet) (p : Key) (es : List Entry) → encode_utf8_all (chars p) ≡ p → below p es ≡ true → rising es ≡ true → Each (Runs u) es → EndsFit u (Some (chars p)) (map chars (map (λ e. e.0) es))
+ends_after u p [] s b h f = tt
+ends_after u p (e ∷ es) s b h f =
     let own = encoded e.0 (key_text e.0 e.1 f.0.0) in
     let first = and_parts (is_lt (slice_cmp nat_cmp p e.0)) (below p es) b in (
       (λ i. is_lt (slice_cmp nat_cmp (s i) (own i))) ∙ first.0,
       ap (contains_key u) own ∙ f.0.1,
-      ends_behind u e.0 es own (and_parts (below e.0 es) (rising es) h).0 (rising_tail e es h) f.1,
+      ends_after u e.0 es own (and_parts (below e.0 es) (rising es) h).0 (rising_tail e es h) f.1,
     )
 
 ends_fit : (u : ChangeSet) (es : List Entry) → rising es ≡ true → Each (Runs u) es → EndsFit u None (map chars (map (λ e. e.0) es))
@@ -91,7 +91,7 @@ ends_fit u (e ∷ es) h f =
     let own = encoded e.0 (key_text e.0 e.1 f.0.0) in (
       refl,
       ap (contains_key u) own ∙ f.0.1,
-      ends_behind u e.0 es own (and_parts (below e.0 es) (rising es) h).0 (rising_tail e es h) f.1,
+      ends_after u e.0 es own (and_parts (below e.0 es) (rising es) h).0 (rising_tail e es h) f.1,
     )
 
 ran : (u w : Option KeyChange) (c : KeyChange) → one_under u w ≡ Some c → is_some u ≡ true

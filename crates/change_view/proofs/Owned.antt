@@ -17,7 +17,7 @@ use Rattle.doc_items.specs.Maps.{Key, same_text}
 use Rattle.doc_items.specs.Changes.{KeyChange, ChangeSet, key_change, with_changes, change_set, none_running, AscendsFrom, IsAscending}
 use Rattle.doc_items.specs.declared.change.Change.{Change}
 use Rattle.doc_items.proofs.Maps.{alike}
-use Rattle.doc_items.proofs.ChangeSets.{at, at-is, key, behind_less}
+use Rattle.doc_items.proofs.ChangeSets.{at, at-is, key, after_less}
 use Rattle.change_view.specs.Rules.{same_change}
 use Rattle.change_view.specs.Sets.{same_changes}
 use Rattle.change_view.specs.Texts.{is_text_value, is_text_change, is_text_at, AreTexts, as_change, change_list}
@@ -29,24 +29,24 @@ use Rattle.change_view.proofs.Sets.{same_change-is, same_change-refl, same_chang
 
 below_ascending : (k : List ℕ) (cs : List Change) → AscendsFrom (Some k) cs → below (encode_utf8_all k) (map of_change cs) ≡ true
 below_ascending k [] h = refl
-below_ascending k (c ∷ cs) h = and_from _ _ h.0 (below_ascending k cs (behind_less k c.key cs h.0 h.1))
+below_ascending k (c ∷ cs) h = and_from _ _ h.0 (below_ascending k cs (after_less k c.key cs h.0 h.1))
 
 pub rising_ascends : (p : Option (List ℕ)) (cs : List Change) → AscendsFrom p cs → rising (map of_change cs) ≡ true
 rising_ascends p [] h = refl
 rising_ascends p (c ∷ cs) h = and_from _ _ (below_ascending c.key cs h.1) (rising_ascends (Some c.key) cs h.1)
 
-ascends_behind : (k : List ℕ) (cs : List Change) → below (encode_utf8_all k) (map of_change cs) ≡ true → rising (map of_change cs) ≡ true → AscendsFrom (Some k) cs
-ascends_behind k [] b h = tt
-ascends_behind k (c ∷ cs) b h =
+ascends_after : (k : List ℕ) (cs : List Change) → below (encode_utf8_all k) (map of_change cs) ≡ true → rising (map of_change cs) ≡ true → AscendsFrom (Some k) cs
+ascends_after k [] b h = tt
+ascends_after k (c ∷ cs) b h =
     let first = and_parts (is_lt (slice_cmp nat_cmp (encode_utf8_all k) (key c))) (below (encode_utf8_all k) (map of_change cs)) b in
     let rest = and_parts (below (key c) (map of_change cs)) (rising (map of_change cs)) h in
-    (first.0, ascends_behind c.key cs rest.0 rest.1)
+    (first.0, ascends_after c.key cs rest.0 rest.1)
 
 pub ascends_rising : (cs : List Change) → rising (map of_change cs) ≡ true → IsAscending cs
 ascends_rising [] h = tt
 ascends_rising (c ∷ cs) h =
     let rest = and_parts (below (key c) (map of_change cs)) (rising (map of_change cs)) h in
-    (refl, ascends_behind c.key cs rest.0 rest.1)
+    (refl, ascends_after c.key cs rest.0 rest.1)
 
 -- ---- values
 

@@ -79,7 +79,7 @@ module _ {X : Type 0} where
       let parts = and_parts (is_lt (slice_cmp nat_cmp k e.0)) (below k es) h in
       ap (λ b. cond b (Some e.1) (found k es)) (less_at k e.0 parts.0) ∙ find_below k es parts.1
 
-  -- nothing behind the head is found at its key
+  -- nothing after the head is found at its key
   pub find_head : (q : Key) (e : Key × X) (es : List (Key × X)) → rising (e ∷ es) ≡ true → at q e.0 ≡ true → found q es ≡ None
   find_head q e es h t = ap (λ k. found k es) (at-is q e.0 t) ∙ find_below e.0 es (and_parts (below e.0 es) (rising es) h).0
 

@@ -3,7 +3,7 @@
 --     AreTexts u            all keys and values of a change set are
 --     change_list u         the changes, in byte order of their keys
 --     key_list u            the keys, in byte order
---     boundary_between u w  where u runs before and w behind: the keys of u that w lacks end, and those of w change that u hasn't so
+--     boundary_between u w  where u runs before and w after: the keys of u that w lacks end, and those of w change that u hasn't so
 use Rattle.std.specs.Prelude.{◌≡◌, ℕ, Bool, true, ◌&&◌, List, map, Option, None, Some}
 use Rattle.std.specs.Option.{option_map}
 use Rattle.std.specs.Str.{chars, is_utf8}

@@ -1,7 +1,7 @@
--- Acts that are compacted, with others behind them.
---     behind_compacted      acts behind others are compacted as behind what these were compacted to
---     join_ending           only the last of them meets what comes behind
---     join_twice, join_refused      two lists behind, one after the other
+-- Acts that are compacted, with others after them.
+--     after_compacted      acts after others are compacted as after what these were compacted to
+--     join_ending           only the last of them meets what comes after
+--     join_twice, join_refused      two lists after it, one after the other
 --     gather_same           so what is gathered may be kept compacted
 --     fit_some, fit_none    operations that are few and short enough
 use Rattle.std.proofs.Common.{◌≡◌, ℕ, ◌<◌, ◌≤◌, Bool, true, false, cond, ◌&&◌, nat_le, List, [], ◌∷◌, ◌++◌, length, map, Option, None, Some, Result, Ok, Err, refl, sym, ap, subst, ◌∙◌, arith, option_and_then}
@@ -45,7 +45,7 @@ front_none : (r : Joined) → r ≡ act_fronts [] r
 front_none (Ok v) = refl
 front_none (Err u) = refl
 
--- ---- one act and those behind it
+-- ---- one act and those after it
 
 compacted_some : (a : Act) (xs : List Act) → compact_by bounded_join a xs ≡ Ok [] → ⊥
 compacted_some a [] e = not_nil a [] (same_ok e)
@@ -71,9 +71,9 @@ goes_on a (b ∷ xs) more acts e = go (λ c v f. goes_on c xs more v f) (bounded
     go again (Some (Ok c)) f = again c acts f
     go again (Some (Err u)) f = no_ok f
 
-pub behind_compacted : (raw more acts : List Act) → bounded_compact raw ≡ Ok acts → bounded_compact (raw ++ more) ≡ join_on acts more
-behind_compacted [] more acts e = ap (λ z. join_on z more) (same_ok e)
-behind_compacted (a ∷ xs) more acts e = goes_on a xs more acts e
+pub after_compacted : (raw more acts : List Act) → bounded_compact raw ≡ Ok acts → bounded_compact (raw ++ more) ≡ join_on acts more
+after_compacted [] more acts e = ap (λ z. join_on z more) (same_ok e)
+after_compacted (a ∷ xs) more acts e = goes_on a xs more acts e
 
 front_err : (a : Act) (r : Joined) (u : Unfit) → act_front a r ≡ Err u → r ≡ Err u
 front_err a (Ok w) u e = absurd (cc)
@@ -88,7 +88,7 @@ refused_on a (b ∷ xs) more u e = go (λ c f. refused_on c xs more u f) (bounde
     go again (Some (Ok c)) f = again c f
     go again (Some (Err v)) f = f
 
--- ---- many acts and those behind them
+-- ---- many acts and those after them
 
 pub join_ending : (front : List Act) (last : Act) (more : List Act) → join_on (front ++ last ∷ []) more ≡ act_fronts front (compact_by bounded_join last more)
 join_ending [] last more = front_none (compact_by bounded_join last more)
@@ -127,7 +127,7 @@ gather_same [] raw acts e = refl
 gather_same (entry ∷ rest) raw acts e = ap (λ o. option_map_or (λ more. gather_on (raw ++ entry) more rest) o (acts, entry ∷ rest)) same ∙ go (fit (join_on acts entry)) refl (λ more h. gather_same rest (raw ++ entry) more h)
   where
     same : fitting (raw ++ entry) ≡ fit (join_on acts entry)
-    same = ap fit (behind_compacted raw entry acts e)
+    same = ap fit (after_compacted raw entry acts e)
 
     go : (o : Option (List Act)) → fit (join_on acts entry) ≡ o → ((more : List Act) → bounded_compact (raw ++ entry) ≡ Ok more → gather_on (raw ++ entry) more rest ≡ gather_joined more rest) → option_map_or (λ more. gather_on (raw ++ entry) more rest) o (acts, entry ∷ rest) ≡ option_map_or (λ more. gather_joined more rest) o (acts, entry ∷ rest)
     go None q again = refl
@@ -207,7 +207,7 @@ join_done ops front last more ending fewer joined e f n h m j =
       some = some_length joined (nonempty (meanings ops) (meanings more) (meanings joined) (λ z. last_some (meanings front) (meaning last) (sym split ∙ z)) is);
     }
 
--- two lists behind, of which the first is refused
+-- two lists after it, of which the first is refused
 pub join_first_none : (ops first last entry : List WaveletOp) → 0 < length ops → entry ≡ first ++ last → result_ok (join_on (meanings ops) (meanings first)) ≡ None → fit (join_on (meanings ops) (meanings entry)) ≡ None
 join_first_none [] first last entry h e n = absurd (omega (arith, h))
 join_first_none (o ∷ ops) first last entry h e n =

@@ -36,8 +36,8 @@ use Rattle.std.proofs.lemmas.Bool.{and_from}
 true_le : (a b : ℕ) → a ≤ b → nat_le a b ≡ true
 true_le a b h = grind (arith, nat_tests)
 
-behind_within : (p : Point) (d : DeltaOf) (s : State) → is_within (point_behind p d s) d ≡ true → IsWithin p.at p.count d
-behind_within p d s w = (let b = bounded (point_behind p d s) d w in record { counted = b.counted; held = b.held; short = b.short })
+after_within : (p : Point) (d : DeltaOf) (s : State) → is_within (point_behind p d s) d ≡ true → IsWithin p.at p.count d
+after_within p d s w = (let b = bounded (point_behind p d s) d w in record { counted = b.counted; held = b.held; short = b.short })
 
 within_behind : (p : Point) (d : DeltaOf) (s : State) → IsWithin p.at p.count d → is_within (point_behind p d s) d ≡ true
 within_behind p d s w = and_from _ _ (and_from _ _ (true_le _ _ w.counted) (true_le _ _ w.held)) (true_le _ _ w.short)
@@ -58,7 +58,7 @@ pub refused_same : (f : FollowerOf) (d : DeltaOf) (o : Option Over) → (IsWithi
 refused_same f d o n = go (run f.here.state (acts_of d))
   where
     short : (t : State) (b : Bool) → is_within (point_behind f.here d t) d ≡ b → advance_within f d o (point_behind f.here d t) b ≡ advance_within f d None (point_behind f.here d t) b
-    short t true w = absurd (n (behind_within f.here d t w))
+    short t true w = absurd (n (after_within f.here d t w))
     short t false w = refl
 
     go : (r : Option State) → advance_to f d o (option_map (point_behind f.here d) r) ≡ advance_to f d None (option_map (point_behind f.here d) r)
@@ -74,9 +74,9 @@ unstructured_same f d o n = go (run f.here.state (acts_of d)) refl
 
 -- ---- where it advances
 
--- the parts behind a delta
-abbrev pub parts_behind : Parts → Step → State → Option InFlight → List (List WaveletOp) → Parts
-parts_behind p s t g q = parts p.name p.client.author p.client.client s.to s.inserted t g q p.next
+-- the parts after a delta
+abbrev pub parts_after : Parts → Step → State → Option InFlight → List (List WaveletOp) → Parts
+parts_after p s t g q = parts p.name p.client.author p.client.client s.to s.inserted t g q p.next
 
 here_is : (p : Parts) (d : DeltaOf) (s : Step) (t : State) → IsStep p.here.at p.here.count d s → point_behind p.here d t ≡ record { at = s.to; state = t; count = s.inserted }
 here_is p d s t h = λ i. record { at = sym h.to i; state = t; count = sym h.inserted i }
@@ -88,7 +88,7 @@ goes p d t e = ap (option_map (point_behind p.here d)) e
 abbrev pub IsMovedOn : Option State → List WaveletOp → Option State → Type 0
 IsMovedOn before ops now = IfSome now (λ t. MatchOption before ⊥ (λ s. run s (meanings ops) ≡ Some t))
 
-other_over : (p : Parts) (d : DeltaOf) (s : Step) (t : State) (o : Passed) → IsStep p.here.at p.here.count d s → run p.here.state (acts_of d) ≡ Some t → IsOver p.flight p.queue d.ops o → receive_other (follower_of p) d ≡ (Advanced, follower_of (parts_behind p s t (with_ops p.flight o.flight) o.queue.items))
+other_over : (p : Parts) (d : DeltaOf) (s : Step) (t : State) (o : Passed) → IsStep p.here.at p.here.count d s → run p.here.state (acts_of d) ≡ Some t → IsOver p.flight p.queue d.ops o → receive_other (follower_of p) d ≡ (Advanced, follower_of (parts_after p s t (with_ops p.flight o.flight) o.queue.items))
 other_over p d s t o h e k =
     let f = follower_of p in
     let q : Point = point_behind p.here d t in
@@ -99,12 +99,12 @@ other_over p d s t o h e k =
     ∙ ap (advance_with f d q) k.is
     ∙ ap (λ (z : Point). (Advanced, moved f z g es)) (here_is p d s t h)
 
-pub other_answer : (p : Parts) (d : DeltaOf) (s : Step) (t : State) (o : Passed) → IsStep p.here.at p.here.count d s → run p.here.state (acts_of d) ≡ Some t → IsOver p.flight p.queue d.ops o → (Advanced, follower_of (parts_behind p s t (with_ops p.flight o.flight) o.queue.items)) ≡ receive_other (follower_of p) d
+pub other_answer : (p : Parts) (d : DeltaOf) (s : Step) (t : State) (o : Passed) → IsStep p.here.at p.here.count d s → run p.here.state (acts_of d) ≡ Some t → IsOver p.flight p.queue d.ops o → (Advanced, follower_of (parts_after p s t (with_ops p.flight o.flight) o.queue.items)) ≡ receive_other (follower_of p) d
 other_answer p d s t o h e k = sym (other_over p d s t o h e k)
 
 record IsOtherKept (p : Parts) (s : Step) (t : State) (o : Passed) : Type 0 where
-  sound : IsSound (follower_of (parts_behind p s t (with_ops p.flight o.flight) o.queue.items))
-  shows : screen (follower_of (parts_behind p s t (with_ops p.flight o.flight) o.queue.items)) ≡ option_and_then (λ z. run z (meanings o.left)) (screen (follower_of p))
+  sound : IsSound (follower_of (parts_after p s t (with_ops p.flight o.flight) o.queue.items))
+  shows : screen (follower_of (parts_after p s t (with_ops p.flight o.flight) o.queue.items)) ≡ option_and_then (λ z. run z (meanings o.left)) (screen (follower_of p))
 
 other_sound : (p : Parts) (d : DeltaOf) (s : Step) (t : State) (o : Passed) → IsSound (follower_of p) → IsStep p.here.at p.here.count d s → run p.here.state (acts_of d) ≡ Some t → IsOver p.flight p.queue d.ops o → IsOtherKept p s t o
 other_sound p d s t o sound h e k =
@@ -124,7 +124,7 @@ moved_screen o ops None (Some t) m e b n = absurd n
 moved_screen o ops (Some s) (Some t) m e b n = e ∙ and_then_is o (λ z. run z (meanings ops)) s b ∙ n
 
 pub other_kept : (p : Parts) (d : DeltaOf) (s : Step) (t : State) (o : Passed) (count now : ℕ) (shown shown' : Option State) → IsKept p count shown → IsStep p.here.at p.here.count d s → run p.here.state (acts_of d) ≡ Some t → IsOver p.flight p.queue d.ops o
-    → now ≡ inserted_all (map meanings (option_to_list o.flight ++ o.queue.items)) → IsMovedOn shown o.left shown' → IsKept (parts_behind p s t (with_ops p.flight o.flight) o.queue.items) now shown'
+    → now ≡ inserted_all (map meanings (option_to_list o.flight ++ o.queue.items)) → IsMovedOn shown o.left shown' → IsKept (parts_after p s t (with_ops p.flight o.flight) o.queue.items) now shown'
 other_kept p d s t o count now shown shown' k h e v n m =
     let x = other_sound p d s t o k.sound h e v in
     record {
@@ -132,7 +132,7 @@ other_kept p d s t o count now shown shown' k h e v n m =
       flight_normal = v.flight_normal;
       queue_normal = v.queue_normal;
       held = n ∙ ap inserted_all v.flying;
-      shown = moved_screen (screen (follower_of p)) o.left shown shown' (screen (follower_of (parts_behind p s t (with_ops p.flight o.flight) o.queue.items))) x.shows k.shown m;
+      shown = moved_screen (screen (follower_of p)) o.left shown shown' (screen (follower_of (parts_after p s t (with_ops p.flight o.flight) o.queue.items))) x.shows k.shown m;
       client = k.client;
       next = k.next;
     }
@@ -148,9 +148,9 @@ abbrev pub IsOwnFlight : Option InFlight → DeltaOf → Type 0
 IsOwnFlight g d = MatchOption g ⊥ (λ x. acts_of d ≡ meanings x.ops)
 
 record IsOwnLanding (p : Parts) (d : DeltaOf) (s : Step) (t : State) : Type 0 where
-  is : advance (follower_of p) d (Some ((None, map meanings p.queue), [])) ≡ (Advanced, follower_of (parts_behind p s t None p.queue))
-  sound : IsSound (follower_of (parts_behind p s t None p.queue))
-  shows : screen (follower_of (parts_behind p s t None p.queue)) ≡ screen (follower_of p)
+  is : advance (follower_of p) d (Some ((None, map meanings p.queue), [])) ≡ (Advanced, follower_of (parts_after p s t None p.queue))
+  sound : IsSound (follower_of (parts_after p s t None p.queue))
+  shows : screen (follower_of (parts_after p s t None p.queue)) ≡ screen (follower_of p)
 
 own_landing : (p : Parts) (d : DeltaOf) (s : Step) (t : State) → IsSound (follower_of p) → IsStep p.here.at p.here.count d s → run p.here.state (acts_of d) ≡ Some t → IsOwnFlight p.flight d → IsOwnLanding p d s t
 own_landing p d s t sound h e own = go p.flight refl own
@@ -168,7 +168,7 @@ own_landing p d s t sound h e own = go p.flight refl own
           shows = subst (λ (z : Point). screen (moved f z None f.queue) ≡ screen f) here m.shows;
         }
 
-pub own_answer : (p : Parts) (d : DeltaOf) (s : Step) (t : State) → IsSound (follower_of p) → IsStep p.here.at p.here.count d s → run p.here.state (acts_of d) ≡ Some t → IsOwnFlight p.flight d → (Advanced, follower_of (parts_behind p s t None p.queue)) ≡ advance (follower_of p) d (Some ((None, map meanings p.queue), []))
+pub own_answer : (p : Parts) (d : DeltaOf) (s : Step) (t : State) → IsSound (follower_of p) → IsStep p.here.at p.here.count d s → run p.here.state (acts_of d) ≡ Some t → IsOwnFlight p.flight d → (Advanced, follower_of (parts_after p s t None p.queue)) ≡ advance (follower_of p) d (Some ((None, map meanings p.queue), []))
 own_answer p d s t sound h e own = sym (own_landing p d s t sound h e own).is
 
 -- the flight's items are among those that are pending
@@ -183,7 +183,7 @@ same_screen : (o m : Option State) (shown : Option State) → m ≡ o → IfSome
 same_screen o m None e h = tt
 same_screen o m (Some s) e h = e ∙ h
 
-pub own_kept : (p : Parts) (d : DeltaOf) (s : Step) (t : State) (count now : ℕ) (shown : Option State) → IsKept p count shown → IsStep p.here.at p.here.count d s → run p.here.state (acts_of d) ≡ Some t → IsOwnFlight p.flight d → now ≡ count - inserted (acts_of d) → IsKept (parts_behind p s t None p.queue) now shown
+pub own_kept : (p : Parts) (d : DeltaOf) (s : Step) (t : State) (count now : ℕ) (shown : Option State) → IsKept p count shown → IsStep p.here.at p.here.count d s → run p.here.state (acts_of d) ≡ Some t → IsOwnFlight p.flight d → now ≡ count - inserted (acts_of d) → IsKept (parts_after p s t None p.queue) now shown
 own_kept p d s t count now shown k h e own n =
     let x = own_landing p d s t k.sound h e own in
     let all = own_held p d own in
@@ -192,7 +192,7 @@ own_kept p d s t count now shown k h e own n =
       flight_normal = tt;
       queue_normal = k.queue_normal;
       held = omega (arith, n, k.held, all);
-      shown = same_screen (screen (follower_of p)) (screen (follower_of (parts_behind p s t None p.queue))) shown x.shows k.shown;
+      shown = same_screen (screen (follower_of p)) (screen (follower_of (parts_after p s t None p.queue))) shown x.shows k.shown;
       client = k.client;
       next = k.next;
     }

@@ -1,5 +1,5 @@
 -- The parts of a step.
---     IsStep at n d s         behind a delta at this hashed version, where n items were inserted: the hashed version and the number
+--     IsStep at n d s         after a delta at this hashed version, where n items were inserted: the hashed version and the number
 --     IsPair ls es p          both lists past each other, in normal form; the earlier one structured
 --     AreStructured es        each entry's operations on documents are structured
 --     IsRebased es acts p     the entries past the acts, and what is left of these
@@ -16,7 +16,7 @@ use Rattle.wavelet_op.specs.Acts.{inserted, meanings, AreNormal, AreStructuredAc
 use Rattle.wavelet_op.specs.Deltas.{DeltaOf}
 use Rattle.wavelet_op.specs.declared.op.WaveletOp.{WaveletOp}
 use Rattle.wavelet_op.specs.declared.pair.OpsPair.{OpsPair}
-use Rattle.delta_history.specs.Points.{acts_of, version_behind}
+use Rattle.delta_history.specs.Points.{acts_of, version_after}
 use Rattle.delta_history.specs.Steps.{IsWithin}
 use Rattle.delta_history.specs.Verdicts.{ops_of}
 use Rattle.wavelet_op.specs.Acts.{Act}
@@ -36,7 +36,7 @@ use Rattle.client_control.specs.Parts.{flight_of, with_ops, IsNormalFlight}
 
 pub record IsStep (at : VersionAt) (n : ℕ) (d : DeltaOf) (s : Step) : Type 0 where
   pub within : IsWithin at n d
-  pub to : s.to ≡ version_behind at d
+  pub to : s.to ≡ version_after at d
   pub inserted : s.inserted ≡ n + inserted (acts_of d)
 
 pub record IsPair (later earlier : List WaveletOp) (p : OpsPair) : Type 0 where

@@ -48,7 +48,7 @@ fn inserted_queue(queue: &[Ops]) -> u64
     sum
 }
 
-/// The number of items that operations and the entries behind them insert.
+/// The number of items that operations and the entries after them insert.
 pub(crate) fn inserted_both(ops: &Ops, queue: &[Ops]) -> u64
     requires { inserted (meanings ops.now) + inserted_all (map meanings queue.now) ≤ max_inserted }
     ensures { result ≡ inserted (meanings ops.now) + inserted_all (map meanings queue.now) }

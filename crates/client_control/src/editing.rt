@@ -36,7 +36,7 @@ impl Follower {
         Ok(())
     }
 
-    /// The operations, in normal form, are one more entry behind what is pending. Refusals, in this order: `OpInvalid` with the first
+    /// The operations, in normal form, are one more entry after what is pending. Refusals, in this order: `OpInvalid` with the first
     /// operation that isn't valid where the ones before it lead from the screen; `EditFull` exactly where what is pending would
     /// insert more items than the deltas of a history may; `TooBig` exactly where the operations have more bytes than
     /// `SUBMIT_BYTES`. After a refusal, `Memory` included, the follower is as it was.
@@ -96,7 +96,7 @@ fn tried_with_room(
     tried(alloc, shown, ops, full, short)
 }
 
-// The screen is behind the operations, unless they aren't valid there, or too many items are pending with them, or they are too
+// The screen is after the operations, unless they aren't valid there, or too many items are pending with them, or they are too
 // long. After a refusal it is as it was.
 fn tried(
     alloc: Global,
@@ -123,7 +123,7 @@ fn tried(
     }
 }
 
-// The state is behind the operations. Refusal: `OpInvalid`, after which it is as it was.
+// The state is after the operations. Refusal: `OpInvalid`, after which it is as it was.
 fn applied(alloc: Global, state: &mut WaveletState, ops: &Ops) -> Result<(), FollowerFault>
     ensures ok { OnOk result (run state.old (meanings ops.now) ≡ Some state.new) }
     ensures refused { IfErr result (λ e. IsInvalid state.old (meanings ops.now) e) }

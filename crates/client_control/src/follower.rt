@@ -20,7 +20,7 @@ use wave_hash::zero_hash;
 use wavelet_op::{Ops, Submission};
 use wavelet_state::{Snapshot, WaveletState};
 
-/// A client's follower of a wavelet: the state at a version of the history, a submission in flight, the edits behind it, and the
+/// A client's follower of a wavelet: the state at a version of the history, a submission in flight, the edits after it, and the
 /// number of the next submission. What is pending is valid where the follower is.
 pub struct Follower {
     pub(crate) name: WaveletName,

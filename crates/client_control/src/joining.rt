@@ -12,7 +12,7 @@ use std::alloc::{AllocError, Global};
 use wavelet_codec::ops_len;
 use wavelet_op::{MAX_OPS, Ops, WaveletFault, WaveletOp, compact};
 
-/// Entries that become one submission: the first, and so many of those behind it.
+/// Entries that become one submission: the first, and so many of those after it.
 #[derive(Drop)]
 pub(crate) struct Joint {
     pub ops: Ops,
@@ -26,7 +26,7 @@ fn put(list: &mut Vec<WaveletOp>, op: WaveletOp) -> Result<(), Memory>
     Ok(())
 }
 
-// Copies of operations behind a list.
+// Copies of operations after a list.
 fn put_copies(alloc: Global, list: &mut Vec<WaveletOp>, ops: &[WaveletOp]) -> Result<(), Memory>
     ensures { OnOk result (list.new.items ≡ list.old.items ++ ops.now) }
 {
@@ -51,7 +51,7 @@ fn compacted(alloc: Global, ops: &Ops) -> Result<Option<Ops>, Memory>
     }
 }
 
-// An operation with others behind it.
+// An operation with others after it.
 fn behind(alloc: Global, op: &WaveletOp, more: &[WaveletOp]) -> Result<Ops, Memory>
     requires { length more.now < 1000 }
     ensures { IfOk result (λ o. o ≡ op.now ∷ more.now) }
@@ -80,7 +80,7 @@ fn in_a_row(
     Ok(list)
 }
 
-// Operations that are compacted, with others behind them; None where some can't be composed.
+// Operations that are compacted, with others after them; None where some can't be composed.
 #[tactic(auto, using(crate::proofs::Joinings::join_none, crate::proofs::Joinings::join_done))]
 fn join_some(
     alloc: Global,
@@ -130,7 +130,7 @@ fn if_fits(alloc: Global, list: Vec<WaveletOp>) -> Result<Option<Ops>, Memory>
     }
 }
 
-// Operations that are compacted with an entry behind them, where that fits.
+// Operations that are compacted with an entry after them, where that fits.
 #[tactic(auto, using(crate::proofs::Joinings::join_first_none, crate::proofs::Joinings::join_last_none, crate::proofs::Joinings::join_fits))]
 fn join(alloc: Global, ops: &Ops, entry: &Ops) -> Result<Option<Ops>, Memory>
     requires { AreNormal ops.now }

@@ -13,7 +13,7 @@ use crate::bytes::bytes;
 use crate::counts::{inserted, inserted_all};
 use crate::flight::InFlight;
 use crate::past::{Passed, pass_over};
-use crate::step::step_behind;
+use crate::step::step_after;
 use crate::{Follower, Received};
 use doc_items::Memory;
 use std::alloc::{AllocError, Global};
@@ -118,7 +118,7 @@ impl Follower {
         ensures ok { IfOk result (λ answer. (answer, follower_of self.new) ≡ advance (follower_of self.old) delta.now (Some ((None, (follower_of self.old).queue), []))) }
         ensures same { OnErr result (self.new ≡ self.old) }
     {
-        let Some(step) = step_behind(self.at, self.count, delta, spelled) else {
+        let Some(step) = step_after(self.at, self.count, delta, spelled) else {
             return self.refuse(alloc, delta);
         };
         match apply_delta(alloc, &mut self.state, &delta.ops) {
@@ -158,7 +158,7 @@ impl Follower {
         ensures ok { IfOk result (λ answer. (answer, follower_of self.new) ≡ receive_other (follower_of self.old) delta.now) }
         ensures same { OnErr result (self.new ≡ self.old) }
     {
-        let Some(step) = step_behind(self.at, self.count, delta, spelled) else {
+        let Some(step) = step_after(self.at, self.count, delta, spelled) else {
             return self.refuse(alloc, delta);
         };
         let Some(passed) = self.pass(alloc, delta)? else {
@@ -223,7 +223,7 @@ fn as_flown(alloc: Global, delta: &AppliedDelta, ops: Ops) -> Result<AppliedDelt
     })
 }
 
-// A screen behind operations; None where it wasn't kept, or can't be.
+// A screen after operations; None where it wasn't kept, or can't be.
 fn moved(alloc: Global, shown: Option<WaveletState>, ops: &Ops) -> Option<WaveletState>
     ensures { IfSome result (λ t. MatchOption shown ⊥ (λ s. run s (meanings ops.now) ≡ Some t)) }
 {

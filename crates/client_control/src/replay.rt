@@ -11,7 +11,7 @@ use std::alloc::{AllocError, Global};
 use wavelet_op::{Ops, WaveletFault};
 use wavelet_state::{WaveletState, apply_delta};
 
-// The state is behind operations, which are valid there.
+// The state is after operations, which are valid there.
 fn run(alloc: Global, state: &mut WaveletState, ops: &Ops) -> Result<(), Memory>
     requires { run state.old (meanings ops.now) ≢ None }
     ensures { OnOk result (run state.old (meanings ops.now) ≡ Some state.new) }
@@ -26,7 +26,7 @@ fn run(alloc: Global, state: &mut WaveletState, ops: &Ops) -> Result<(), Memory>
     }
 }
 
-/// The state behind entries in turn, which are valid there.
+/// The state after entries in turn, which are valid there.
 pub(crate) fn run_all(
     alloc: Global,
     state: WaveletState,
@@ -42,7 +42,7 @@ pub(crate) fn run_all(
     Ok(state)
 }
 
-/// The state behind the flight, which is valid there.
+/// The state after the flight, which is valid there.
 pub(crate) fn run_flight(
     alloc: Global,
     state: WaveletState,

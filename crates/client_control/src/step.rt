@@ -15,7 +15,7 @@ use wavelet_state::MAX_INSERTED;
 // The most bytes of a delta.
 const MAX_DELTA: usize = 1 << 20;
 
-/// The hashed version behind a delta, and how many items are inserted up to there.
+/// The hashed version after a delta, and how many items are inserted up to there.
 #[derive(Clone, Copy, Drop)]
 pub(crate) struct Step {
     pub to: HashedVersion,
@@ -23,7 +23,7 @@ pub(crate) struct Step {
 }
 
 /// What a delta leads to from a hashed version, where so many items were inserted; None where a bound is broken.
-pub(crate) fn step_behind(
+pub(crate) fn step_after(
     at: HashedVersion,
     count: u64,
     delta: &AppliedDelta,

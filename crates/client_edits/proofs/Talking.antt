@@ -2,7 +2,7 @@
 --     is_manifest             the items of the manifest
 --     talked, untalked        an edit of it, and one that is refused
 --     leads                   the edit of a manifest applies
---     anchored, unanchored, led_anchor     the anchor of an inline reply behind it, and one that is refused
+--     anchored, unanchored, led_anchor     the anchor of an inline reply after it, and one that is refused
 --     inlined, not_inlined    an inline reply with its anchor, and one that is refused
 use Rattle.std.proofs.Common.{◌≡◌, ◌⊎◌, inl, inr, ℕ, true, List, [], ◌∷◌, length, Option, None, Some, IsSome, option_and_then, Result, Ok, Err, refl, sym, ap, subst, ◌∙◌}
 use Rattle.std.specs.Result.{IfOk}

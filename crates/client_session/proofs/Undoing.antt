@@ -22,7 +22,7 @@ use Rattle.wavelet_state.specs.Inverses.{inverse_acts}
 use Rattle.wavelet_state.specs.Snapshots.{SnapshotOf, max_inserted}
 use Rattle.delta_history.specs.Points.{Point, acts_of, next_point}
 use Rattle.delta_history.specs.Verdicts.{same_hash}
-use Rattle.delta_history.proofs.Points.{behind_point}
+use Rattle.delta_history.proofs.Points.{after_point}
 use Rattle.follower_rules.specs.Followers.{ClientOf, Flight, FollowerOf, run_all, inserted_all, flying, pending, screen, moved, dropped, refuse_if, refuse_flight, point_of, take_newer, take_settled}
 use Rattle.follower_rules.specs.Laws.{IsSmall, IsPlace, IsSound, AreOwn}
 use Rattle.follower_rules.specs.Receiving.{Over, Answered, over, is_within, rebase, advance_within, advance_to, receive_other, receive_id, receive_flight, receive_hash, receive_gap, receive_old, receive}
@@ -216,7 +216,7 @@ module _ (s : SeatOf) (d : DeltaOf) (h : IsUndoable s) (other : flies s.follower
   passes_on : (q : Point) → next_point f.here d ≡ Some q → is_within q d ≡ true → Passes (receive_other f d)
   passes_on q n w =
       let x = passing_is f d q h.followed.sound n w in
-      let a = behind_point f.here q d n in
+      let a = after_point f.here q d n in
       let b = bounded q d w in
       let g : FollowerOf = moved f q x.flight x.queue in
       let runs : run s.chain.state x.left ≡ Some x.sound.shown = sym (x.shows ∙ ap (option_and_then (λ t. run t x.left)) h.followed.shows) ∙ x.sound.is_shown in

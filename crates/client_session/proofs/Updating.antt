@@ -14,7 +14,7 @@ use Rattle.wavelet_op.specs.States.{run}
 use Rattle.wavelet_op.proofs.Wholes.{states_hold}
 use Rattle.delta_history.specs.Points.{Point, acts_of, next_point}
 use Rattle.delta_history.specs.Verdicts.{same_hash}
-use Rattle.delta_history.proofs.Points.{behind_point}
+use Rattle.delta_history.proofs.Points.{after_point}
 use Rattle.follower_rules.specs.Followers.{Flight, FollowerOf, pending, screen, moved, point_of, take_newer, take_settled}
 use Rattle.follower_rules.specs.Laws.{IsSound, AreOwn}
 use Rattle.follower_rules.specs.Receiving.{Over, Answered, over, is_own, is_within, rebase, advance_within, advance_to, receive_other, receive_own, receive_id, receive_flight, receive_hash, receive_gap, receive_old}
@@ -47,8 +47,8 @@ module _ (s : SeatOf) (d : DeltaOf) (h : IsFollowed s) where
   abbrev pub Leads : Answered → Type 0
   Leads r = IsFollowed (updated s d r).0
 
-  behind_whole : (q : Point) → next_point f.here d ≡ Some q → IsWhole q.state
-  behind_whole q n = let a = behind_point f.here q d n in subst IsWhole (sym a.same) (states_hold f.here.state a.state (acts_of d) h.whole a.goes)
+  after_whole : (q : Point) → next_point f.here d ≡ Some q → IsWhole q.state
+  after_whole q n = let a = after_point f.here q d n in subst IsWhole (sym a.same) (states_hold f.here.state a.state (acts_of d) h.whole a.goes)
 
   -- a change by others of which this is left
   passes : (g : FollowerOf) (left : List Act) → IsSound g → IsWhole g.here.state → screen g ≡ run s.chain.state left → IsFollowed (with_follower s g (after_change g s.chain left))
@@ -78,7 +78,7 @@ module _ (s : SeatOf) (d : DeltaOf) (h : IsFollowed s) where
       advanced q n x =
           let g : FollowerOf = moved f q x.flight x.queue in
           let chain : chain_moved s d g ≡ after_change g s.chain x.left = ap (λ b. chain_after b s.chain g (rebase (pending f) (acts_of d))) e ∙ ap (chain_after false s.chain g) x.rebased in
-          subst (λ c. IsFollowed (with_follower s g c)) (sym chain) (passes g x.left x.sound (behind_whole q n) (x.shows ∙ ap (option_and_then (λ t. run t x.left)) h.shows))
+          subst (λ c. IsFollowed (with_follower s g c)) (sym chain) (passes g x.left x.sound (after_whole q n) (x.shows ∙ ap (option_and_then (λ t. run t x.left)) h.shows))
 
       by : (q : Point) → next_point f.here d ≡ Some q → (b : Bool) → is_within q d ≡ b → Leads (receive_other f d)
       by q n false w = subst Leads (sym (ap (advance_to f d o) n ∙ ap (advance_within f d o q) w)) stays
@@ -102,7 +102,7 @@ module _ (s : SeatOf) (d : DeltaOf) (h : IsFollowed s) where
           let l = landing_is f d q x h.sound n w e same in
           let g : FollowerOf = moved f q None f.queue in
           let chain : chain_moved s d g ≡ s.chain = ap (λ b. chain_after b s.chain g (rebase (pending f) (acts_of d))) flown in
-          subst Leads (sym l.is) (subst (λ c. IsFollowed (with_follower s g c)) (sym chain) (at_screen s g s.chain l.sound (behind_whole q n) (l.shows ∙ h.shows) h.in_turn))
+          subst Leads (sym l.is) (subst (λ c. IsFollowed (with_follower s g c)) (sym chain) (at_screen s g s.chain l.sound (after_whole q n) (l.shows ∙ h.shows) h.in_turn))
 
       go : (n : Option Point) → next_point f.here d ≡ n → Leads (receive_own f d x true)
       go None n = subst Leads (sym (ap (advance_to f d o) n)) stays

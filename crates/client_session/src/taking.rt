@@ -169,7 +169,7 @@ impl Seat {
         }
     }
 
-    // What is left of another's delta behind what is pending; None where it can't pass.
+    // What is left of another's delta after what is pending; None where it can't pass.
     fn change_left(&self, alloc: Global, delta: &AppliedDelta) -> Result<Note, Memory>
         requires { AreStructuredActs (acts_of delta.now) }
         ensures { IfOk result (IsLeft (rebase (pending (follower_of self.now.follower)) (acts_of delta.now))) }

@@ -21,7 +21,7 @@
 --     paired make a b             what is made of two values, where there are both
 --     CommandOf                   a command
 --     needs_net c                 it is one over a net
---     is_cut words                a word stands behind `--`
+--     is_cut words                a word stands after `--`
 --     accepted words              the command by clap and by the values
 --     command_of words            the command that the words name; None where they name none
 use Rattle.std.specs.Prelude.{ℕ, ◌+◌, ◌-◌, ◌*◌, ◌==◌, ◌&&◌, ◌||◌, nat_le, not, Bool, true, false, cond, List, [], ◌∷◌, Option, Some, None, codes, option_and_then}

@@ -432,7 +432,7 @@ fn named<'a>(alloc: Global, matches: &ArgMatches<'a>) -> Result<Command<'a>, Wor
     named_past(alloc, name, matches)
 }
 
-// Whether a word stands behind `--`.
+// Whether a word stands after `--`.
 fn is_cut(words: &[String]) -> bool
     ensures { result ≡ is_cut (map string_bytes words.now) }
 {
@@ -456,7 +456,7 @@ fn accepted<'a>(alloc: Global, words: &'a [String]) -> Result<Command<'a>, Words
     }
 }
 
-/// The command that the words name. Refusal: `Usage` where they name none: where clap refuses them, where a word stands behind `--`,
+/// The command that the words name. Refusal: `Usage` where they name none: where clap refuses them, where a word stands after `--`,
 /// where a value is empty or begins with `-`, where a number isn't decimal digits without a sign or a leading zero, where that of `load`
 /// is above 100,000, that of sessions isn't from 1 to 1,000,000 or that of a client is above 2^53 - 1, where a wavelet, a user or a
 /// domain isn't a name of its grammar, and where the servers of other domains aren't each a domain of its own, `=` and an address, or one

@@ -39,9 +39,9 @@ use Rattle.conversation.specs.Edits.{named, is_blip_part, is_blip, has, is_taken
 use Rattle.conversation.specs.Refusals.{IsTreeEdit, IsTaken, IsTakenFault, IsAppendFault, AreNew, IsReplyRefused}
 use Rattle.conversation.specs.Search.{IsFound}
 use Rattle.conversation.specs.Trees.{start, is_named, kind_at, enters, enters_at, opened, passed, step_content, step, holds, part_at, node_at, nodes_at, shown_content, shown, tree, behind, thread_tree}
-use Rattle.conversation.proofs.Entering.{even_next, even_two, odd_next, blip_parity, from, item, enter, behind_enter, leave, behind_leave}
+use Rattle.conversation.proofs.Entering.{even_next, even_two, odd_next, blip_parity, from, item, enter, after_enter, leave, after_leave}
 use Rattle.conversation.proofs.Placing.{IsNew}
-use Rattle.conversation.proofs.Readings.{next_item, tree_append, tree_next, behind_next}
+use Rattle.conversation.proofs.Readings.{next_item, tree_append, tree_next, after_next}
 
 -- ---- whether a node is there
 
@@ -181,9 +181,9 @@ reply_new r d inline t n cs f g p even c = subst (λ z. IsNew z (bare cs) (reply
 
     same : behind (from (d + 1)) (item (Start c.begins.kind (thread_of inline t)) empty ∷ item (Start c.holds.kind (id_of n)) empty ∷ (item End empty ∷ item End empty ∷ [])) ≡ from (d + 1)
     same =
-        behind_enter (d + 1) c.begins.kind (thread_of inline t) empty t (item (Start c.holds.kind (id_of n)) empty ∷ (item End empty ∷ item End empty ∷ [])) first (thread_id inline t)
-        ∙ behind_enter (suc (d + 1)) c.holds.kind (id_of n) empty n (item End empty ∷ item End empty ∷ []) second (id_there n)
-        ∙ behind_leave (suc (d + 1)) empty (item End empty ∷ []) ∙ behind_leave (d + 1) empty []
+        after_enter (d + 1) c.begins.kind (thread_of inline t) empty t (item (Start c.holds.kind (id_of n)) empty ∷ (item End empty ∷ item End empty ∷ [])) first (thread_id inline t)
+        ∙ after_enter (suc (d + 1)) c.holds.kind (id_of n) empty n (item End empty ∷ item End empty ∷ []) second (id_there n)
+        ∙ after_leave (suc (d + 1)) empty (item End empty ∷ []) ∙ after_leave (d + 1) empty []
 
 -- ---- a blip's depth
 

@@ -1,6 +1,6 @@
 -- The end of an element of the tree.
---     found_step, low_step, within_step     what stays behind an item that isn't the end
---     same_end                              at the end the manifest is read as far as behind the start
+--     found_step, low_step, within_step     what stays after an item that isn't the end
+--     same_end                              at the end the manifest is read as far as after the start
 use Rattle.std.proofs.Common.{◌≡◌, ◌<◌, ◌≤◌, ◌+◌, ◌-◌, ◌==◌, ◌&&◌, ℕ, zero, suc, Bool, true, false, cond, List, [], ◌∷◌, ◌++◌, refl, sym, ap, subst, ◌∙◌, arith, true≢false}
 use Rattle.std.proofs.lemmas.Bool.{and_parts}
 use Rattle.std.proofs.lemmas.Bool.Decides.{nat_tests, Decides-eqb}

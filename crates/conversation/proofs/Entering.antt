@@ -66,12 +66,12 @@ pub enter : (e : ℕ) (k : List ℕ) (m n : Map Key) (id : Key) (rest : List Ite
 enter e k m n id rest s g =
     ap (λ t. cond t (node_at e m ∷ []) [] ++ tree (cond t (opened (from e)) (passed (from e))) rest) (entered e k m id s g) ∙ ap (λ r. node_at e m ∷ tree r rest) (opened_from e)
 
-pub behind_enter : (e : ℕ) (k : List ℕ) (m n : Map Key) (id : Key) (rest : List Item) → encode_utf8_all k ≡ kind_at e → get m (codes "id") ≡ Some id → behind (from e) (item (Start k m) n ∷ rest) ≡ behind (from (suc e)) rest
-behind_enter e k m n id rest s g =
+pub after_enter : (e : ℕ) (k : List ℕ) (m n : Map Key) (id : Key) (rest : List Item) → encode_utf8_all k ≡ kind_at e → get m (codes "id") ≡ Some id → behind (from e) (item (Start k m) n ∷ rest) ≡ behind (from (suc e)) rest
+after_enter e k m n id rest s g =
     ap (λ t. behind (cond t (opened (from e)) (passed (from e))) rest) (entered e k m id s g) ∙ ap (λ r. behind r rest) (opened_from e)
 
 pub leave : (e : ℕ) (n : Map Key) (rest : List Item) → tree (from (suc e)) (item End n ∷ rest) ≡ tree (from e) rest
 leave e n rest = ap (λ r. tree r rest) (closed_from e)
 
-pub behind_leave : (e : ℕ) (n : Map Key) (rest : List Item) → behind (from (suc e)) (item End n ∷ rest) ≡ behind (from e) rest
-behind_leave e n rest = ap (λ r. behind r rest) (closed_from e)
+pub after_leave : (e : ℕ) (n : Map Key) (rest : List Item) → behind (from (suc e)) (item End n ∷ rest) ≡ behind (from e) rest
+after_leave e n rest = ap (λ r. behind r rest) (closed_from e)

@@ -1,7 +1,7 @@
--- Nodes in three parts: those before one that passes a test, those inside its element, and those behind.
+-- Nodes in three parts: those before one that passes a test, those inside its element, and those after.
 --     has_append                    a test of two parts
 --     grown_here, none_grown        the first node that passes the test gets new ones
---     first_low                     behind an end the next node stands no deeper
+--     first_low                     after an end the next node stands no deeper
 use Rattle.std.proofs.Common.{◌≡◌, ◌<◌, ◌≤◌, ◌+◌, ◌-◌, ◌==◌, ◌&&◌, ◌||◌, nat_le, ℕ, zero, suc, Bool, true, false, cond, List, [], ◌∷◌, ◌++◌, Option, Some, None, refl, sym, ap, subst, ◌∙◌, arith, true≢false, append-nil}
 use Rattle.std.specs.Option.{option_map}
 use Rattle.std.proofs.lemmas.Bool.{or_parts}
@@ -34,12 +34,12 @@ above d e h = grind (arith, nat_tests)
 at_most : (d e : ℕ) → e ≤ d → nat_le e d ≡ true
 at_most d e h = grind (arith, nat_tests)
 
-under_behind : (d : ℕ) (new back : List Node) → FirstAtMost d back → under d new back ≡ new ++ back
-under_behind d new [] h = sym (append-nil new)
-under_behind d new (n ∷ back) h = ap (λ t. cond t (new ++ n ∷ back) (n ∷ under d new back)) (at_most d n.depth h)
+under_after : (d : ℕ) (new back : List Node) → FirstAtMost d back → under d new back ≡ new ++ back
+under_after d new [] h = sym (append-nil new)
+under_after d new (n ∷ back) h = ap (λ t. cond t (new ++ n ∷ back) (n ∷ under d new back)) (at_most d n.depth h)
 
 under_past : (d : ℕ) (new inside back : List Node) → AreWithin (d + 2) inside → FirstAtMost d back → under d new (inside ++ back) ≡ inside ++ (new ++ back)
-under_past d new [] back w h = under_behind d new back h
+under_past d new [] back w h = under_after d new back h
 under_past d new (n ∷ inside) back w h =
     let deep : d < n.depth = omega (arith, w.0) in
     ap (λ t. cond t (new ++ n ∷ (inside ++ back)) (n ∷ under d new (inside ++ back))) (above d n.depth deep) ∙ ap (λ z. n ∷ z) (under_past d new inside back w.1 h)

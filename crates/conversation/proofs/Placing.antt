@@ -14,13 +14,13 @@ use Rattle.conversation.specs.Edits.{grown}
 use Rattle.conversation.specs.Search.{AreWithin, FirstAtMost, IsFound, IsEnd}
 use Rattle.conversation.specs.Trees.{start, step, shown, shown_content, step_content, closed, tree, behind, thread_tree}
 use Rattle.conversation.proofs.Growing.{grown_here, first_low}
-use Rattle.conversation.proofs.Readings.{next_item, take_next, tree_append, behind_append, tree_next, behind_next}
+use Rattle.conversation.proofs.Readings.{next_item, take_next, tree_append, after_append, tree_next, after_next}
 
 pub record IsNew (r : Reading) (new : List Item) (nodes : List Node) : Type 0 where
   pub shows : tree r new ≡ nodes
   pub same : behind r new ≡ r
 
--- what stands behind the end of the element
+-- what stands after the end of the element
 end_low : (r : Reading) (i : Item) (d : ℕ) (back : List Item) → i.content ≡ End → r.inside ≡ d + 2 → r.passed ≡ 0 → FirstAtMost d (tree r (i ∷ back))
 end_low r i d back e n p =
     let gone : closed r ≡ record { found = r.found; inside = r.inside - 1; passed = 0 } = ap (λ t. cond {A = Reading} t (record { found = r.found; inside = r.inside - 1; passed = 0 }) (record { found = r.found; inside = r.inside; passed = r.passed - 1 })) (ap (λ k. k == 0) p) in
@@ -47,7 +47,7 @@ module _ (items new : List Item) (f : Found) (test : Node → Bool) (k : ℕ) (f
   back = tree f.reading (drop k rest)
 
   begun : behind start (take here items) ≡ f.reading
-  begun = behind_next start items f.place found.item found.here ∙ sym found.reading
+  begun = after_next start items f.place found.item found.here ∙ sym found.reading
 
   first : tree start (take here items) ≡ front ++ found.node ∷ []
   first = tree_next start items f.place found.item found.here ∙ ap (λ z. front ++ z) found.shows
@@ -59,7 +59,7 @@ module _ (items new : List Item) (f : Found) (test : Node → Bool) (k : ℕ) (f
   left = sym (drop-drop k here items)
 
   ended : behind start (take place items) ≡ f.reading
-  ended = ap (behind start) until ∙ behind_append start (take here items) (take k rest) ∙ ap (λ r. behind r (take k rest)) begun ∙ end.same
+  ended = ap (behind start) until ∙ after_append start (take here items) (take k rest) ∙ ap (λ r. behind r (take k rest)) begun ∙ end.same
 
   shown_until : tree start (take place items) ≡ (front ++ found.node ∷ []) ++ inside
   shown_until = ap (tree start) until ∙ tree_append start (take here items) (take k rest) ∙ (λ i. first i ++ tree (begun i) (take k rest))
@@ -80,9 +80,9 @@ module _ (items new : List Item) (f : Found) (test : Node → Bool) (k : ℕ) (f
 
   pub placed : (nodes : ℕ → List Node) → IsNew f.reading new (nodes found.node.depth) → grown test nodes (thread_tree items) ≡ Some (thread_tree (replaced items place 0 new))
   placed nodes n =
-      let behind_new : drop (place + 0) items ≡ drop k rest = ap (λ z. drop z items) (omega arith) ∙ left in
+      let after_new : drop (place + 0) items ≡ drop k rest = ap (λ z. drop z items) (omega arith) ∙ left in
       let grew : tree f.reading (new ++ drop (place + 0) items) ≡ nodes found.node.depth ++ back =
-      tree_append f.reading new (drop (place + 0) items) ∙ (λ i. n.shows i ++ tree (n.same i) (behind_new i)) in
+      tree_append f.reading new (drop (place + 0) items) ∙ (λ i. n.shows i ++ tree (n.same i) (after_new i)) in
       ap (grown test nodes) whole
       ∙ grown_here test nodes front found.node inside back found.none found.passes within low
       ∙ ap Some (sym (ap (tree start) (append_assoc (take place items) new (drop (place + 0) items)) ∙ split (new ++ drop (place + 0) items) ∙ ap (λ z. front ++ found.node ∷ (inside ++ z)) grew))

@@ -1,7 +1,7 @@
 -- Reading a manifest item by item.
 --     inside_grows, passed_grows     by at most one for an item
 --     next_item, take_next, more     one item more
---     tree_append, behind_append, tree_next, behind_next     items in two parts
+--     tree_append, after_append, tree_next, after_next     items in two parts
 --     balanced_step                  what is open is what a balanced manifest still ends
 use Rattle.std.proofs.Common.{◌≡◌, ◌≤◌, ◌+◌, ◌-◌, ◌==◌, ℕ, zero, suc, drop, slice_get, Some, Bool, true, false, cond, List, [], ◌∷◌, ◌++◌, refl, sym, ap, ◌∙◌, arith, subst, ◌<◌, take, append_assoc, append-nil}
 use Rattle.std.proofs.lemmas.Bool.Decides.{nat_tests, Decides-eqb}
@@ -66,12 +66,12 @@ pub tree_append : (r : Reading) (xs ys : List Item) → tree r (xs ++ ys) ≡ tr
 tree_append r [] ys = refl
 tree_append r (x ∷ xs) ys = ap (λ z. shown r x ++ z) (tree_append (step r x) xs ys) ∙ sym (append_assoc (shown r x) (tree (step r x) xs) (tree (behind (step r x) xs) ys))
 
-pub behind_append : (r : Reading) (xs ys : List Item) → behind r (xs ++ ys) ≡ behind (behind r xs) ys
-behind_append r [] ys = refl
-behind_append r (x ∷ xs) ys = behind_append (step r x) xs ys
+pub after_append : (r : Reading) (xs ys : List Item) → behind r (xs ++ ys) ≡ behind (behind r xs) ys
+after_append r [] ys = refl
+after_append r (x ∷ xs) ys = after_append (step r x) xs ys
 
-pub behind_next : (r : Reading) (items : List Item) (k : ℕ) (i : Item) → slice_get items k ≡ Some i → behind r (take (k + 1) items) ≡ step (behind r (take k items)) i
-behind_next r items k i e = ap (behind r) (take_next items k i e) ∙ behind_append r (take k items) (i ∷ [])
+pub after_next : (r : Reading) (items : List Item) (k : ℕ) (i : Item) → slice_get items k ≡ Some i → behind r (take (k + 1) items) ≡ step (behind r (take k items)) i
+after_next r items k i e = ap (behind r) (take_next items k i e) ∙ after_append r (take k items) (i ∷ [])
 
 pub tree_next : (r : Reading) (items : List Item) (k : ℕ) (i : Item) → slice_get items k ≡ Some i → tree r (take (k + 1) items) ≡ tree r (take k items) ++ shown (behind r (take k items)) i
 tree_next r items k i e = ap (tree r) (take_next items k i e) ∙ tree_append r (take k items) (i ∷ []) ∙ ap (λ z. tree r (take k items) ++ z) (append-nil (shown (behind r (take k items)) i))

@@ -2,7 +2,7 @@
 --     IsOutside, outside_step       an item before it
 --     IsStartOfRoot, root_step      its start
 --     rootless                      there is none
---     after_root                    nothing of the tree stands behind it
+--     after_root                    nothing of the tree stands after it
 --     next_new, root_placed, first_placed     one blip more
 --     next_missing, next_taken, next_full     why it isn't added
 use Rattle.std.proofs.Common.{◌≡◌, ◌≢◌, ◌≤◌, ◌<◌, ◌+◌, ◌-◌, ◌%◌, ◌==◌, ◌&&◌, ℕ, zero, suc, Bool, true, false, cond, not, codes, List, [], ◌∷◌, ◌++◌, length, take, drop, slice_get, Option, Some, None, refl, sym, ap, subst, ◌∙◌, arith, true≢false, append_assoc, append-nil, take-add, drop-drop}
@@ -32,9 +32,9 @@ use Rattle.conversation.specs.Search.{IsFound, IsRoot, IsRootless, IsEnd}
 use Rattle.conversation.specs.declared.search.Found.{Found}
 use Rattle.conversation.proofs.Editing.{kind_even, blip_node, id_there}
 use Rattle.conversation.proofs.Ends.{found_step}
-use Rattle.conversation.proofs.Entering.{thread_parity, from, item, enter, behind_enter, leave, behind_leave}
+use Rattle.conversation.proofs.Entering.{thread_parity, from, item, enter, after_enter, leave, after_leave}
 use Rattle.conversation.proofs.Placing.{IsNew}
-use Rattle.conversation.proofs.Readings.{next_item, tree_append, behind_append, tree_next, behind_next}
+use Rattle.conversation.proofs.Readings.{next_item, tree_append, after_append, tree_next, after_next}
 
 -- ---- before the conversation
 
@@ -83,7 +83,7 @@ root_of r End f n t = go (r.passed == 0) refl
 pub root_step : (r : Reading) (i : Item) → r.found ≡ false → r.inside ≡ 0 → (step r i).found ≡ true → IsStartOfRoot r i.content
 root_step r i f n t = root_of r i.content f n t
 
--- ---- behind it
+-- ---- after it
 
 abbrev over : ℕ → Reading
 over p = record { found = true; inside = 0; passed = p }
@@ -135,7 +135,7 @@ next_new r e n cs at even c = subst (λ z. IsNew z (bare cs) (a_blip n e ∷ [])
         enter e c.begins.kind (id_of n) empty n (item End empty ∷ []) kind (id_there n) ∙ ap (λ z. node_at e (id_of n) ∷ z) (leave e empty []) ∙ ap (λ z. z ∷ []) (blip_node e n even)
 
     same : behind (from e) (item (Start c.begins.kind (id_of n)) empty ∷ item End empty ∷ []) ≡ from e
-    same = behind_enter e c.begins.kind (id_of n) empty n (item End empty ∷ []) kind (id_there n) ∙ behind_leave e empty []
+    same = after_enter e c.begins.kind (id_of n) empty n (item End empty ∷ []) kind (id_there n) ∙ after_leave e empty []
 
 pub thread_depth : (items : List Item) (f : Found) (t : Key) (found : IsFound (is_thread t) items f) → (found.node.depth % 2 == 0) ≡ false
 thread_depth items f t found =
@@ -169,7 +169,7 @@ module _ (items new : List Item) (f : Found) (k : ℕ) (root : IsRoot items f) (
   inside = tree f.reading (take k rest)
 
   begun : behind start (take here items) ≡ f.reading
-  begun = behind_next start items f.place root.item root.here ∙ sym root.reading
+  begun = after_next start items f.place root.item root.here ∙ sym root.reading
 
   nothing : tree start (take here items) ≡ []
   nothing = tree_next start items f.place root.item root.here ∙ ap (λ z. z ++ shown (behind start (take f.place items)) root.item) root.empty ∙ root.shows
@@ -181,7 +181,7 @@ module _ (items new : List Item) (f : Found) (k : ℕ) (root : IsRoot items f) (
   left = sym (drop-drop k here items)
 
   ended : behind start (take place items) ≡ f.reading
-  ended = ap (behind start) until ∙ behind_append start (take here items) (take k rest) ∙ ap (λ r. behind r (take k rest)) begun ∙ end.same
+  ended = ap (behind start) until ∙ after_append start (take here items) (take k rest) ∙ ap (λ r. behind r (take k rest)) begun ∙ end.same
 
   shown_until : tree start (take place items) ≡ inside
   shown_until = ap (tree start) until ∙ tree_append start (take here items) (take k rest) ∙ (λ i. nothing i ++ tree (begun i) (take k rest))
@@ -192,28 +192,28 @@ module _ (items new : List Item) (f : Found) (k : ℕ) (root : IsRoot items f) (
   pub reading_is : f.reading ≡ from 0
   reading_is = λ i. record { found = root.begun.found i; inside = root.inside i; passed = root.begun.passed i }
 
-  -- behind the end of the conversation there is nothing
+  -- after the end of the conversation there is nothing
   over_is : (back : List Item) → tree f.reading (end.item ∷ back) ≡ []
   over_is back =
       ap (λ r. tree r (end.item ∷ back)) reading_is ∙ ap (λ c. shown_content (from 0) c ++ tree (step_content (from 0) c) back) end.ends ∙ after_root 0 back
 
-  behind_it : tree f.reading (drop k rest) ≡ []
-  behind_it = ap (tree f.reading) (next_item rest k end.item end.here) ∙ over_is (drop (k + 1) rest)
+  after_it : tree f.reading (drop k rest) ≡ []
+  after_it = ap (tree f.reading) (next_item rest k end.item end.here) ∙ over_is (drop (k + 1) rest)
 
   whole : thread_tree items ≡ inside
-  whole = ap (tree start) (sym (take-append-drop place items)) ∙ split (drop place items) ∙ ap (λ z. inside ++ z) (ap (tree f.reading) left ∙ behind_it) ∙ append-nil inside
+  whole = ap (tree start) (sym (take-append-drop place items)) ∙ split (drop place items) ∙ ap (λ z. inside ++ z) (ap (tree f.reading) left ∙ after_it) ∙ append-nil inside
 
   pub root_placed : (n : Key) → IsNew f.reading new (a_blip n 0 ∷ []) → continued [] n (thread_tree items) ≡ Some (thread_tree (replaced items place 0 new))
   root_placed n is =
       let tail : drop (place + 0) items ≡ drop k rest = ap (λ z. drop z items) (omega arith) ∙ left in
       let grew : tree f.reading (new ++ drop (place + 0) items) ≡ a_blip n 0 ∷ [] =
-      tree_append f.reading new (drop (place + 0) items) ∙ (λ i. is.shows i ++ tree (is.same i) (tail i)) ∙ ap (λ z. (a_blip n 0 ∷ []) ++ z) behind_it in
+      tree_append f.reading new (drop (place + 0) items) ∙ (λ i. is.shows i ++ tree (is.same i) (tail i)) ∙ ap (λ z. (a_blip n 0 ∷ []) ++ z) after_it in
       ap (λ z. Some (z ++ a_blip n 0 ∷ [])) whole
       ∙ ap Some (sym (ap (tree start) (append_assoc (take place items) new (drop (place + 0) items)) ∙ split (new ++ drop (place + 0) items) ∙ ap (λ z. inside ++ z) grew))
 
   pub root_is_found : (behind start items).found ≡ true
   root_is_found =
-      ap (λ z. (behind start z).found) (sym (take-append-drop place items)) ∙ ap (λ (r : Reading). r.found) (behind_append start (take place items) (drop place items) ∙ ap (λ r. behind r (drop place items)) ended) ∙ stays_found f.reading (drop place items) root.begun.found
+      ap (λ z. (behind start z).found) (sym (take-append-drop place items)) ∙ ap (λ (r : Reading). r.found) (after_append start (take place items) (drop place items) ∙ ap (λ r. behind r (drop place items)) ended) ∙ stays_found f.reading (drop place items) root.begun.found
 
 -- a conversation that begins
 pub first_nest : (n : Key) (cs : List Content) → IsFirst n cs → Balanced (bare cs)

@@ -1,5 +1,5 @@
 -- What one step of a search tells.
---     slice_drop                    an item behind a front
+--     slice_drop                    an item after a front
 --     step_balanced                 what is open is what the rest still ends
 --     IsOne, one_shown              an item that begins the node that is looked for
 use Rattle.std.proofs.Common.{◌≡◌, ◌<◌, ◌+◌, ◌==◌, length, ◌||◌, ℕ, zero, suc, Bool, true, false, cond, List, [], ◌∷◌, drop, slice_get, Option, Some, None, refl, sym, ap, subst, ◌∙◌, arith, true≢false}

@@ -3,8 +3,8 @@
 --     is_blip, is_thread       a node is the blip, the thread, of an id
 --     has test ns              a node passes the test
 --     is_taken id ns           a blip or a thread has the id
---     under d new ns           the nodes behind all those at the front that stand deeper than d
---     grown test new ns        the first node that passes the test has new ones behind all that is below it; None where none passes
+--     under d new ns           the nodes after all those at the front that stand deeper than d
+--     grown test new ns        the first node that passes the test has new ones after all that is below it; None where none passes
 --     a_blip, a_thread         a new node
 --     replied inline b t n ns  the blip b has one thread more, t, with the blip n
 --     is_there t ns            the thread t is there; the empty id is that of the root thread, which always is

@@ -3,8 +3,8 @@
 --     is_wanted w id n          the node is the one of the id that is wanted
 --     AreWithin b ns            each node stands in an element of the tree whose depth in the conversation is b
 --     FirstAtMost d ns          the first node stands no deeper than d
---     IsBegun items f           an element of the tree begins at its place, and how far the manifest is read behind its start
---     IsFound test items f      the start of the first node that passes the test, and how far the manifest is read behind it
+--     IsBegun items f           an element of the tree begins at its place, and how far the manifest is read after its start
+--     IsFound test items f      the start of the first node that passes the test, and how far the manifest is read after it
 --     ends_here r c b           the content ends the element of the tree that was begun last where b were open
 --     IsRoot items f            the start of the conversation, before which the tree has no node
 --     IsRootless items          there is no conversation

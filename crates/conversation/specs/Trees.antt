@@ -2,17 +2,17 @@
 -- passed over with all that is in it.
 --     Reading                  whether the conversation was found, how many of its elements are open, itself included, and how many
 --                              elements are open that are passed over
---     start, opened, passed, closed     before the first item; behind a start of the tree, behind another one, behind an end
+--     start, opened, passed, closed     before the first item; after a start of the tree, after another one, after an end
 --     is_named kind name       an element's type is this one
 --     kind_at d                the type of a node of this depth: `blip` or `thread`
 --     enters r kind m          a start of this type, with these attributes, is of the tree: the first `conversation`, or a blip or a
 --                              thread in its place that has an `id`
---     step r i                 how far the manifest is read behind an item
+--     step r i                 how far the manifest is read after an item
 --     holds m key              an attribute is `true`
 --     part_at d m, node_at d m what stands at this depth
 --     shown r i                the node that an item adds
 --     tree r items             the nodes of the items
---     behind r items           how far the manifest is read behind them
+--     after r items           how far the manifest is read after them
 --     thread_tree items        the tree of a manifest
 use Rattle.std.specs.Prelude.{ℕ, zero, suc, ◌+◌, ◌-◌, ◌%◌, ◌==◌, Bool, true, false, cond, ◌&&◌, not, List, [], ◌∷◌, ◌++◌, Some, is_some, unwrap_or, codes}
 use Rattle.std.specs.FinMap.{get}

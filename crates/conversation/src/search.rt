@@ -20,7 +20,7 @@ pub(crate) enum Want {
     OfAny,
 }
 
-/// The start of a node: its place, and how far the manifest is read behind it.
+/// The start of a node: its place, and how far the manifest is read after it.
 #[derive(Clone, Copy, Drop)]
 pub(crate) struct Found {
     pub place: u64,
@@ -106,7 +106,7 @@ fn is_end(reading: &Reading, item: &Item, inside: u64) -> bool
     }
 }
 
-/// How many items behind a place, up to which the manifest is read, the element ends that was begun last.
+/// How many items after a place, up to which the manifest is read, the element ends that was begun last.
 pub(crate) fn end_behind<D: Items>(manifest: &D, from: u64, begun: Reading) -> u64
     requires from { from ≤ length (D.items manifest.now) }
     requires inside { 0 < begun.inside }

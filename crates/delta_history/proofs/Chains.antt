@@ -1,5 +1,5 @@
 -- What is known of the parts of a legal history.
---     legal_more, legal_front, legal_behind      a delta more, and the two parts of one
+--     legal_more, legal_front, legal_after      a delta more, and the two parts of one
 --     starts_at, goes_from      where a delta starts, and that it leads on from there
 --     some_ops                  it has an operation
 --     at_longer                 the points of the front
@@ -23,9 +23,9 @@ pub legal_front : (name : List ℕ) (b xs ys : List DeltaOf) → IsLegalFrom nam
 legal_front name b [] ys l = tt
 legal_front name b (x ∷ xs) ys l = (l.0, legal_front name (b ++ x ∷ []) xs ys l.1)
 
-pub legal_behind : (name : List ℕ) (b xs ys : List DeltaOf) → IsLegalFrom name b (xs ++ ys) → IsLegalFrom name (b ++ xs) ys
-legal_behind name b [] ys l = subst (λ z. IsLegalFrom name z ys) (sym (append-nil b)) l
-legal_behind name b (x ∷ xs) ys l = subst (λ z. IsLegalFrom name z ys) (append_assoc b (x ∷ []) xs) (legal_behind name (b ++ x ∷ []) xs ys l.1)
+pub legal_after : (name : List ℕ) (b xs ys : List DeltaOf) → IsLegalFrom name b (xs ++ ys) → IsLegalFrom name (b ++ xs) ys
+legal_after name b [] ys l = subst (λ z. IsLegalFrom name z ys) (sym (append-nil b)) l
+legal_after name b (x ∷ xs) ys l = subst (λ z. IsLegalFrom name z ys) (append_assoc b (x ∷ []) xs) (legal_after name (b ++ x ∷ []) xs ys l.1)
 
 -- ---- a delta of it
 

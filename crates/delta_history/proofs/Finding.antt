@@ -4,7 +4,7 @@
 --     end_is             the hashed version at a version
 --     state_from, state_is    the state there
 --     kept_at            what is kept for an id
---     found_front, none_front    a place among the first deltas, and behind them
+--     found_front, none_front    a place among the first deltas, and after them
 --     index_more, index_longer     one more delta in the index, and one that isn't
 --     legal_end          the point at the head
 --     has_place, held_end     whether an id has a place; the bound on items
@@ -23,7 +23,7 @@ use Rattle.delta_history.specs.Legal.{has_id, IsNext, IsLegalFrom, IsLegal}
 use Rattle.wavelet_state.specs.Snapshots.{max_inserted}
 use Rattle.delta_history.specs.Verdicts.{kept}
 use Rattle.delta_history.specs.Places.{started_below, IsRisingFrom, from_or, if_at, end_at, count_at, place_from, stands_at, Places, place_in, IsIndex, IsPut}
-use Rattle.delta_history.proofs.Points.{and_then_is, behind_point, replay_more, rises, run_some, run_front}
+use Rattle.delta_history.proofs.Points.{and_then_is, after_point, replay_more, rises, run_some, run_front}
 use Rattle.delta_history.proofs.Chains.{starts_at, goes_from}
 use Rattle.delta_history.proofs.Versions.{cut_is}
 
@@ -58,7 +58,7 @@ rising_from name b [] p l e = tt
 rising_from name b (d ∷ ds) p l e =
     let n = l.0 in
     let z = goes_from name b d p e n in
-    let a = behind_point p n.after d z in
+    let a = after_point p n.after d z in
     let at : d.from.version ≡ p.at.version = ap (λ (y : VersionAt). y.version) (starts_at name b d p e n) in
     let rest = rising_from name (b ++ d ∷ []) ds n.after l.1 (replay_more (start name) p n.after b d e z) in
     (omega (arith, at), lower d.from.version n.after.at.version ds (omega (arith, at, a.version)) rest)
@@ -166,7 +166,7 @@ end_from name b (d ∷ ds) p q v l e r = go (end_from name (b ++ d ∷ []) ds n.
 abbrev found_state : Option (Point × List DeltaOf) → Option State
 found_state o = option_map (λ c. c.0.state) o
 
--- the state behind the first k deltas, where something was found
+-- the state after the first k deltas, where something was found
 abbrev state_if : State → ℕ → List DeltaOf → Option VersionAt → Option State
 state_if s k ds o = option_and_then (λ at. run_all s (take k ds)) o
 
@@ -199,7 +199,7 @@ state_from name b (d ∷ ds) p q v l e r = go (state_from name (b ++ d ∷ []) d
 
     led : run_all p.state (d ∷ take (started_below v ds) ds) ≡ run_all n.after.state (take (started_below v ds) ds)
     led =
-        let a = behind_point p n.after d z in
+        let a = after_point p n.after d z in
         and_then_is (run p.state (acts_of d)) (λ s. run_all s (take (started_below v ds) ds)) a.state a.goes ∙ ap (λ s. run_all s (take (started_below v ds) ds)) (sym a.same)
 
     ends : (t : Bool) → nat_lt p.at.version v ≡ t → state_if p.state (started_below v (d ∷ ds)) (d ∷ ds) (end_at v q.at (d ∷ ds)) ≡ state_if p.state (cond t (suc (started_below v ds)) 0) (d ∷ ds) (if_at v (from_or q.at (slice_get (d ∷ ds) (cond t (suc (started_below v ds)) 0))))
@@ -304,7 +304,7 @@ new_place i m (d ∷ ds) h = go (same_id i d.id) h (new_place i (suc m) ds)
     go true h f = absurd (true≢false h)
     go false h f = f h
 
--- the place of an id with the delta behind
+-- the place of an id with the delta after it
 last_place : (i : IdOf) (m n : ℕ) (ds : List DeltaOf) (d : DeltaOf) → slice_get ds n ≡ Some d → same_id i d.id ≡ false → place_from i m (take (suc n) ds) ≡ place_from i m (take n ds)
 last_place i m n [] d e s = no_value e
 last_place i m zero (x ∷ ds) d e s = ap (λ b. cond b (Some m) None) (ap (λ (z : DeltaOf). same_id i z.id) (same_Some e) ∙ s)

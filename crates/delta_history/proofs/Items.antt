@@ -1,5 +1,5 @@
 -- The items that are there are at most those that were inserted.
---     count-set                 how many items all documents have, behind a change of one
+--     count-set                 how many items all documents have, after a change of one
 --     act_counted, run_counted  acts add at most what they insert
 --     items_inserted            at the head of a legal history all documents together have at most the items that its deltas insert
 --     head_fits                 so its state makes a snapshot
@@ -27,7 +27,7 @@ use Rattle.wavelet_state.specs.Snapshots.{max_inserted, is_snapshot}
 use Rattle.delta_history.specs.Legal.{IsLegal}
 use Rattle.delta_history.specs.Points.{Point, start, acts_of, next_point, replay, end_of}
 use Rattle.delta_history.proofs.Finding.{legal_end, held_end}
-use Rattle.delta_history.proofs.Points.{behind_point}
+use Rattle.delta_history.proofs.Points.{after_point}
 
 -- ---- documents, counted
 
@@ -130,7 +130,7 @@ IsCovered p = item_count p.state.documents ≤ p.count
 
 next_covered : (p q : Point) (d : DeltaOf) → IsCovered p → next_point p d ≡ Some q → IsCovered q
 next_covered p q d h e =
-    let b = behind_point p q d e in
+    let b = after_point p q d e in
     let same = ap (λ (x : State). item_count x.documents) b.same in
     omega (arith, h, run_counted p.state b.state (acts_of d) b.goes, same, b.count)
 

@@ -26,7 +26,7 @@ use Rattle.delta_history.specs.Legal.{has_id, standing, may_write, max_delta, Is
 use Rattle.wavelet_state.specs.Snapshots.{max_inserted}
 use Rattle.delta_history.specs.Verdicts.{kept, op_of, ops_of, accepted, is_within, same_hash, judge_kept, judge_head, judge_author, judge_base, judge_hash, judge_ops, judge_pass, judge_bounds, judge_next}
 use Rattle.delta_history.specs.Laws.{IsKept, IsAdded, IsJudged, IsSpelled, EndsSpelled, JudgedIs}
-use Rattle.delta_history.proofs.Points.{and_then_is, replay_append, behind_point, pass_through}
+use Rattle.delta_history.proofs.Points.{and_then_is, replay_append, after_point, pass_through}
 use Rattle.delta_history.proofs.Keeping.{kept_is, kept_there}
 use Rattle.delta_history.proofs.Versions.{IsCut, cut_is}
 
@@ -95,7 +95,7 @@ added : (name : List ℕ) (h : List DeltaOf) (s : Submission) (t : ℕ) (p b : P
 added name h s t p b ds x acts f v pa sp w q n =
     let th = pass_through b p (meanings s.ops) ds x v (found_end name h s p b ds f) in
     let is : th.acts' ≡ acts = same_Some (sym th.defined ∙ pa) in
-    let a = behind_point p q (accepted p s t acts) n in
+    let a = after_point p q (accepted p s t acts) n in
     let long : length (ops_of acts) ≡ length s.ops = length-map acts op_of ∙ sym (ap length is) ∙ th.long ∙ length-map s.ops meaning in
     let wide : length (meanings s.ops) ≡ length s.ops = length-map s.ops meaning in
     let small : inserted acts ≤ inserted (meanings s.ops) = subst (λ z. inserted z ≤ inserted (meanings s.ops)) is th.small in

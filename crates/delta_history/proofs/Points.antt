@@ -1,9 +1,9 @@
--- Points, one behind the other.
---     IsBehind p q d, behind_point    what is known of the point behind a delta
+-- Points, one after the other.
+--     IsBehind p q d, after_point    what is known of the point after a delta
 --     replay_append, replay_more      deltas in a row
 --     rises                           versions only rise
 --     run_some, run_front             the states alone, of the whole and of its front
---     IsThrough acts ds q, pass_through   acts that are valid at a point pass through the deltas behind it, and are valid there
+--     IsThrough acts ds q, pass_through   acts that are valid at a point pass through the deltas after it, and are valid there
 use Rattle.std.proofs.Common.{◌≡◌, ℕ, zero, suc, ◌+◌, ◌≤◌, List, [], ◌∷◌, ◌++◌, length, take, Option, Some, refl, sym, ap, subst, ◌∙◌, arith, le_refl, option_and_then}
 use Rattle.doc_op.proofs.Applying.{same_Some, mapped}
 use Rattle.wavelet_op.specs.Acts.{Act, inserted}
@@ -26,8 +26,8 @@ pub record IsBehind (p q : Point) (d : DeltaOf) : Type 0 where
   pub version : q.at.version ≡ p.at.version + length d.ops
   pub count : q.count ≡ p.count + inserted (acts_of d)
 
-pub behind_point : (p q : Point) (d : DeltaOf) → next_point p d ≡ Some q → IsBehind p q d
-behind_point p q d e =
+pub after_point : (p q : Point) (d : DeltaOf) → next_point p d ≡ Some q → IsBehind p q d
+after_point p q d e =
     let m = mapped (point_behind p d) (run p.state (acts_of d)) q e in
     let is : q ≡ point_behind p d m.value = sym m.gives in
     record {
@@ -50,7 +50,7 @@ pub rises : (p q : Point) (xs : List DeltaOf) → replay p xs ≡ Some q → p.a
 rises p q [] e = subst (λ (z : Point). p.at.version ≤ z.at.version) (same_Some e) (le_refl _)
 rises p q (x ∷ xs) e =
     let m = and_then_some (next_point p x) (λ z. replay z xs) q e in
-    let a = behind_point p m.0 x m.1 in
+    let a = after_point p m.0 x m.1 in
     let h : m.0.at.version ≤ q.at.version = rises m.0 q xs m.2 in
     omega (arith, a.version)
 
@@ -58,7 +58,7 @@ pub run_some : (p q : Point) (xs : List DeltaOf) → replay p xs ≡ Some q → 
 run_some p q [] e = ap (λ (z : Point). Some z.state) (same_Some e)
 run_some p q (x ∷ xs) e =
     let m = and_then_some (next_point p x) (λ z. replay z xs) q e in
-    let a = behind_point p m.0 x m.1 in
+    let a = after_point p m.0 x m.1 in
     and_then_is (run p.state (acts_of x)) (λ s. run_all s xs) a.state a.goes ∙ ap (λ s. run_all s xs) (sym a.same) ∙ run_some m.0 q xs m.2
 
 pub run_front : (s t : State) (n : ℕ) (xs : List DeltaOf) → run_all s xs ≡ Some t → (u : State) × (run_all s (take n xs) ≡ Some u)
@@ -90,7 +90,7 @@ pass_through p q acts [] x v r = record {
 }
 pass_through p q acts (d ∷ ds) x v r =
     let m = and_then_some (next_point p d) (λ z. replay z ds) q r in
-    let step = behind_point p m.0 d m.1 in
+    let step = after_point p m.0 d m.1 in
     let g = delta_square p.state step.state x acts (acts_of d) step.goes v in
     let goes : run m.0.state g.later' ≡ Some g.end = subst (λ z. run z g.later' ≡ Some g.end) (sym step.same) g.later_goes in
     let rest = pass_through m.0 q g.later' ds g.end goes m.2 in

@@ -16,11 +16,11 @@ use Rattle.delta_history.specs.Legal.{standing, may_write, IsNext, IsLegal}
 use Rattle.delta_history.specs.Points.{Point, start, acts_of, point_behind, next_point, end_of}
 use Rattle.delta_history.specs.Pushes.{IsAsked, IsInvalid, IsReady, IsRefused}
 use Rattle.delta_history.specs.Twins.{IsBehind}
-use Rattle.delta_history.specs.Steps.{IsFitting, IsUnfit, step_behind}
+use Rattle.delta_history.specs.Steps.{IsFitting, IsUnfit, step_after}
 use Rattle.delta_history.specs.declared.step.Step.{Step}
-use Rattle.delta_history.proofs.Chains.{legal_behind}
+use Rattle.delta_history.proofs.Chains.{legal_after}
 use Rattle.delta_history.proofs.Finding.{legal_end}
-use Rattle.delta_history.proofs.Points.{behind_point, replay_more}
+use Rattle.delta_history.proofs.Points.{after_point, replay_more}
 
 pub ready : (h : HistoryOf) (d : DeltaOf) (s : State) → IsLegal h.name h.deltas → IsAsked h d → run (head_of h).state (acts_of d) ≡ Some s → IsReady h d (point_behind (head_of h) d s)
 ready h d s l a r =
@@ -48,7 +48,7 @@ ready h d s l a r =
 -- ---- refusals
 
 last_next : (h : HistoryOf) (d : DeltaOf) → IsLegal h.name (h.deltas ++ d ∷ []) → IsNext h.name h.deltas d
-last_next h d l = (legal_behind h.name [] h.deltas (d ∷ []) l).0
+last_next h d l = (legal_after h.name [] h.deltas (d ∷ []) l).0
 
 here_is : (h : HistoryOf) (d : DeltaOf) (n : IsNext h.name h.deltas d) → n.here ≡ head_of h
 here_is h d n = sym (ap (λ o. unwrap_or o (start h.name)) n.is_head)
@@ -56,7 +56,7 @@ here_is h d n = sym (ap (λ o. unwrap_or o (start h.name)) n.is_head)
 fits : (h : HistoryOf) (d : DeltaOf) → IsNext h.name h.deltas d → IsFitting h d
 fits h d n =
     let here = here_is h d n in
-    let a = behind_point n.here n.after d n.goes in
+    let a = after_point n.here n.after d n.goes in
     let counted : n.here.at.version + length d.ops ≤ _ = subst (λ z. z ≤ _) a.version n.counted in
     let held : n.here.count + inserted (acts_of d) ≤ _ = subst (λ z. z ≤ _) a.count n.held in
     record {
@@ -82,7 +82,7 @@ invalid h d f e = (
   f.starts,
   λ l.
       let n = last_next h d l in
-      let a = behind_point n.here n.after d n.goes in
+      let a = after_point n.here n.after d n.goes in
       no_value (sym (ap (λ (p : Point). run p.state (acts_of d)) (here_is h d n) ∙ e) ∙ a.goes),
 )
 
@@ -106,16 +106,16 @@ pub grown_end : (g h k : HistoryOf) (d : DeltaOf) (p : Point) → IsSameHistory 
 grown_end g h k d p s w e = (λ i. end_of (w.name i) (w.deltas i)) ∙ moved_end g h d p s e
 
 -- what a delta leads to, as its step and the state tell it
-pub ready_step : (h : HistoryOf) (d : DeltaOf) (t : Step) (s s' : State) → IsLegal h.name h.deltas → IsAsked h d → t ≡ step_behind (head_of h).at (head_of h).count d → (head_of h).state ≡ s → run s (acts_of d) ≡ Some s' → IsReady h d (record { at = t.to; state = s'; count = t.inserted })
+pub ready_step : (h : HistoryOf) (d : DeltaOf) (t : Step) (s s' : State) → IsLegal h.name h.deltas → IsAsked h d → t ≡ step_after (head_of h).at (head_of h).count d → (head_of h).state ≡ s → run s (acts_of d) ≡ Some s' → IsReady h d (record { at = t.to; state = s'; count = t.inserted })
 ready_step h d t s s' l a e u r =
     let x = ready h d s' l a (ap (λ z. run z (acts_of d)) u ∙ r) in
     record { next = x.next; leads = x.leads ∙ (λ i. record { at = (sym e i).to; state = s'; count = (sym e i).inserted }) }
 
--- the state before a delta that came behind the others
+-- the state before a delta that came after the others
 pub before_last : (h k : HistoryOf) (d : DeltaOf) (p : Point) (s : State) → IsReady h d p → IsGrown h d k → (head_of h).state ≡ s → IsBehind k.name k.deltas s
 before_last h k d p s r w e =
     let n = r.next in
-    let a = behind_point n.here n.after d n.goes in
+    let a = after_point n.here n.after d n.goes in
     let here : n.here.state ≡ s = ap (λ (x : Point). x.state) (here_is h d n) ∙ e in
     let end : end_of h.name (h.deltas ++ d ∷ []) ≡ n.after = ap (λ o. unwrap_or o (start h.name)) (replay_more (start h.name) n.here n.after h.deltas d n.is_head n.goes) in
     let whole : head_of k ≡ n.after = (λ i. end_of (w.name i) (w.deltas i)) ∙ end in

@@ -16,8 +16,8 @@ use Rattle.delta_history.specs.Points.{Point, start, acts_of, next_point, replay
 use Rattle.delta_history.specs.Passing.{all_acts, pass_to, pass_between}
 use Rattle.delta_history.specs.Legal.{IsLegalFrom, IsLegal}
 use Rattle.delta_history.specs.Laws.{PointIs, PointThere, PassIs, Begins}
-use Rattle.delta_history.proofs.Points.{and_then_is, behind_point, replay_more, rises}
-use Rattle.delta_history.proofs.Chains.{legal_front, legal_behind, some_ops, at_longer}
+use Rattle.delta_history.proofs.Points.{and_then_is, after_point, replay_more, rises}
+use Rattle.delta_history.proofs.Chains.{legal_front, legal_after, some_ops, at_longer}
 
 eq_false : (a b : ℕ) → a < b → (a == b) ≡ false
 eq_false a b h = grind (arith, nat_tests)
@@ -32,7 +32,7 @@ true_eq a b e = (Decides-eqb a b).0 e
 climbs : (name : List ℕ) (b ds : List DeltaOf) (d : DeltaOf) (p q : Point) → IsLegalFrom name b (d ∷ ds) → replay (start name) b ≡ Some p → replay p (d ∷ ds) ≡ Some q → p.at.version < q.at.version
 climbs name b ds d p q l e r =
     let m = and_then_some (next_point p d) (λ z. replay z ds) q r in
-    let a = behind_point p m.0 d m.1 in
+    let a = after_point p m.0 d m.1 in
     let u : m.0.at.version ≤ q.at.version = rises m.0 q ds m.2 in
     let some = some_ops name b d l.0 in
     omega (arith, a.version, u, some)
@@ -125,7 +125,7 @@ pub pass_is : PassIs
 pass_is name ds b e acts acts' l x =
     let l' = subst (λ z. IsLegalFrom name [] z) (sym x.whole) l in
     let c = cut_whole name ds x.before (x.between ++ x.behind) x.base l x.whole x.is_base in
-    let t = pass_to_is name x.before x.between x.behind x.base x.end acts acts' (legal_behind name [] x.before (x.between ++ x.behind) l') x.is_base x.is_end x.passed in
+    let t = pass_to_is name x.before x.between x.behind x.base x.end acts acts' (legal_after name [] x.before (x.between ++ x.behind) l') x.is_base x.is_end x.passed in
     subst (λ (z : VersionAt). pass_between name ds z.version e.version acts ≡ Some acts') x.at_base
     (and_then_is (cut (start name) x.base.at.version ds) (λ y. pass_to y.0 e.version acts y.1) (x.base, x.between ++ x.behind) c
     ∙ subst (λ (z : VersionAt). pass_to x.base z.version acts (x.between ++ x.behind) ≡ Some acts') x.at_end t)

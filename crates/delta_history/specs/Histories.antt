@@ -2,7 +2,7 @@
 --     HistoryOf           the name of the wavelet, the deltas in order, and how many more there is room for
 --     head_of h           the point at its head
 --     IsSameHistory g h   equal but for the room
---     IsGrown g d h       the delta is behind the others
+--     IsGrown g d h       the delta is after the others
 --     hash_found h v      the hash at a version; None where it is no delta end
 use Rattle.std.specs.Prelude.{◌≡◌, ℕ, List, [], ◌∷◌, ◌++◌, Option}
 use Rattle.std.specs.Option.{option_map}

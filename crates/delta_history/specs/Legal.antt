@@ -6,7 +6,7 @@
 --                                 empty history by adding itself first
 --     may_write r                 operations may be submitted
 --     IsNext name ds d            the delta may come next in the history
---     IsLegalFrom name before ds  each of the deltas may come next, behind those before
+--     IsLegalFrom name before ds  each of the deltas may come next, after those before
 --     IsLegal name ds             so from the start on
 use Rattle.std.specs.Prelude.{◌≡◌, ◌≤◌, ℕ, Bool, true, false, cond, ◌||◌, List, [], ◌∷◌, ◌++◌, length, Option, Some, None}
 use Rattle.doc_items.specs.Limits.{max_count}

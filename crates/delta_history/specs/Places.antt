@@ -1,10 +1,10 @@
 -- Where deltas stand in the list of a history, by which they are found without walking it.
 --     started_below v ds      how many deltas at the front were applied below a version
 --     IsRisingFrom n ds       the versions at which they were applied rise, from n on
---     end_at v head ds        the hashed version at v, where that is the start of one of the deltas or the head behind them
+--     end_at v head ds        the hashed version at v, where that is the start of one of the deltas or the head after them
 --     count_at v head ds      how many deltas lead up to v; None where that is none of these
 --     place_from i n ds       the place of the first delta of the id, where the first of the deltas has the place n
---     stands_at head ds k     where the delta at a place stands: its version, and the hashed version behind it
+--     stands_at head ds k     where the delta at a place stands: its version, and the hashed version after it
 --     Places                  a map from ids, by author and then by client and number, to places
 --     id_at author n          the id of this author, client and number
 --     place_in m i            the place there

@@ -2,11 +2,11 @@
 --     Point                  a version with its hash, the state there, and how many items were inserted up to there
 --     start name             where the history of a wavelet of this name starts
 --     acts_of d              the acts of a delta
---     point_behind p d s     the point behind a delta that was applied at p, where s is the state behind it
+--     point_behind p d s     the point after a delta that was applied at p, where s is the state after it
 --     next_point p d         so, where the acts of the delta are valid at p
---     replay p ds            the point behind deltas in turn
---     run_all s ds           the state behind them alone, from a state on
---     cut p v ds             the point at version v on the way from p through the deltas, and those behind it; None where no delta
+--     replay p ds            the point after deltas in turn
+--     run_all s ds           the state after them alone, from a state on
+--     cut p v ds             the point at version v on the way from p through the deltas, and those after it; None where no delta
 --                            ends there
 --     point_at name ds v     the point at a version of the history; None where the version is no delta end
 --     state_of o             the state of a point that was found
@@ -32,11 +32,11 @@ start name = record { at = record { version = 0; hash = zero_hash_of name }; sta
 abbrev pub acts_of : DeltaOf → List Act
 acts_of d = meanings d.ops
 
-abbrev pub version_behind : VersionAt → DeltaOf → VersionAt
-version_behind at d = record { version = at.version + length d.ops; hash = next_hash_of at.hash (delta_bytes d) }
+abbrev pub version_after : VersionAt → DeltaOf → VersionAt
+version_after at d = record { version = at.version + length d.ops; hash = next_hash_of at.hash (delta_bytes d) }
 
 abbrev pub point_behind : Point → DeltaOf → State → Point
-point_behind p d s = record { at = version_behind p.at d; state = s; count = p.count + inserted (acts_of d) }
+point_behind p d s = record { at = version_after p.at d; state = s; count = p.count + inserted (acts_of d) }
 
 abbrev pub next_point : Point → DeltaOf → Option Point
 next_point p d = option_map (point_behind p d) (run p.state (acts_of d))

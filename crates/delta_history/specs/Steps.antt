@@ -1,6 +1,6 @@
 -- What is asked of the next delta of a history, its state apart.
---     IsWithin at n d         behind a delta at this hashed version, where n items were inserted, the three bounds hold
---     step_behind at n d      the hashed version and the number of items behind it
+--     IsWithin at n d         after a delta at this hashed version, where n items were inserted, the three bounds hold
+--     step_after at n d      the hashed version and the number of items after it
 --     IsWritten at n d s t    the bounds hold, s is what the delta leads to, and t are the bytes that it has
 --     IsFitting h d           the delta starts at the head, its id is new, and the bounds hold
 --     IsUnfit h d e           why it doesn't fit
@@ -16,19 +16,19 @@ use Rattle.delta_history.specs.declared.step.Step.{Step}
 use Rattle.delta_history.specs.Histories.{HistoryOf, head_of}
 use Rattle.delta_history.specs.Legal.{has_id, max_delta}
 use Rattle.wavelet_state.specs.Snapshots.{max_inserted}
-use Rattle.delta_history.specs.Points.{acts_of, version_behind}
+use Rattle.delta_history.specs.Points.{acts_of, version_after}
 
 pub record IsWithin (at : VersionAt) (n : ℕ) (d : DeltaOf) : Type 0 where
   pub counted : at.version + length d.ops ≤ max_count
   pub held : n + inserted (acts_of d) ≤ max_inserted
   pub short : length (delta_bytes d) ≤ max_delta
 
-abbrev pub step_behind : VersionAt → ℕ → DeltaOf → Step
-step_behind at n d = record { to = version_behind at d; inserted = n + inserted (acts_of d) }
+abbrev pub step_after : VersionAt → ℕ → DeltaOf → Step
+step_after at n d = record { to = version_after at d; inserted = n + inserted (acts_of d) }
 
 pub record IsWritten (at : VersionAt) (n : ℕ) (d : DeltaOf) (s : Step) (text : List ℕ) : Type 0 where
   pub within : IsWithin at n d
-  pub step : s ≡ step_behind at n d
+  pub step : s ≡ step_after at n d
   pub is : IsDelta d
   pub bytes : text ≡ delta_bytes d
 

@@ -1,6 +1,6 @@
 -- The second state of a history.
 --     IsBehind name ds s     the last delta leads from this state to the one at the head
---     IsTwin name ds t       the second state is the one at the head, or it is behind it
+--     IsTwin name ds t       the second state is the one at the head, or it is after it
 use Rattle.std.specs.Prelude.{◌≡◌, ℕ, List, [], ◌∷◌, ◌++◌, Some}
 use Rattle.wavelet_op.specs.Deltas.{DeltaOf}
 use Rattle.wavelet_op.specs.States.{State, run}

@@ -1,5 +1,5 @@
 -- What becomes of a submission: the first of these tests that it fails gives the verdict.
---     kept i p ds             the version at which the delta of this id was applied, on the way from p, and the hashed version behind
+--     kept i p ds             the version at which the delta of this id was applied, on the way from p, and the hashed version after it
 --                             it
 --     op_of a, ops_of as      the operations of acts, those on documents in normal form
 --     accepted p s t acts     the delta that a submission becomes at the head p: at the time t, with its acts passed through what

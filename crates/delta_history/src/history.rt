@@ -8,12 +8,12 @@ ghost use Rattle.delta_history.specs.Legal.{adds_first, standing, may_write, IsL
 ghost use Rattle.wavelet_state.specs.Snapshots.{max_inserted};
 ghost use Rattle.delta_history.specs.Points.{start, acts_of, point_at, state_of};
 ghost use Rattle.delta_history.specs.Pushes.{IsAsked, IsInvalid, IsReady, IsRefused};
-ghost use Rattle.delta_history.specs.Steps.{IsFitting, IsWritten, step_behind};
+ghost use Rattle.delta_history.specs.Steps.{IsFitting, IsWritten, step_after};
 ghost use Rattle.delta_history.specs.Twins.{IsBehind};
 ghost use Rattle.delta_history.specs.Verdicts.{kept};
 
 use crate::log::Log;
-use crate::states::{lead_on, state_behind};
+use crate::states::{lead_on, state_after};
 use crate::step::{Step, Written, next_step, step_of};
 use crate::twin::{Twin, forget, keep};
 use crate::{HistoryFault, Kept};
@@ -99,7 +99,7 @@ impl Prepared {
         self.written.bytes.as_slice()
     }
 
-    /// The hashed version behind the delta.
+    /// The hashed version after the delta.
     pub fn to(&self) -> HashedVersion
         ensures { result ≡ self.now.after.at }
     {
@@ -127,7 +127,7 @@ impl History {
         self.log.name()
     }
 
-    /// The hashed version behind the last delta.
+    /// The hashed version after the last delta.
     pub fn head(&self) -> HashedVersion
         ensures { result ≡ (head_of self.now).at }
     {
@@ -185,7 +185,7 @@ impl History {
     {
         let deltas = self.log.deltas();
         match self.log.count_at(version) {
-            Some(count) => Ok(Some(state_behind(alloc, &deltas[..count])?)),
+            Some(count) => Ok(Some(state_after(alloc, &deltas[..count])?)),
             None => Ok(None),
         }
     }
@@ -229,11 +229,11 @@ impl History {
         }
     }
 
-    // So it is of a delta that has these bytes.
+    // What a delta of these bytes leads to from the head, but for its state. Refusals: as those of `step`.
     fn step_of(&self, delta: &AppliedDelta, bytes: &[u8]) -> Result<Step, HistoryFault>
         requires { bytes.now ≡ delta_bytes delta.now }
         ensures asked { OnOk result (IsAsked self.now delta.now) }
-        ensures step { IfOk result (λ s. s ≡ step_behind (head_of self.now).at (head_of self.now).count delta.now) }
+        ensures step { IfOk result (λ s. s ≡ step_after (head_of self.now).at (head_of self.now).count delta.now) }
         ensures refused { IfErr result (IsRefused self.now delta.now) }
         ensures legal { IsLegal self.now.name self.now.deltas }
     {
@@ -258,7 +258,7 @@ impl History {
         }
     }
 
-    // The state behind the last delta, from the one before it.
+    // The state after the last delta, from the one before it.
     fn caught_up(&self, alloc: Global, state: WaveletState) -> Result<WaveletState, Memory>
         requires { IsBehind self.now.name self.now.deltas state }
         ensures { IfOk result (λ s. (head_of self.now).state ≡ s) }
@@ -271,7 +271,7 @@ impl History {
         Ok(state)
     }
 
-    // The delta, which leads to this step but for its state, is behind the others. It is refused where its operations aren't valid.
+    // The delta, which leads to this step but for its state, is after the others. It is refused where its operations aren't valid.
     fn push_step(
         &mut self,
         alloc: Global,
@@ -280,7 +280,7 @@ impl History {
     ) -> Result<(), HistoryFault>
         requires legal { IsLegal self.old.name self.old.deltas }
         requires asked { IsAsked self.old delta }
-        requires step { step ≡ step_behind (head_of self.old).at (head_of self.old).count delta }
+        requires step { step ≡ step_after (head_of self.old).at (head_of self.old).count delta }
         ensures ok { OnOk result (IsGrown self.old delta self.new) }
         ensures refused { IfErr result (IsRefused self.old delta) }
         ensures same { OnErr result (IsSameHistory self.old self.new) }
@@ -296,7 +296,7 @@ impl History {
         }
     }
 
-    /// The delta is behind the others. Refusals: `NotNext` exactly where it doesn't start at the head; then `NotLegal` exactly where
+    /// The delta is after the others. Refusals: `NotNext` exactly where it doesn't start at the head; then `NotLegal` exactly where
     /// the longer history wouldn't be legal. After a refusal, `Memory` included, all but the room is as it was.
     pub fn push_applied(&mut self, alloc: Global, delta: AppliedDelta) -> Result<(), HistoryFault>
         ensures ok { OnOk result (IsGrown self.old delta self.new) }
@@ -307,7 +307,8 @@ impl History {
         self.push_step(alloc, delta, step)
     }
 
-    /// So it is with a delta that was read from these bytes, which aren't written anew.
+    /// The delta, which was read from these bytes, is after the others. Its bytes are hashed as they are; outcomes as those of
+    /// `push_applied`.
     pub fn push_read(
         &mut self,
         alloc: Global,
@@ -348,7 +349,7 @@ impl History {
         }
     }
 
-    /// The prepared delta, which may come next, is behind the others.
+    /// The prepared delta, which may come next, is after the others.
     pub fn commit(&mut self, prepared: Prepared)
         requires ready { IsReady self.old prepared.delta prepared.after }
         requires room { 0 < self.old.spare }
@@ -385,7 +386,7 @@ fn adds_first(ops: &Ops, address: &Address) -> bool
     }
 }
 
-// The state is behind the operations. Refusals: `NotLegal` exactly where they aren't valid. After one, the state is as it was.
+// The state is after the operations. Refusals: `NotLegal` exactly where they aren't valid. After one, the state is as it was.
 fn applied(alloc: Global, state: &mut WaveletState, ops: &Ops) -> Result<(), HistoryFault>
     ensures ok { OnOk result (run state.old (meanings ops.now) ≡ Some state.new) }
     ensures refused { IfErr result (IsInvalid state.old (meanings ops.now)) }

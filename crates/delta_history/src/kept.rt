@@ -5,6 +5,6 @@ use wave_base::HashedVersion;
 pub struct Kept {
     /// The version at which it was applied.
     pub at: u64,
-    /// The version behind it, with the hash there.
+    /// The version after it, with the hash there.
     pub to: HashedVersion,
 }

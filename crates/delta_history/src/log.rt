@@ -116,7 +116,7 @@ impl Log {
         (self.list.capacity() - self.list.len()) as u64
     }
 
-    // The hashed version at which the delta at a place was applied, or the head behind the last.
+    // The hashed version at which the delta at a place was applied, or the head after the last.
     fn at(&self, place: usize) -> HashedVersion
         ensures { result ≡ from_or (head_of self.now).at (slice_get self.now.deltas place) }
     {
@@ -212,7 +212,7 @@ impl Log {
         Ok(())
     }
 
-    /// The delta, which may come next, is behind the others. The head is at `head` then, and so many items are inserted.
+    /// The delta, which may come next, is after the others. The head is at `head` then, and so many items are inserted.
     pub fn push(&mut self, delta: AppliedDelta, head: HashedVersion, inserted: u64)
         requires next { IsNext self.old.name self.old.deltas delta }
         requires room { 0 < self.old.spare }

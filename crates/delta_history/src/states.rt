@@ -1,4 +1,4 @@
-// States behind deltas that are known to be valid.
+// States after deltas that are known to be valid.
 ghost use Rattle.std.specs.Prelude.{◌≡◌, Some, IsSome, IfOk, OnOk};
 ghost use Rattle.wavelet_op.specs.States.{empty_state, run};
 ghost use Rattle.delta_history.specs.Points.{acts_of, run_all};
@@ -24,8 +24,8 @@ pub(crate) fn lead_on(
     }
 }
 
-/// The state behind the deltas, which are valid in turn from the empty state on.
-pub(crate) fn state_behind(alloc: Global, deltas: &[AppliedDelta]) -> Result<WaveletState, Memory>
+/// The state after the deltas, which are valid in turn from the empty state on.
+pub(crate) fn state_after(alloc: Global, deltas: &[AppliedDelta]) -> Result<WaveletState, Memory>
     requires { IsSome (run_all empty_state deltas.now) }
     ensures { IfOk result (λ s. run_all empty_state deltas.now ≡ Some s) }
 {

@@ -5,7 +5,7 @@ ghost use Rattle.wavelet_op.specs.Acts.{inserted_act, inserted, meaning, meaning
 ghost use Rattle.delta_history.specs.Histories.{head_of};
 ghost use Rattle.delta_history.specs.Legal.{has_id, max_delta};
 ghost use Rattle.wavelet_state.specs.Snapshots.{max_inserted};
-ghost use Rattle.delta_history.specs.Steps.{IsWithin, IsWritten, IsFitting, IsUnfit, step_behind};
+ghost use Rattle.delta_history.specs.Steps.{IsWithin, IsWritten, IsFitting, IsUnfit, step_after};
 ghost use Rattle.doc_items.specs.Limits.{max_count};
 
 use crate::HistoryFault;
@@ -21,7 +21,7 @@ use wavelet_state::MAX_INSERTED;
 // The most bytes of a delta.
 const MAX_DELTA: u64 = 1 << 20;
 
-/// What a delta leads to: the hashed version behind it, and how many items are inserted up to there.
+/// What a delta leads to: the hashed version after it, and how many items are inserted up to there.
 #[derive(Clone, Copy, Drop)]
 pub(crate) struct Step {
     pub to: HashedVersion,
@@ -85,10 +85,10 @@ fn bytes(alloc: Global, delta: &AppliedDelta) -> Result<Option<Vec<u8>>, Memory>
 }
 
 // What a delta of these bytes leads to from a hashed version, where so many items were inserted; None where a bound is broken.
-fn step_behind(at: HashedVersion, count: u64, delta: &AppliedDelta, bytes: &[u8]) -> Option<Step>
+fn step_after(at: HashedVersion, count: u64, delta: &AppliedDelta, bytes: &[u8]) -> Option<Step>
     requires count { count ≤ max_inserted }
     requires bytes { bytes.now ≡ delta_bytes delta.now }
-    ensures { MatchOption result (¬ (IsWithin at count delta.now)) (λ s. IsWithin at count delta.now × (s ≡ step_behind at count delta.now)) }
+    ensures { MatchOption result (¬ (IsWithin at count delta.now)) (λ s. IsWithin at count delta.now × (s ≡ step_after at count delta.now)) }
 {
     let version = at.version + delta.ops.len();
     let inserted = count + inserted(&delta.ops);
@@ -100,7 +100,7 @@ fn step_behind(at: HashedVersion, count: u64, delta: &AppliedDelta, bytes: &[u8]
     Some(Step { to, inserted })
 }
 
-// So it is, with its bytes, which are written here.
+// What a delta leads to, as `step_after` has it, with its bytes, which are written here.
 fn write(
     alloc: Global,
     at: HashedVersion,
@@ -113,7 +113,7 @@ fn write(
     let Some(bytes) = bytes(alloc, delta)? else {
         return Ok(None);
     };
-    match step_behind(at, count, delta, bytes.as_slice()) {
+    match step_after(at, count, delta, bytes.as_slice()) {
         Some(step) => Ok(Some(Written { step, bytes })),
         None => Ok(None),
     }
@@ -156,12 +156,12 @@ pub(crate) fn next_step(
 /// What a delta of these bytes leads to from the head, with the refusals of `next_step`.
 pub(crate) fn step_of(log: &Log, delta: &AppliedDelta, bytes: &[u8]) -> Result<Step, HistoryFault>
     requires { bytes.now ≡ delta_bytes delta.now }
-    ensures ok { IfOk result (λ s. s ≡ step_behind (head_of log.now).at (head_of log.now).count delta.now) }
+    ensures ok { IfOk result (λ s. s ≡ step_after (head_of log.now).at (head_of log.now).count delta.now) }
     ensures fits { OnOk result (IsFitting log.now delta.now) }
     ensures refused { IfErr result (IsUnfit log.now delta.now) }
 {
     starts(log, delta)?;
-    match step_behind(log.head(), log.inserted(), delta, bytes) {
+    match step_after(log.head(), log.inserted(), delta, bytes) {
         Some(step) => Ok(step),
         None => Err(HistoryFault::NotLegal),
     }

@@ -65,7 +65,7 @@ staged_overwritten front block gate d c staged is =
 pub blank_overwritten : (d c : List ℕ) → c ≡ overwritten d 0 (0 ∷ []) → Closed [] c
 blank_overwritten d c is = record { gate = 0; tail = drop 1 d; split = is; shut = omega arith }
 
--- a block that is whole behind a gate, with a closed gate at its end
+-- a block that is whole after a gate, with a closed gate at its end
 pub staged_meaning : (front body c : List ℕ) → Staged front (body ++ 0 ∷ []) c → Closed front c ⊎ Closed (front ++ 1 ∷ body) c
 staged_meaning front body c staged = elim (cases_eq staged.gate 1) [
   | inl is_open ↦ inr (record {

@@ -43,15 +43,15 @@ closed_once (x ∷ r) (y ∷ s) rest short a b =
     let more = closed_once r s p (omega (arith, sx)) (record { gate = a.gate; tail = a.tail; split = refl; shut = a.shut }) (record { gate = b.gate; tail = b.tail; split = parts.1; shut = b.shut }) in
     ap (λ (l : List (List ℕ)). x ∷ l) more ∙ ap (λ (h : List ℕ). h ∷ s) parts.0
 
-behind_header : (name : List ℕ) (r : List (List ℕ)) (c : List ℕ) (a : Closed (opened name r) c) → c ≡ 1 ∷ (header name ++ (blocks r ++ a.gate ∷ a.tail))
-behind_header name r c a = a.split ∙ ap (λ (l : List ℕ). 1 ∷ l) (append_assoc (header name) (blocks r) (a.gate ∷ a.tail))
+after_header : (name : List ℕ) (r : List (List ℕ)) (c : List ℕ) (a : Closed (opened name r) c) → c ≡ 1 ∷ (header name ++ (blocks r ++ a.gate ∷ a.tail))
+after_header name r c a = a.split ∙ ap (λ (l : List ℕ). 1 ∷ l) (append_assoc (header name) (blocks r) (a.gate ∷ a.tail))
 
 no_header : (name : List ℕ) (r : List (List ℕ)) (c : List ℕ) → HasNoHeader c → Closed (opened name r) c → ⊥
 no_header name r c (inl short) a =
-    let e : length c ≡ length (1 ∷ (header name ++ (blocks r ++ a.gate ∷ a.tail))) = ap length (behind_header name r c a) in
+    let e : length c ≡ length (1 ∷ (header name ++ (blocks r ++ a.gate ∷ a.tail))) = ap length (after_header name r c a) in
     omega arith
 no_header name r c (inr shut) a =
-    let e : shut.gate ∷ shut.tail ≡ 1 ∷ (header name ++ (blocks r ++ a.gate ∷ a.tail)) = sym shut.split ∙ behind_header name r c a in
+    let e : shut.gate ∷ shut.tail ≡ 1 ∷ (header name ++ (blocks r ++ a.gate ∷ a.tail)) = sym shut.split ∙ after_header name r c a in
     let g : shut.gate ≡ 1 = cc e in shut.shut g
 
 stands_once : (name : List ℕ) (r s : List (List ℕ)) (c : List ℕ) → length c < 2 ^ 64 → StandsFor name r c → StandsFor name s c → r ≡ s
@@ -62,8 +62,8 @@ stands_once name r s c short (inr a) (inr b) =
     let n = length (1 ∷ header name) in
     let p = blocks r ++ a.gate ∷ a.tail in
     let q = blocks s ++ b.gate ∷ b.tail in
-    let first = behind_header name r c a in
-    let e : p ≡ q = sym (drop_at (1 ∷ header name) p n refl) ∙ ap (λ (l : List ℕ). drop n l) (sym first ∙ behind_header name s c b) ∙ drop_at (1 ∷ header name) q n refl in
+    let first = after_header name r c a in
+    let e : p ≡ q = sym (drop_at (1 ∷ header name) p n refl) ∙ ap (λ (l : List ℕ). drop n l) (sym first ∙ after_header name s c b) ∙ drop_at (1 ∷ header name) q n refl in
     let size : length c ≡ n + length p = ap length first ∙ length-append (1 ∷ header name) p in
     closed_once r s p (omega (arith, size)) (record { gate = a.gate; tail = a.tail; split = refl; shut = a.shut }) (record { gate = b.gate; tail = b.tail; split = e; shut = b.shut })
 
@@ -95,7 +95,7 @@ walk (x ∷ r) (y ∷ s) gate tail rest shut short e torn =
     let parts = framed_once x y p q (omega (arith, sx, short)) (omega (arith, sy, short)) both in
     walk r s gate tail rest shut (omega (arith, sx, short)) parts.1 torn
 
--- behind an open gate stands this header and what follows it
+-- after an open gate stands this header and what follows it
 whole_header : (name rest next : List ℕ) (more : (h : ℕ) × (tail : List ℕ) × (next ≡ h ∷ tail)) → rest ≡ header name ++ next → IsWhole (header name) rest
 whole_header name rest next more is = (more.0, more.1, is ∙ ap (λ (l : List ℕ). header name ++ l) more.2)
 
@@ -105,7 +105,7 @@ not_damaged name r c offset short (inl (none, inr shut)) (inl (at, (rest, is, tw
     let e : shut.gate ∷ shut.tail ≡ 1 ∷ rest = sym shut.split ∙ is in
     let g : shut.gate ≡ 1 = cc e in shut.shut g
 not_damaged name r c offset short (inr a) (inl (at, (rest, is, two, torn))) =
-    let e : rest ≡ header name ++ (blocks r ++ a.gate ∷ a.tail) = ap (λ (l : List ℕ). drop 1 l) (sym is ∙ behind_header name r c a) in
+    let e : rest ≡ header name ++ (blocks r ++ a.gate ∷ a.tail) = ap (λ (l : List ℕ). drop 1 l) (sym is ∙ after_header name r c a) in
     torn (whole_header name rest (blocks r ++ a.gate ∷ a.tail) (starts r a.gate a.tail) e)
 not_damaged name r c offset short (inl (none, inl few)) (inr (rest, is, torn)) =
     let e : length c ≡ length ((1 ∷ header name) ++ rest) = ap length is in omega (arith, length-append (1 ∷ header name) rest)
@@ -115,7 +115,7 @@ not_damaged name r c offset short (inl (none, inr shut)) (inr (rest, is, torn)) 
 not_damaged name r c offset short (inr a) (inr (rest, is, (s, tail, at, split, torn))) =
     let n = length (1 ∷ header name) in
     let p = blocks r ++ a.gate ∷ a.tail in
-    let first = behind_header name r c a in
+    let first = after_header name r c a in
     let e : p ≡ rest = sym (drop_at (1 ∷ header name) p n refl) ∙ ap (λ (l : List ℕ). drop n l) (sym first ∙ is) ∙ drop_at (1 ∷ header name) rest n refl in
     let size : length c ≡ n + length p = ap length first ∙ length-append (1 ∷ header name) p in
     walk r s a.gate a.tail tail a.shut (omega (arith, size, short)) (e ∙ split) torn

@@ -1,4 +1,4 @@
--- A block is put behind a closed gate, and then the gate is opened.
+-- A block is put after a closed gate, and then the gate is opened.
 use Rattle.std.proofs.Common.{◌≡◌, inl, ℕ, ◌+◌, List, [], ◌∷◌, ◌++◌, length, refl, ap, subst, ◌∙◌}
 use Rattle.disk_model.specs.Disk.{DiskView, Kept, LeavesOnly, overwritten}
 use Rattle.disk_model.proofs.Moments.{joined, weaker, kept_weaker}

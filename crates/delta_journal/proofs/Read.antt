@@ -1,4 +1,4 @@
--- Records that are read one behind the other.
+-- Records that are read one after the other.
 use Rattle.std.proofs.Common.{◌≡◌, ℕ, ◌+◌, List, [], ◌∷◌, ◌++◌, length, refl, sym, ◌∙◌, ap, arith, append_assoc, length-append}
 use Rattle.delta_journal.specs.File.{framed, blocks}
 use Rattle.delta_journal.specs.Stored.{bytes_of, StandFrom}

@@ -30,7 +30,7 @@ opened-push name records more =
 pub opened-none : (name : List ℕ) (records : List (List ℕ)) → records ≡ [] → 1 ∷ header name ≡ opened name records
 opened-none name records none = ap (λ (l : List ℕ). 1 ∷ l) (sym (append-nil (header name))) ∙ ap (opened name) (sym none)
 
--- behind the records the gate is closed, or it is open with this body behind it and a closed gate
+-- after the records the gate is closed, or it is open with this body after it and a closed gate
 abbrev pub IsOpenOrClosed : List ℕ → List ℕ → List ℕ → Type 0
 IsOpenOrClosed front body file = Closed front file ⊎ Closed (front ++ 1 ∷ body) file
 
@@ -42,10 +42,10 @@ pub record_stands : (name : List ℕ) (records : List (List ℕ)) (more c : List
 record_stands name records more c (inl closed) = inl (inr closed)
 record_stands name records more c (inr is_open) = inr (inr (subst (λ (f : List ℕ). Closed f c) (opened-push name records more) is_open))
 
--- the place of the gate behind one record more
-pub place_behind : (name : List ℕ) (records : List (List ℕ)) (block : List ℕ) (place : ℕ) → place ≡ length (opened name records) → IsBlock block
+-- the place of the gate after one record more
+pub place_after : (name : List ℕ) (records : List (List ℕ)) (block : List ℕ) (place : ℕ) → place ≡ length (opened name records) → IsBlock block
     → place + length block ≡ length (opened name (records ++ record_in block ∷ []))
-place_behind name records block place at is =
+place_after name records block place at is =
     let front = opened name records in
     let body = framed (record_in block) in
     let size : length block ≡ length body + 1 = ap length is ∙ length-append body (0 ∷ []) in

@@ -5,15 +5,15 @@
 -- A gate is one byte: 1 is open, all else is closed. The header's gate comes first, then `WAVEJNL1`, the length of
 -- the name as four bytes with the highest first, and the name. A record is a gate, the length of its bytes as eight
 -- bytes, and the bytes. A file stands for the records before the first gate that is closed, and for no header where
--- it has fewer than two bytes or its first gate is closed. What is behind a closed gate means nothing.
+-- it has fewer than two bytes or its first gate is closed. What is after a closed gate means nothing.
 use Rattle.std.specs.Prelude.{◌≡◌, ◌≢◌, ◌⊎◌, ℕ, ◌+◌, ◌^◌, ◌<◌, ◌≤◌, List, [], ◌∷◌, ◌++◌, length, codes, Option, Some, None, Result, Ok, Err}
 use Rattle.std.specs.Int.{w32, w64, to_be_bytes}
 
--- the header behind its gate
+-- the header after its gate
 abbrev pub header : List ℕ → List ℕ
 header name = codes "WAVEJNL1" ++ (to_be_bytes w32 (length name) ++ name)
 
--- a record behind its gate
+-- a record after its gate
 abbrev pub framed : List ℕ → List ℕ
 framed bytes = to_be_bytes w64 (length bytes) ++ bytes
 
@@ -41,23 +41,23 @@ HasNoHeader file = (length file < 2) ⊎ Closed [] file
 abbrev pub StandsFor : List ℕ → List (List ℕ) → List ℕ → Type 0
 StandsFor name records file = ((records ≡ []) × HasNoHeader file) ⊎ Closed (opened name records) file
 
--- behind an open gate stand these bytes, and a gate behind them
+-- after an open gate stand these bytes, and a gate after them
 abbrev pub IsWhole : List ℕ → List ℕ → Type 0
 IsWhole block rest = (gate : ℕ) × (tail : List ℕ) × (rest ≡ block ++ gate ∷ tail)
 
--- behind an open gate stands no whole record
+-- after an open gate stands no whole record
 abbrev pub HasNoRecord : List ℕ → Type 0
 HasNoRecord rest = (bytes : List ℕ) → length bytes < 2 ^ 64 → IsWhole (framed bytes) rest → ⊥
 
--- from the gate at `place` on: behind some records is an open gate at `offset`, and no whole record behind that
+-- from the gate at `place` on: after some records is an open gate at `offset`, and no whole record after that
 abbrev pub IsTornFrom : ℕ → ℕ → List ℕ → Type 0
 IsTornFrom place offset file = (records : List (List ℕ)) × (rest : List ℕ) × (offset ≡ place + length (blocks records)) × (file ≡ blocks records ++ 1 ∷ rest) × HasNoRecord rest
 
--- the first gate is open, and the header behind it isn't this name's
+-- the first gate is open, and the header after it isn't this name's
 abbrev pub HasOtherHeader : List ℕ → List ℕ → Type 0
 HasOtherHeader name file = (rest : List ℕ) × (file ≡ 1 ∷ rest) × (2 ≤ length file) × (IsWhole (header name) rest → ⊥)
 
--- the header is this name's, and behind it is a record that isn't whole, whose gate is at `offset`
+-- the header is this name's, and after it is a record that isn't whole, whose gate is at `offset`
 abbrev pub HasTornRecord : List ℕ → ℕ → List ℕ → Type 0
 HasTornRecord name offset file = (rest : List ℕ) × (file ≡ (1 ∷ header name) ++ rest) × IsTornFrom (length (1 ∷ header name)) offset rest
 
@@ -79,7 +79,7 @@ abbrev pub HasName : Option (List ℕ) → List ℕ → Type 0
 HasName None file = HasNoHeader file
 HasName (Some name) file = (rest : List ℕ) × (file ≡ 1 ∷ rest) × (length name < 2 ^ 32) × IsWhole (header name) rest
 
--- the first gate is open, and the header behind it is no name's
+-- the first gate is open, and the header after it is no name's
 abbrev pub HasBrokenHeader : List ℕ → Type 0
 HasBrokenHeader file = (rest : List ℕ) × (file ≡ 1 ∷ rest) × (2 ≤ length file) × ((name : List ℕ) → length name < 2 ^ 32 → IsWhole (header name) rest → ⊥)
 

@@ -1,5 +1,5 @@
 -- What a journal is over its disk. `IsJournal` says that it holds these records under this name, `left_over` is the
--- record that a crash may leave behind them, `needs_repair` whether a gate may be open that is to be closed, and `IsHeadingOf`
+-- record that a crash may leave after them, `needs_repair` whether a gate may be open that is to be closed, and `IsHeadingOf`
 -- that a heading is what a journal of this name begins with.
 use Rattle.std.specs.Prelude.{◌≡◌, ℕ, Bool, List, [], ◌∷◌, ◌++◌, length, IsTrue}
 use Rattle.disk_model.specs.Disk.{DiskView, Kept}
@@ -22,7 +22,7 @@ disk_of journal = journal.disk
 abbrev pub on_disk : {K : Type 0} {disk : Ghosts K} → Journal K disk → DiskView
 on_disk {K} {disk} journal = disk.view journal.disk
 
--- the record that a crash may leave behind the others, until a repair succeeds: none or one
+-- the record that a crash may leave after the others, until a repair succeeds: none or one
 abbrev pub left_over : {K : Type 0} {disk : Ghosts K} → Journal K disk → List (List ℕ)
 left_over journal = left_over_at journal.stage
 

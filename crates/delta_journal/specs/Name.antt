@@ -15,7 +15,7 @@ pub record IsFront (front : List ℕ) (size : ℕ) (file : List ℕ) : Type 0 wh
   pub two : 2 ≤ size
   pub front_is : front ≡ take 13 file
 
--- a header that is named has room for its name and a gate behind that
+-- a header that is named has room for its name and a gate after that
 abbrev pub TellsName : Header → List ℕ → Type 0
 TellsName Missing file = HasNoHeader file
 TellsName Broken file = HasBrokenHeader file

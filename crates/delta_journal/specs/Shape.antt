@@ -8,7 +8,7 @@ use Rattle.delta_journal.specs.File.{Closed}
 abbrev pub IsBlank : List ℕ → Type 0
 IsBlank file = length file < 2
 
--- these bytes, any gate, a block behind it, and then anything
+-- these bytes, any gate, a block after it, and then anything
 pub record Staged (front block file : List ℕ) : Type 0 where
   pub gate : ℕ
   pub tail : List ℕ
@@ -24,7 +24,7 @@ HasShape no_gate file = IsBlank file
 HasShape (shut_gate front) file = Closed front file
 HasShape (any_gate front block) file = Staged front block file
 
--- a write of n bytes at `at` leaves this shape: before there is a gate, behind a closed gate, and at the gate itself
+-- a write of n bytes at `at` leaves this shape: before there is a gate, after a closed gate, and at the gate itself
 abbrev pub Spares : Shape → ℕ → ℕ → Type 0
 Spares no_gate at n = (at ≡ 0) × (n ≡ 1)
 Spares (shut_gate front) at n = at ≡ length front + 1

@@ -1,5 +1,5 @@
 -- How far a journal's file is, by the stage that the journal keeps. The gate in question is the header's where there
--- is no header yet, and else the one behind the records.
+-- is no header yet, and else the one after the records.
 use Rattle.std.specs.Prelude.{◌≡◌, ℕ, ◌+◌, ◌-◌, Bool, true, false, List, [], ◌∷◌, ◌++◌, length, take, drop}
 use Rattle.delta_journal.specs.File.{header, framed, opened}
 use Rattle.delta_journal.specs.Shape.{Shape, no_gate, shut_gate, any_gate}
@@ -34,7 +34,7 @@ shape_at (Adding block) name records = any_gate (opened name records) block.item
 abbrev pub record_in : List ℕ → List ℕ
 record_in block = take (length block - 9) (drop 8 block)
 
--- the record that a crash may leave behind the others
+-- the record that a crash may leave after the others
 abbrev pub left_over_at : Stage → List (List ℕ)
 left_over_at Blank = []
 left_over_at Shut = []
@@ -46,7 +46,7 @@ left_over_at (Adding block) = record_in block.items ∷ []
 abbrev pub IsBlock : List ℕ → Type 0
 IsBlock block = block ≡ framed (record_in block) ++ 0 ∷ []
 
--- the block behind the gate in question, where there is one, is one record's
+-- the block after the gate in question, where there is one, is one record's
 abbrev pub HasBlock : Stage → Type 0
 HasBlock Blank = Unit {0}
 HasBlock Shut = Unit {0}

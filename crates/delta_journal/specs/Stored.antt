@@ -8,7 +8,7 @@ abbrev pub bytes_of : List Stored → List (List ℕ)
 bytes_of [] = []
 bytes_of (one ∷ records) = one.bytes ∷ bytes_of records
 
--- the first one's gate is at `place`, and each further one's behind the record before it
+-- the first one's gate is at `place`, and each further one's after the record before it
 abbrev pub StandFrom : ℕ → List Stored → Type 0
 StandFrom place [] = Unit {0}
 StandFrom place (one ∷ records) = (one.offset ≡ place) × StandFrom (place + length (1 ∷ framed one.bytes)) records

@@ -40,7 +40,7 @@ impl<K: Disk> Journal<K> {
         Ok(())
     }
 
-    // Puts the header behind the closed first gate, and opens that.
+    // Puts the header after the closed first gate, and opens that.
     fn open_header(&mut self) -> Result<(), DiskFault>
         requires shut { self.old.stage ≡ Shut }
         ensures any_moment { WhereHeld self.old (λ name records. LeavesOnly (on_disk self.old) (on_disk self.new) (StandsFor name records)) }
@@ -57,7 +57,7 @@ impl<K: Disk> Journal<K> {
         Ok(())
     }
 
-    // Makes sure that the header is on the disk, behind an open gate.
+    // Makes sure that the header is on the disk, after an open gate.
     fn write_header(&mut self) -> Result<(), DiskFault>
         requires whole { needs_repair self.old ≡ false }
         ensures any_moment { WhereHeld self.old (λ name records. LeavesOnly (on_disk self.old) (on_disk self.new) (StandsFor name records)) }
@@ -78,7 +78,7 @@ impl<K: Disk> Journal<K> {
         }
     }
 
-    // Puts a record's block behind the closed gate, and opens that.
+    // Puts a record's block after the closed gate, and opens that.
     fn add(&mut self, block: Vec<u8>) -> Result<(), DiskFault>
         requires headed { self.old.stage ≡ Headed }
         requires block { IsBlock block.items }
@@ -98,7 +98,7 @@ impl<K: Disk> Journal<K> {
         Ok(())
     }
 
-    /// Adds a record: its bytes behind the closed gate, with a closed gate behind them and synced, and then its gate
+    /// Adds a record: its bytes after the closed gate, with a closed gate after them and synced, and then its gate
     /// opened and synced. Where the file has no header yet, that is written first in the same way. All memory is
     /// taken before the first call on the disk.
     ///

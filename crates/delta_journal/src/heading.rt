@@ -13,7 +13,7 @@ pub struct Heading {
     pub(crate) bytes: Vec<u8>,
 }
 
-// The header of a name behind its gate, and a closed gate.
+// The header of a name after its gate, and a closed gate.
 fn header_of(alloc: Global, name: &[u8]) -> Result<Vec<u8>, AllocError>
     requires { length name.now < 2 ^ 32 }
     ensures { IfOk result (λ v. v.items ≡ header name.now ++ 0 ∷ []) }

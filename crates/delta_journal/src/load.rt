@@ -45,7 +45,7 @@ fn read_all<K: Disk>(alloc: Global, disk: &mut K) -> Result<Vec<u8>, JournalFaul
     }
 }
 
-// What the file stands for under the name of this header, which has a closed gate behind it.
+// What the file stands for under the name of this header, which has a closed gate after it.
 fn read_journal<K: Disk>(
     alloc: Global,
     disk: &mut K,

@@ -6,11 +6,11 @@ ghost use Rattle.delta_journal.specs.File.{HasName, HasNoHeader, HasBrokenHeader
 ghost use Rattle.delta_journal.specs.Name.{IsFront, TellsName};
 
 use crate::JournalFault;
-use crate::reading::behind_open;
+use crate::reading::after_open;
 use disk_model::{Disk, DiskError};
 use std::alloc::Global;
 
-// The offset of the name: behind the gate, eight bytes of mark and four of length.
+// The offset of the name: after the gate, eight bytes of mark and four of length.
 const NAME: u64 = 13;
 
 // What a file's header tells.
@@ -19,11 +19,11 @@ enum Header {
     Missing,
     /// It is no name's.
     Broken,
-    /// A name of this many bytes and a gate behind it are there.
+    /// A name of this many bytes and a gate after it are there.
     Named(u32),
 }
 
-// The length of the name, from the 12 bytes behind an open gate.
+// The length of the name, from the 12 bytes after an open gate.
 fn count_in(behind: &[u8]) -> Option<u32>
     ensures { MatchOption result ((name more : List ℕ) → length name < 2 ^ 32 → behind.now ≡ take 12 (header name ++ more) → ⊥) (λ count. behind.now ≡ codes "WAVEJNL1" ++ to_be_bytes w32 count) }
 {
@@ -53,7 +53,7 @@ fn header_in(front: &[u8], size: u64) -> Header
     requires { 0 < length front.now }
     ensures { (file : List ℕ) → IsFront front.now size file → TellsName result file }
 {
-    let Some(behind) = behind_open(front) else {
+    let Some(behind) = after_open(front) else {
         return Header::Missing;
     };
     let Some(count) = count_in(behind) else {
@@ -66,7 +66,7 @@ fn header_in(front: &[u8], size: u64) -> Header
 }
 
 /// The name in the header of a disk's file, as it is read: none exactly where the file stands for no header.
-/// `Damaged` at offset 0 exactly where the header behind an open gate is no name's, and `DiskFault` where the disk
+/// `Damaged` at offset 0 exactly where the header after an open gate is no name's, and `DiskFault` where the disk
 /// failed.
 pub fn stored_name<K: Disk>(alloc: Global, disk: &mut K) -> Result<Option<Vec<u8>>, JournalFault>
     ensures name { IfOk result (λ found. IsTrue K.tells → MatchOption found (HasNoHeader (K.view disk.old).seen) (λ name. HasName (Some name.items) (K.view disk.old).seen)) }

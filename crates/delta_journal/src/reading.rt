@@ -18,14 +18,14 @@ pub(crate) struct Parsed {
     pub(crate) records: StoredRecords,
 }
 
-// The records of a file, and the place of the closed gate behind them.
+// The records of a file, and the place of the closed gate after them.
 #[derive(Drop)]
 struct Found {
     records: StoredRecords,
     place: u64,
 }
 
-// The bytes of a record behind an open gate, and what follows, which begins with a gate.
+// The bytes of a record after an open gate, and what follows, which begins with a gate.
 fn record_in(rest: &[u8]) -> Option<(&[u8], &[u8])>
     ensures { MatchOption result (HasNoRecord rest.now) (λ r. (rest.now ≡ framed r.0.now ++ r.1.now) × (0 < length r.1.now)) }
 {
@@ -39,8 +39,8 @@ fn record_in(rest: &[u8]) -> Option<(&[u8], &[u8])>
     Some(after.split_at(count as usize))
 }
 
-/// What stands behind an open gate.
-pub(crate) fn behind_open(rest: &[u8]) -> Option<&[u8]>
+/// What stands after an open gate.
+pub(crate) fn after_open(rest: &[u8]) -> Option<&[u8]>
     requires { 0 < length rest.now }
     ensures { MatchOption result (Closed [] rest.now) (λ behind. rest.now ≡ 1 ∷ behind.now) }
 {
@@ -50,8 +50,8 @@ pub(crate) fn behind_open(rest: &[u8]) -> Option<&[u8]>
     }
 }
 
-// What stands behind a header, where it is this one.
-fn behind_header<'a>(rest: &'a [u8], header: &[u8]) -> Option<&'a [u8]>
+// What stands after a header, where it is this one.
+fn after_header<'a>(rest: &'a [u8], header: &[u8]) -> Option<&'a [u8]>
     ensures { MatchOption result (IsWhole header.now rest.now → ⊥) (λ r. (rest.now ≡ header.now ++ r.now) × (0 < length r.now)) }
 {
     if rest.len() <= header.len() {
@@ -71,7 +71,7 @@ fn copy(alloc: Global, bytes: &[u8]) -> Result<Bytes, AllocError>
     Ok(Bytes::new(copied))
 }
 
-// The records behind a header, from the gate at `place` on.
+// The records after a header, from the gate at `place` on.
 fn records_in(alloc: Global, rest: &[u8], place: u64) -> Result<Found, JournalFault>
     requires some { 0 < length rest.now }
     requires small { place + length rest.now < 2 ^ 63 }
@@ -84,7 +84,7 @@ fn records_in(alloc: Global, rest: &[u8], place: u64) -> Result<Found, JournalFa
     let mut records = StoredRecords::new(alloc);
     let mut place = place;
     let mut rest = rest;
-    while let Some(behind) = behind_open(rest) {
+    while let Some(behind) = after_open(rest) {
         let Some((bytes, next)) = record_in(behind) else {
             return Err(JournalFault::Damaged { offset: place });
         };
@@ -125,14 +125,14 @@ pub(crate) fn parse(
             records: StoredRecords::new(alloc),
         });
     }
-    let Some(behind) = behind_open(file) else {
+    let Some(behind) = after_open(file) else {
         return Ok(Parsed {
             stage: Stage::Shut,
             place: 0,
             records: StoredRecords::new(alloc),
         });
     };
-    let Some(rest) = behind_header(behind, spelled) else {
+    let Some(rest) = after_header(behind, spelled) else {
         return Err(JournalFault::Damaged { offset: 0 });
     };
     match records_in(alloc, rest, 1 + spelled.len() as u64) {

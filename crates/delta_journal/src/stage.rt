@@ -16,9 +16,9 @@ pub(crate) enum Stage {
     Shut,
     /// The header is there, and its gate may be open.
     Opening,
-    /// The header is there behind an open gate, and the gate behind the records is closed.
+    /// The header is there after an open gate, and the gate after the records is closed.
     Headed,
-    /// The same, but that gate may be open, and this block is behind it: a record's length, its bytes and a closed
+    /// The same, but that gate may be open, and this block is after it: a record's length, its bytes and a closed
     /// gate.
     Adding(Vec<u8>),
 }

@@ -94,7 +94,7 @@ impl StoredRecords {
         }
     }
 
-    /// Puts a record behind the others.
+    /// Puts a record after the others.
     pub(crate) fn push(&mut self, one: Stored) -> Result<(), AllocFailed<Stored>>
         ensures { OnOk result (self.new ≡ self.old ++ one ∷ []) }
     {

@@ -49,7 +49,7 @@ fn step_file(file: &mut Vec<u8>, step: &Step) -> Result<(), AllocError>
     }
 }
 
-// The number of the step behind this one.
+// The number of the step after this one.
 fn number_after(step: &Step, number: u64) -> u64
     requires { number + 1 < 2 ^ 64 }
     ensures { result ≡ next_number number step.now }

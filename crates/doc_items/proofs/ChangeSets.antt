@@ -43,9 +43,9 @@ before_trans a b c p q = ap is_lt (nat_list_cmp_total.trans (encode_utf8_all a) 
 pub before_other : (a b : List ℕ) → before a b ≡ true → at (encode_utf8_all a) (encode_utf8_all b) ≡ false
 before_other a b p = not_equal _ p
 
-pub behind_less : (k l : List ℕ) (cs : List Change) → before k l ≡ true → AscendsFrom (Some l) cs → AscendsFrom (Some k) cs
-behind_less k l [] b h = tt
-behind_less k l (c ∷ cs) b h = (before_trans k l c.key b h.0, h.1)
+pub after_less : (k l : List ℕ) (cs : List Change) → before k l ≡ true → AscendsFrom (Some l) cs → AscendsFrom (Some k) cs
+after_less k l [] b h = tt
+after_less k l (c ∷ cs) b h = (before_trans k l c.key b h.0, h.1)
 
 -- no change of the list is q's
 unfoldable pub NoKey : Key → List Change → Type 0
@@ -55,7 +55,7 @@ NoKey q (c ∷ cs) = (at q (key c) ≡ false) × NoKey q cs
 pub none_behind : (k : List ℕ) (cs : List Change) → AscendsFrom (Some k) cs → NoKey (encode_utf8_all k) cs
 unfolding NoKey
 none_behind k [] h = tt
-none_behind k (c ∷ cs) h = (before_other k c.key h.0, none_behind k cs (behind_less k c.key cs h.0 h.1))
+none_behind k (c ∷ cs) h = (before_other k c.key h.0, none_behind k cs (after_less k c.key cs h.0 h.1))
 
 pub get_past : (cs : List Change) (u : ChangeSet) (q : Key) → NoKey q cs → get (with_changes u cs) q ≡ get u q
 unfolding NoKey

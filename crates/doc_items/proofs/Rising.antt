@@ -1,7 +1,7 @@
 -- Lists of entries whose keys rise, as the entries of a map do.
 --     Rising es                 the keys strictly rise
---     entries_rise, next_above, rest_rises     the entries of a map rise; so each key comes behind the last one
---     Follow last es            each key comes behind the one before it, the first behind `last`
+--     entries_rise, next_above, rest_rises     the entries of a map rise; so each key comes after the last one
+--     Follow last es            each key comes after the one before it, the first after `last`
 --     follow_rising, rising_follow     which is to rise, both ways
 --     insert_all m es           the map with these entries inserted in order
 --     all_inserted, entries-inserted     a map's entries give the map, and rising entries a map with these entries
@@ -60,7 +60,7 @@ module _ {X : Type 0} where
   below k [] = true
   below k (e ∷ es) = is_lt (slice_cmp nat_cmp k e.0) && below k es
 
-  -- the one behind the next
+  -- the one after the next
   skips : (e f : Key × X) (es : List (Key × X)) → Rising (e ∷ f ∷ es) → Rising (e ∷ es)
   skips e f es h = ends_joined (is_lt (slice_cmp nat_cmp e.0 f.0)) (below e.0 es) (below f.0 es) (finite.is_sorted (slice_cmp nat_cmp) es) h
 
@@ -85,13 +85,13 @@ module _ {X : Type 0} where
   follow_rising last [] h = refl
   follow_rising last (e ∷ es) h = and_from _ _ (below_next e es h.1) (follow_rising (Some e.0) es h.1)
 
-  rising_behind : (e : Key × X) (es : List (Key × X)) → Rising (e ∷ es) → Follow (Some e.0) es
-  rising_behind e [] h = tt
-  rising_behind e (f ∷ es) h = (next_above e f es h, rising_behind f es (rest_rises e (f ∷ es) h))
+  rising_after : (e : Key × X) (es : List (Key × X)) → Rising (e ∷ es) → Follow (Some e.0) es
+  rising_after e [] h = tt
+  rising_after e (f ∷ es) h = (next_above e f es h, rising_after f es (rest_rises e (f ∷ es) h))
 
   pub rising_follow : (es : List (Key × X)) → Rising es → Follow None es
   rising_follow [] h = tt
-  rising_follow (e ∷ es) h = (refl, rising_behind e es h)
+  rising_follow (e ∷ es) h = (refl, rising_after e es h)
 
   -- ---- inserted in order
 

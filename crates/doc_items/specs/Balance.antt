@@ -1,5 +1,5 @@
 -- Balance: starts less ends never fall below 0, and are 0 at the end.
---     level c n         the depth behind a content, from the depth n before it
+--     level c n         the depth after a content, from the depth n before it
 --     Closes c n        the content doesn't end an element where none is open
 --     BalancedFrom n    balanced, where n elements are open already
 --     Balanced          balanced

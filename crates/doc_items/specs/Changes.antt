@@ -5,11 +5,11 @@
 --     back c                old and new exchanged
 --     change_set cs         the changes of a list
 --     before a b            a text comes before another in byte order
---     ascends p k           a key is the first of its list, or comes behind the key p
+--     ascends p k           a key is the first of its list, or comes after the key p
 --     IsAscending cs        the keys of a list of changes ascend, so that none stands twice
 --     Fits us b             the running changes us can go past the boundary: its keys ascend, those that end run, and none
 --                           both ends and changes
---     after_boundary u b    the changes that run behind a boundary: keys that end leave, keys that change enter
+--     after_boundary u b    the changes that run after a boundary: keys that end leave, keys that change enter
 --     none_running          no changes
 use Rattle.std.specs.Prelude.{◌≡◌, ℕ, List, [], ◌∷◌, Bool, true, false, Option, None, Some}
 use Rattle.std.specs.Ordering.{nat_cmp, is_lt, eq_by_cmp}

@@ -2,7 +2,7 @@
 -- order of a map is byte order; so is the text that a map of texts gives.
 --     Key, Map X                          UTF-8 bytes; a map from them to values of X
 --     same_text, same_value, same_values  tests of ≡ on texts, on optional texts, on maps of texts
---     is_next last k                      the key is the first of a list, or comes behind the last one in byte order
+--     is_next last k                      the key is the first of a list, or comes after the last one in byte order
 --     tabulate ks g                       the map that has g's value at each of the keys ks
 --     each f m                            the map that has f of each of m's values
 --     merge f m n                         the map that has f of m's and n's value at each key

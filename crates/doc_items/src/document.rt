@@ -98,7 +98,7 @@ impl Document {
         depth == 0
     }
 
-    /// Puts an item behind the last. After want of memory the document is as it was.
+    /// Puts an item after the last. After want of memory the document is as it was.
     pub fn push(&mut self, item: Item) -> Result<(), Memory>
         requires { length self.old < max_count }
         ensures ok { OnOk result (self.new ≡ self.old ++ item ∷ []) }

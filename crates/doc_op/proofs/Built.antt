@@ -1,6 +1,6 @@
 -- What a builder took.
 --     built_more             a component more that it takes
---     built_at               it took each component behind those before
+--     built_at               it took each component after those before
 --     ascending_of_update    the keys of an update that it took ascend
 --     fits_of_boundary       a boundary that it took fits
 --     has_room, taken_on     what it takes

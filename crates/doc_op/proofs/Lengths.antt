@@ -1,7 +1,7 @@
 -- The lengths of operations, component by component.
 --     component_lengths     of one component's actions, whatever runs
 --     added_lengths         of an operation with one more component
---     input_room, output_room, input_left, output_left     what has room behind other actions
+--     input_room, output_room, input_left, output_left     what has room after other actions
 use Rattle.std.proofs.Common.{◌≡◌, ℕ, zero, suc, ◌+◌, ◌≤◌, List, [], ◌∷◌, ◌++◌, length, map, replicate, refl, ap, sym, ◌∙◌, arith, append_assoc, add-zero}
 use Rattle.doc_items.specs.Changes.{ChangeSet, none_running}
 use Rattle.doc_items.specs.Limits.{max_count}
@@ -122,7 +122,7 @@ pub output_len-deletions : (u : ChangeSet) (cs : List Content) → output_len (m
 output_len-deletions u [] = refl
 output_len-deletions u (c ∷ cs) = output_len-deletions u cs
 
--- ---- behind other actions
+-- ---- after other actions
 
 pub input_room : (acts before more : List Action) (n : ℕ) → acts ≡ before → input_len more ≡ n → input_len before + n ≤ max_count → input_len (acts ++ more) ≤ max_count
 input_room acts before more n e f h = omega (arith, input_len-append acts more, ap input_len e, f, h)

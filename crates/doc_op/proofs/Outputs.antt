@@ -1,7 +1,7 @@
--- An output that goes on: with its last component, behind it, and to its end.
+-- An output that goes on: with its last component, after it, and to its end.
 --     grown_open      the last component goes on
---     opened          a component behind it that may go on
---     set_down        a component behind it that doesn't
+--     opened          a component after it that may go on
+--     set_down        a component after it that doesn't
 --     some_boundary   a boundary between different changes isn't empty
 --     ended           the end
 use Rattle.std.proofs.Common.{◌≡◌, ℕ, ◌+◌, ◌<◌, ◌≤◌, Bool, true, false, cond, ◌&&◌, List, [], ◌∷◌, ◌++◌, length, map, replicate, refl, sym, ap, subst, ◌∙◌, arith, append_assoc, append-nil, true≢false, Option, None, Some}
@@ -90,7 +90,7 @@ grown_open done o u w c h s e t l i x =
       output = subst (λ acts. output_len acts ≤ max_count) now x;
     }
 
--- ---- behind the last component
+-- ---- after the last component
 
 -- what was taken so far, and one component more
 pub more_value : (done : List Component) (c : Component) (w : ChangeSet) → running done ≡ w → actions (done ++ c ∷ []) ≡ actions done ++ component_actions w c

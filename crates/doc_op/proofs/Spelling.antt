@@ -163,9 +163,9 @@ and_true : (a : Bool) → (a && true) ≡ a
 and_true true = refl
 and_true false = refl
 
-goes_behind : (o : Option Component) (u w : ChangeSet) (c : Component) (cs : List Component) → (joins o c && same_changes u w) ≡ false
+goes_after : (o : Option Component) (u w : ChangeSet) (c : Component) (cs : List Component) → (joins o c && same_changes u w) ≡ false
     → onto o (step u w ++ in_front c cs) ≡ shut o ++ step u w ++ in_front c cs
-goes_behind o u w c cs e =
+goes_after o u w c cs e =
     let b : Component = AnnotationBoundary (boundary_between u w) in
     elim (same_changes u w) as (λ t. (joins o c && t) ≡ false → onto o (cond t [] (b ∷ []) ++ in_front c cs) ≡ shut o ++ cond t [] (b ∷ []) ++ in_front c cs) [
       | true ↦ λ f. apart o c cs (sym (and_true (joins o c)) ∙ f) ∙ sym (ap (λ x. x ++ in_front c cs) (append-nil (shut o)))
@@ -234,13 +234,13 @@ spelling_update w changes e = λ u rest. ap (λ (list : List Change). step u w +
 abbrev Goes : List Action → List Component → Option Component → ChangeSet → Type 0
 Goes acts done last u = (rest : List Action) → normal_form (acts ++ rest) ≡ done ++ onto last (normal_from u rest)
 
--- behind the last component and perhaps a boundary
+-- after the last component and perhaps a boundary
 pub goes_fresh : (acts : List Action) (done : List Component) (last : Option Component) (u w : ChangeSet) (c : Component) → Goes acts done last u → IsSpelling w c
     → (joins last c && same_changes u w) ≡ false → (rest : List Action) → normal_form (acts ++ component_actions w c ++ rest) ≡ done ++ shut last ++ step u w ++ in_front c (normal_from w rest)
 goes_fresh acts done last u w c g s e rest =
     let cs = normal_from w rest in
     ap normal_form (append_assoc acts (component_actions w c) rest) ∙ g (component_actions w c ++ rest)
-    ∙ ap (λ x. done ++ x) (ap (onto last) (s u rest) ∙ goes_behind last u w c cs e)
+    ∙ ap (λ x. done ++ x) (ap (onto last) (s u rest) ∙ goes_after last u w c cs e)
     ∙ sym (append_assoc done (shut last ++ step u w) (in_front c cs)) ∙ ap (λ x. x ++ in_front c cs) (sym (append_assoc done (shut last) (step u w)))
 
 -- to its end

@@ -1,4 +1,4 @@
--- The depths behind components of one kind, and the structure of an operation without a break.
+-- The depths after components of one kind, and the structure of an operation without a break.
 use Rattle.std.proofs.Common.{◌≡◌, ℕ, zero, suc, ◌+◌, ◌<◌, ◌==◌, ◌&&◌, ◌||◌, List, [], ◌∷◌, ◌++◌, length, map, replicate, Bool, true, false, if◌then◌else◌, refl, sym, ap, ◌∙◌, arith, Option, None, Some, option_and_then, add-one, true≢false, get_or, take, drop, drop-cons}
 use Rattle.std.proofs.Math.Seq.{take-suc}
 use Rattle.doc_op.proofs.Lengths.{running-add}

@@ -3,7 +3,7 @@
 --     Names                keys that a deletion names, each with a value or as absent
 --     Action               an item is kept and changed, inserted, or deleted
 --     new_values, old_values     what running changes give to an inserted item, and what a deleted one has to have
---     running cs           the changes that run behind these components
+--     running cs           the changes that run after these components
 --     component_actions u c      the actions of a component under the running changes u
 --     actions cs           the actions of an operation
 use Rattle.std.specs.Prelude.{List, [], ◌∷◌, ◌++◌, map, replicate, Option, option_and_then}
@@ -58,7 +58,7 @@ component_actions u (ReplaceAttributes old new) = Keep u (Replace old new) ∷ [
 component_actions u (UpdateAttributes changes) = Keep u (Update (change_set changes)) ∷ []
 component_actions u (AnnotationBoundary b) = []
 
--- the changes that run behind a component
+-- the changes that run after a component
 abbrev pub running_after : ChangeSet → Component → ChangeSet
 running_after u (Retain n) = u
 running_after u (Characters text) = u

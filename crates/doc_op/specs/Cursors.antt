@@ -1,5 +1,5 @@
 -- Where a cursor stands in an operation.
---     Way                   the changes that run, the actions that are left of a component, and those behind it
+--     Way                   the changes that run, the actions that are left of a component, and those after it
 --     left w                all actions that are left
 --     IsSound u c           where u runs the component isn't empty, an update's keys ascend, and a boundary fits
 --     IsSoundFrom u cs      so is each of these components in turn

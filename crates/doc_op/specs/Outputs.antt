@@ -1,6 +1,6 @@
 -- An output in normal form whose last component may still grow.
 --     shut o           the last component, as it would be if it didn't grow
---     onto o cs        the last component in front of those behind it
+--     onto o cs        the last component in front of those after it
 --     open_text o      ..
 --     open_component o      the component that is open
 --     more_component m     the component that is to come
@@ -91,7 +91,7 @@ pub record IsOpenNormal (acts : List Action) (done : List Component) (open_one :
   pub input : input_len acts ≤ max_count
   pub output : output_len acts ≤ max_count
 
--- the last component is shut, and w runs behind it
+-- the last component is shut, and w runs after it
 pub record IsSettled (done : List Component) (o : Option Component) (u w : ChangeSet) (settled : List Component) : Type 0 where
   pub value : settled ≡ done ++ shut o ++ step u w
   pub runs : running settled ≡ w

@@ -1,7 +1,7 @@
 -- What a builder refuses, in this order.
 --     component_len     the count, the characters or the keys of a component
---     bad_end u p ks    the first key of ks, behind p, that doesn't ascend or that doesn't run under u
---     bad_change e p cs     the first key of cs, behind p, that doesn't ascend or that is among the ends e
+--     bad_end u p ks    the first key of ks, after p, that doesn't ascend or that doesn't run under u
+--     bad_change e p cs     the first key of cs, after p, that doesn't ascend or that is among the ends e
 --     bad_key u c       the first bad key of a boundary's ends and then of its changes, or of an update
 --     refusal cs c      why a builder with the components cs refuses c, if it does
 --     takes cs c        it doesn't

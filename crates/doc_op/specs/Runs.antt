@@ -43,7 +43,7 @@ IsFitHead (InsertHead run) = 0 < length (contents run)
 IsFitHead (DeleteHead run) = 0 < length (contents run)
 IsFitHead NoHead = Unit {0}
 
--- only a head of no run has nothing behind it
+-- only a head of no run has nothing after it
 abbrev pub IsEnd : Head → List Action → Type 0
 IsEnd NoHead acts = acts ≡ []
 IsEnd h acts = Unit {0}

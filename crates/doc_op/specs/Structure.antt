@@ -2,8 +2,8 @@
 -- inside an element.
 --     StructuredFrom i d     structured, where i inserted elements and d deleted ones are open already
 --     Structured             structured
---     depths_after d a       the depths behind an action, unless it breaks the rules
---     depths_behind d acts   the depths behind some actions, unless one breaks the rules
+--     depths_after d a       the depths after an action, unless it breaks the rules
+--     depths_behind d acts   the depths after some actions, unless one breaks the rules
 --     first_break cs         the index of the first component that breaks the rules, or the number of components where a depth
 --                            isn't 0 at the end
 use Rattle.std.specs.Prelude.{◌≡◌, ℕ, ◌+◌, ◌==◌, ◌&&◌, nat_lt, Bool, true, List, [], ◌∷◌, Option, None, Some, if◌then◌else◌, option_and_then}

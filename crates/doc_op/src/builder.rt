@@ -51,7 +51,7 @@ impl Builder {
         }
     }
 
-    /// Puts a component behind the last. It is refused, and the builder as it was, with `ZeroCount` where a count, a text,
+    /// Puts a component after the last. It is refused, and the builder as it was, with `ZeroCount` where a count, a text,
     /// an update's list or both lists of a boundary are zero or empty; then with `BadBoundary` at the first key of a boundary's
     /// ends and then changes, or of an update, that isn't greater in bytes than the one before it in its list, ends without
     /// running, or changes after it was named among the ends; then with `CountTooLarge` where the operation would take or give
@@ -75,7 +75,7 @@ impl Builder {
         Ok(())
     }
 
-    // Puts a component behind the last that isn't refused.
+    // Puts a component after the last that isn't refused.
     fn append(&mut self, alloc: Global, component: Component) -> Result<(), Memory>
         requires { refusal self.old component ≡ None }
         ensures added { OnOk result (self.new ≡ self.old ++ component ∷ []) }

@@ -7,7 +7,7 @@ ghost use Rattle.doc_op.specs.Refusals.{component_len};
 use doc_items::{Attributes, Boundary, Changes, Memory, Text};
 use std::alloc::Global;
 
-/// A part of an operation, in the terms of the Wave whitepapers. The changes of a boundary run over the components behind
+/// A part of an operation, in the terms of the Wave whitepapers. The changes of a boundary run over the components after
 /// it, until their keys end or change again.
 pub enum Component {
     /// So many items stay.

@@ -12,7 +12,7 @@ use std::alloc::Global;
 use std::marker::Model;
 
 /// A walk over the actions of an operation, run by run, seen as the changes that run and the actions that are left: those of
-/// the run at which it stands, and those behind it.
+/// the run at which it stands, and those after it.
 #[derive(Drop)]
 pub struct Cursor<'a> {
     // The components that are left, of the first of which `used` actions are passed.

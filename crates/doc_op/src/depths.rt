@@ -20,7 +20,7 @@ impl Depths {
         self.inserted == 0 && self.deleted == 0
     }
 
-    /// The depths behind a component; None exactly where it breaks the rules.
+    /// The depths after a component; None exactly where it breaks the rules.
     #[tactic(auto, using(crate::proofs::Structures::runs_of_one_kind))]
     pub fn behind(self, component: &Component) -> Option<Depths>
         requires inserted { self.inserted < 2 ^ 63 }

@@ -90,7 +90,7 @@ fn ended_keys(alloc: Global, ends: &[Text]) -> Result<RunningKeys, Memory>
     Ok(ended)
 }
 
-// Whether the key is the first of its list, or comes behind the last in byte order.
+// Whether the key is the first of its list, or comes after the last in byte order.
 fn ascends(last: Option<&Text>, key: &Text) -> bool
     ensures { result ≡ ascends (option_copied last.entry) key.now }
 {

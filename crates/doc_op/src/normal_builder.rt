@@ -20,7 +20,7 @@ use std::mem;
 
 /// Makes an operation in normal form, run by run. It is seen as the actions that it took. After want of memory it has none.
 pub struct NormalBuilder {
-    // The components that are done, the changes that run behind them, and the last component.
+    // The components that are done, the changes that run after them, and the last component.
     done: DocOp,
     track: Track,
     last: Open,
@@ -67,7 +67,7 @@ fn is_continued(last: &Open, track: &Track, more: More<'_>, shown: &ChangeView<'
     last.is_joined_by(more) && runs(track, shown)
 }
 
-// The components with the last, which grows no more, and behind them these changes.
+// The components with the last, which grows no more, and after them these changes.
 fn settled(
     alloc: Global,
     done: DocOp,
@@ -91,7 +91,7 @@ fn settled(
     Ok((done, track))
 }
 
-// The components with a boundary more, and what runs behind it.
+// The components with a boundary more, and what runs after it.
 #[tactic(auto, using(crate::proofs::Outputs::boundary_value))]
 fn turned(
     alloc: Global,

@@ -163,7 +163,7 @@ impl DocOp {
         more.input <= MAX_COUNT - self.input && more.output <= MAX_COUNT - self.output
     }
 
-    /// Puts a component behind the last, which the operation has room for. After want of memory the operation is as it was.
+    /// Puts a component after the last, which the operation has room for. After want of memory the operation is as it was.
     #[tactic(auto, using(crate::proofs::Lengths::added_lengths, crate::proofs::Built::built_more))]
     pub(crate) fn push(&mut self, component: Component) -> Result<(), Memory>
         requires room { count_fault (self.old ++ component ∷ []) ≡ None }

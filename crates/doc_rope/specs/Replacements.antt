@@ -1,7 +1,7 @@
 -- Stretches of a list, each replaced by other items.
 --     replaced r items         one stretch replaced
 --     all_replaced rs items    each replaced, the last one first, so that the places of those before it stay
---     InOrder p rs n           the stretches stand one behind another between the places p and n
+--     InOrder p rs n           the stretches stand one after another between the places p and n
 --     taken_away, put_in rs    how many items are replaced, and by how many
 use Rattle.std.specs.Prelude.{ℕ, ◌+◌, ◌≤◌, List, [], ◌∷◌, ◌++◌, length, take, drop}
 use Rattle.doc_items.specs.declared.item.Item.{Item}

@@ -1,4 +1,4 @@
-// A piece taken out of a tree, a piece put at its end, and two trees put one behind the other.
+// A piece taken out of a tree, a piece put at its end, and two trees put one after the other.
 ghost use Rattle.std.specs.Prelude.{◌≡◌, ℕ, ◌+◌, ◌^◌, ◌<◌, ◌≤◌, ◌==◌, ◌∷◌, ◌++◌, [], List, length, true, false};
 ghost use Rattle.doc_rope.specs.Pieces.{pieces, IsSound, total, add_last, glued, IsPacked, joined};
 
@@ -65,7 +65,7 @@ pub fn take_out(tree: Tree, place: usize) -> Taken
     }
 }
 
-// A piece behind `top`, put into it where both fit into one.
+// A piece after `top`, put into it where both fit into one.
 #[tactic(auto, using(crate::proofs::Laws::total_append, crate::proofs::Laws::length_both, crate::proofs::Laws::add_last_fits, crate::proofs::Laws::add_last_apart))]
 pub fn push_onto(left: Tree, mut top: Box<Node>, mut node: Box<Node>) -> Tree
     requires left { IsSound left }
@@ -105,7 +105,7 @@ pub fn push_last(tree: Tree, node: Box<Node>) -> Tree
     }
 }
 
-// A first piece and what stands behind it.
+// A first piece and what stands after it.
 #[derive(Drop)]
 pub struct First {
     pub node: Box<Node>,

@@ -67,7 +67,7 @@ pub fn put_first(node: Box<Node>, tree: Tree) -> Tree
     concat(piece, tree)
 }
 
-// The tree of these items, in pieces of 128 behind a first one of at most 128.
+// The tree of these items, in pieces of 128 after a first one of at most 128.
 pub fn gather(alloc: Global, mut items: Vec<Item>) -> Result<Tree, Memory>
     requires fits { length items.items < 2 ^ 64 }
     ensures joined { IfOk result (λ t. joined (pieces t) ≡ items.items) }
@@ -82,7 +82,7 @@ pub fn gather(alloc: Global, mut items: Vec<Item>) -> Result<Tree, Memory>
     Ok(tree)
 }
 
-// Puts copies of the tree's items behind those of `to`.
+// Puts copies of the tree's items after those of `to`.
 #[tactic(auto, using(crate::proofs::Laws::copied_out))]
 pub fn copy_out(tree: &Tree, alloc: Global, to: &mut Vec<Item>) -> Result<(), Memory>
     ensures { OnOk result (to.new.items ≡ to.old.items ++ joined (pieces tree.now)) }

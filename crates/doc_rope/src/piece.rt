@@ -63,7 +63,7 @@ impl Piece {
         self.shape
     }
 
-    // Moves the other's items behind these, for which there is room.
+    // Moves the other's items after these, for which there is room.
     #[tactic(auto, using(crate::proofs::Shapes::shape_append))]
     pub fn append(&mut self, other: &mut Piece)
         requires { length self.old + length other.old ≤ PIECE }
@@ -188,7 +188,7 @@ fn move_into(from: &mut Vec<Item>, to: &mut Vec<Item>, at: usize)
     }
 }
 
-// Puts copies of the items behind those of `to`.
+// Puts copies of the items after those of `to`.
 pub fn copy_items(items: &[Item], alloc: Global, to: &mut Vec<Item>) -> Result<(), Memory>
     ensures items { OnOk result (to.new.items ≡ to.old.items ++ items.now) }
     ensures room { OnOk result (vec_capacity to.old ≤ vec_capacity to.new) }

@@ -69,14 +69,14 @@ impl<'a> Reader<'a> {
     {
         // What is passed over lies in the rope, so its end is a place.
         let _whole = self.rope.len();
-        self.run = run_behind(self.rope, self.run, self.place, count);
+        self.run = run_after(self.rope, self.run, self.place, count);
         self.place += count;
     }
 }
 
-// The run from `count` items behind a place on, where the place has this run.
+// The run from `count` items after a place on, where the place has this run.
 #[tactic(auto, using(crate::proofs::Items::run_further))]
-fn run_behind<'a>(rope: &'a Rope, run: &'a [Item], place: u64, count: u64) -> &'a [Item]
+fn run_after<'a>(rope: &'a Rope, run: &'a [Item], place: u64, count: u64) -> &'a [Item]
     requires run { IsRun rope.now place run.now }
     requires fits { place + count < 2 ^ 64 }
     ensures { IsRun rope.entry.now (place + count) result.now }

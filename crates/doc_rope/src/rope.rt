@@ -83,7 +83,7 @@ impl Rope {
     }
 
     /// The items from a place on as far as the piece that holds it reaches; None exactly where the place isn't below the
-    /// length. The place behind the run is the next to ask for, so all items are read in order without a copy.
+    /// length. The place after the run is the next to ask for, so all items are read in order without a copy.
     #[tactic(auto, using(crate::proofs::Laws::length_joined, crate::proofs::Items::run_inside))]
     pub fn run(&self, place: u64) -> Option<&[Item]>
         ensures front { IfSome result (λ r. take (length r.now) (drop place self.now) ≡ r.now) }
@@ -139,7 +139,7 @@ impl Rope {
         self.tree = items.put_into(tree, from as usize, count as usize);
     }
 
-    /// Puts all the items in their places, which are places of the rope as it is now. They stand one behind another in the
+    /// Puts all the items in their places, which are places of the rope as it is now. They stand one after another in the
     /// rope, and at most `MAX_COUNT` items result. It takes no memory, and so can't fail.
     pub fn put_all(&mut self, replacements: Vec<Replacement>)
         requires inside { InOrder 0 replacements.items (length self.old) }

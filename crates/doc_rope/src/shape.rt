@@ -47,7 +47,7 @@ impl Shape {
         }
     }
 
-    // With an end behind.
+    // With an end after it.
     fn closed(self) -> Shape
         requires { self.ends + 1 < 2 ^ 64 }
         ensures { result ≡ meet self (record { ends = 1; starts = 0 }) }
@@ -65,7 +65,7 @@ impl Shape {
         }
     }
 
-    // Of these items and those of a later shape behind them.
+    // Of these items and those of a later shape after them.
     pub fn meet(self, later: Shape) -> Shape
         requires ends { self.ends + later.ends < 2 ^ 64 }
         requires starts { self.starts + later.starts < 2 ^ 64 }

@@ -225,7 +225,7 @@ fn put_one(
     }
 }
 
-// The items between the pieces that lie before and behind those, which are cut where they have to be.
+// The items between the pieces that lie before and after those, which are cut where they have to be.
 #[tactic(auto, using(crate::proofs::Laws::length_joined, crate::proofs::Seams::total_glued, crate::proofs::Seams::packed_glued, crate::proofs::Seams::joined_glued, crate::proofs::Laws::spliced))]
 fn put_between(
     tree: Tree,

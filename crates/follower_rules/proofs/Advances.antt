@@ -22,7 +22,7 @@ use Rattle.delta_history.specs.Legal.{max_delta}
 use Rattle.wavelet_state.specs.Snapshots.{max_inserted}
 use Rattle.delta_history.specs.Points.{Point, acts_of, next_point}
 use Rattle.delta_history.specs.Verdicts.{op_of, ops_of}
-use Rattle.delta_history.proofs.Points.{and_then_is, behind_point}
+use Rattle.delta_history.proofs.Points.{and_then_is, after_point}
 use Rattle.follower_rules.specs.declared.received.Received.TheVariants.{Advanced}
 use Rattle.follower_rules.specs.Followers.{Flight, FollowerOf, run_all, inserted_all, flying, pending, screen, moved}
 use Rattle.follower_rules.specs.Receiving.{rebase, Over, over, with_acts, is_own, is_within, Answered, advance_with, advance_within, advance_to, advance, receive_other, receive_own, receive_id, receive_flight, receive_hash, receive_gap, receive_old, receive}
@@ -52,7 +52,7 @@ own_is d acts n e =
     let same : with_acts d acts ≡ d = λ i. record { id = d.id; from = d.from; time = d.time; ops = ops i } in
     (bytes_decides (delta_bytes d) (delta_bytes (with_acts d acts))).1 (sym (ap delta_bytes same))
 
--- ---- the point behind
+-- ---- the point after
 
 not_below : (a b : ℕ) → a ≡ b → nat_lt a b ≡ false
 not_below a b h = grind (arith, nat_tests)
@@ -68,9 +68,9 @@ bounded q d w =
     let y = and_parts (nat_le q.at.version max_count) (nat_le q.count max_inserted) x.0 in
     record { counted = le_true _ _ y.0; held = le_true _ _ y.1; short = le_true _ _ x.1 }
 
-pub place_behind : (p q : Point) (d : DeltaOf) → IsPlace p → next_point p d ≡ Some q → q.count ≤ max_inserted → IsPlace q
-place_behind p q d h n b =
-    let a = behind_point p q d n in
+pub place_after : (p q : Point) (d : DeltaOf) → IsPlace p → next_point p d ≡ Some q → q.count ≤ max_inserted → IsPlace q
+place_after p q d h n b =
+    let a = after_point p q d n in
     let small = small_run p.count p.state a.state (acts_of d) h.small a.goes in
     record { count = b; small = λ k. subst (λ z. IsSmall q.count z) (sym a.same) (subst (λ z. IsSmall z a.state) (sym a.count) small) k }
 
@@ -107,7 +107,7 @@ pub record IsPassing (f : FollowerOf) (d : DeltaOf) (q : Point) : Type 0 where
 
 pub passing_is : (f : FollowerOf) (d : DeltaOf) (q : Point) → IsSound f → next_point f.here d ≡ Some q → is_within q d ≡ true → IsPassing f d q
 passing_is f d q s n w =
-    let a = behind_point f.here q d n in
+    let a = after_point f.here q d n in
     let b = bounded q d w in
     let room : f.here.count + (inserted_all (pending f) + inserted (acts_of d)) ≤ max_count = omega (arith, s.held, b.held, a.count) in
     let o = over_room f.here.count f.here.state f.flight f.queue (acts_of d) a.state s.shown s.place.small room a.goes s.is_shown in
@@ -119,7 +119,7 @@ passing_is f d q s n w =
       left = o.left;
       over = o.defined;
       is = advance_by f d q (over f.flight f.queue (acts_of d)) n w ∙ ap (advance_with f d q) o.defined;
-      sound = record { place = place_behind f.here q d s.place n b.held; shown = o.end; is_shown = shows; held = omega (arith, o.small, s.held) };
+      sound = record { place = place_after f.here q d s.place n b.held; shown = o.end; is_shown = shows; held = omega (arith, o.small, s.held) };
       rebased = o.rebased;
       shows = shows ∙ sym (and_then_is (screen f) (λ z. run z o.left) s.shown s.is_shown ∙ o.left_goes);
       flown = o.flown;
@@ -151,7 +151,7 @@ pub record IsLanding (f : FollowerOf) (d : DeltaOf) (q : Point) : Type 0 where
 
 pub landing_is : (f : FollowerOf) (d : DeltaOf) (q : Point) (x : Flight) → IsSound f → next_point f.here d ≡ Some q → is_within q d ≡ true → f.flight ≡ Some x → acts_of d ≡ x.acts → IsLanding f d q
 landing_is f d q x s n w e same =
-    let a = behind_point f.here q d n in
+    let a = after_point f.here q d n in
     let b = bounded q d w in
     let all : pending f ≡ x.acts ∷ f.queue = ap (λ m. flying m ++ f.queue) e in
     let ran : run_all f.here.state (x.acts ∷ f.queue) ≡ Some s.shown = subst (λ z. run_all f.here.state z ≡ Some s.shown) all s.is_shown in
@@ -161,7 +161,7 @@ landing_is f d q x s n w e same =
     let shows : run_all q.state f.queue ≡ Some s.shown = subst (λ t. run_all t f.queue ≡ Some s.shown) (sym state) u.2 in
     record {
       is = advance_by f d q (Some ((None, f.queue), [])) n w;
-      sound = record { place = place_behind f.here q d s.place n b.held; shown = s.shown; is_shown = shows; held = omega (arith, few) };
+      sound = record { place = place_after f.here q d s.place n b.held; shown = s.shown; is_shown = shows; held = omega (arith, few) };
       shows = shows ∙ sym s.is_shown;
     }
 

@@ -1,7 +1,7 @@
 -- What is pending, past the acts of a delta.
 --     run_all_append, inserted_all_append     entries in a row
 --     IsRebased, rebase_room     entries
---     IsOver, over_room          the flight and the entries behind it
+--     IsOver, over_room          the flight and the entries after it
 use Rattle.std.proofs.Common.{◌≡◌, ℕ, ◌+◌, ◌≤◌, List, [], ◌∷◌, ◌++◌, Option, None, Some, refl, sym, ap, subst, ◌∙◌, arith, le_refl, option_and_then}
 use Rattle.std.specs.Option.{option_map}
 use Rattle.doc_items.specs.Limits.{max_count}
@@ -57,7 +57,7 @@ rebase_room n s (entry ∷ rest) acts t u h r p q =
       later_small = omega (arith, one.later_small, more.later_small);
     }
 
--- the flight behind the acts
+-- the flight after the acts
 pub record IsFlown (x : Flight) (acts : List Act) (flight : Option Flight) : Type 0 where
   pub passed : Lists
   pub exactly : grid x.acts acts ≡ Some passed

@@ -2,9 +2,9 @@
 --     ClientOf, client_of i     whose follower it is: an author, and the key of one of the author's clients; that of an id
 --     same_client               the test of ≡ on them
 --     Flight                    the submission as it was first taken, and its acts passed through what came since
---     FollowerOf                the point where it is, its flight, the entries behind it, and the number of its next submission
+--     FollowerOf                the point where it is, its flight, the entries after it, and the number of its next submission
 --     new_follower name k       at the start of the history, with nothing pending
---     run_all s es, inserted_all es     the state behind entries in turn, where each is valid; how many items they insert
+--     run_all s es, inserted_all es     the state after entries in turn, where each is valid; how many items they insert
 --     flying g, pending f       what is pending: the flight's acts, and then the queue's entries
 --     screen f                  the state with what is pending
 --     moved f p g q             the follower at p, with this flight and these entries

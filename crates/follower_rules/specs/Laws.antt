@@ -3,7 +3,7 @@
 --                               bound
 --     IsSound f               what is pending is valid where the follower is, and inserts no more than may be inserted
 --     AreOwn f d              if the delta has the flight's id, its acts are the flight's
---     IsMoved f g d           g is f behind the delta d: the own one leaves the screen as it was; another's passes what is pending, and
+--     IsMoved f g d           g is f after the delta d: the own one leaves the screen as it was; another's passes what is pending, and
 --                             moves the screen by what is left of it
 --     NewIsSound, EditIsSound, SubmitIsSound, RefusalIsSound, SnapshotIsSound      each call keeps a follower sound; an edit moves the
 --                             screen by its acts, and to take a submission changes no screen

@@ -5,7 +5,7 @@
 --     over g q acts           the flight and the entries so, and what is left of the acts
 --     with_acts d acts        the delta with these acts for its own
 --     is_own d acts           its operations are those of the acts: both spell alike
---     is_within p d           behind the delta, at p, the three bounds hold: of versions, of items inserted, of bytes
+--     is_within p d           after the delta, at p, the three bounds hold: of versions, of items inserted, of bytes
 --     receive f d             the answer to a delta, and the follower after it. In order: the delta starts at a lower version, at a
 --                             higher one, at this one with another hash; it has the flight's id and other operations; its operations
 --                             aren't valid there; a bound is broken; else the follower advances. With the flight's id and operations
@@ -57,7 +57,7 @@ with_acts d acts = record { id = d.id; from = d.from; time = d.time; ops = ops_o
 abbrev pub is_own : DeltaOf → List Act → Bool
 is_own d acts = pointwise ◌==◌ (delta_bytes d) (delta_bytes (with_acts d acts))
 
--- ---- the point behind
+-- ---- the point after
 
 abbrev pub is_within : Point → DeltaOf → Bool
 is_within q d = nat_le q.at.version max_count && nat_le q.count max_inserted && nat_le (length (delta_bytes d)) max_delta

@@ -1,7 +1,7 @@
 -- Another server's copy of a wavelet.
 --     ReplicaOf               the deltas so far, the submissions that wait for the host's verdict, and whether it was dropped
 --     empty_replica           as it starts, and starts again
---     may_follow ds d p q     d may come next behind ds, at whose head p it is applied, and q is the point behind it
+--     may_follow ds d p q     d may come next after ds, at whose head p it is applied, and q is the point after it
 --     absorb name r d         the copy with a delta more, where that may come next
 --     is_waiting i ss         a submission of this id waits
 --     without i ss            the submissions of other ids

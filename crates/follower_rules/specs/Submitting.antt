@@ -2,7 +2,7 @@
 --     submit_bytes            how many bytes the operations have at most that a follower puts into one submission
 --     is_short acts           they have no more bytes, in normal form
 --     IsFault r e             the fault e tells why r is refused
---     edit f acts             the follower with the acts behind what is pending. In order: they aren't valid at the screen; too many
+--     edit f acts             the follower with the acts after what is pending. In order: they aren't valid at the screen; too many
 --                             items are inserted together; they have too many bytes
 --     fitting acts            acts compacted, where these are few and short enough for a submission
 --     gather entry rest       the first entry joined with as many of the others as fit, and those that are left

@@ -11,7 +11,7 @@ pub fn calls_keep()
 {}
 
 /// The law of deltas: a sound follower advances by each delta that starts where it is, is valid there and within the bounds, and
-/// is sound behind it. The flight's own delta leaves the screen as it was. Another's is taken past what is pending, and the screen
+/// is sound after it. The flight's own delta leaves the screen as it was. Another's is taken past what is pending, and the screen
 /// moves by what is left of it.
 pub fn deltas_advance()
     ensures { Advances }

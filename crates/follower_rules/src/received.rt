@@ -22,11 +22,11 @@ pub enum Received {
         theirs: Ops,
     },
     /// The operation of this index isn't valid where the ones before it lead. With the number of operations as its index: they are
-    /// valid, and behind them the count of inserted items, the version or the delta's bytes are above their bound.
+    /// valid, and after them the count of inserted items, the version or the delta's bytes are above their bound.
     NotNext {
         index: u32,
     },
-    /// The follower is behind the delta.
+    /// The follower is after the delta.
     Advanced,
 }
 

@@ -22,7 +22,7 @@ use Rattle.wavelet_op.specs.Deltas.{DeltaOf}
 use Rattle.delta_history.specs.Copying.{AscendFrom, AreAscending}
 use Rattle.delta_history.specs.Legal.{IsLegal, IsNext}
 use Rattle.delta_history.specs.Points.{Point, start, end_of}
-use Rattle.delta_history.proofs.Chains.{legal_front, legal_behind}
+use Rattle.delta_history.proofs.Chains.{legal_front, legal_after}
 use Rattle.wave_index.specs.Taken.{TakenOf, Histories, deltas_in, with_delta}
 use Rattle.inbox_machine.specs.Indexing.{with_deltas}
 
@@ -63,7 +63,7 @@ pub record IsTakeable (n : Key) (before : List DeltaOf) (d : DeltaOf) : Type 0 w
 
 takes : (n : Key) (before : List DeltaOf) (d : DeltaOf) (after : List DeltaOf) → IsLegal n (before ++ d ∷ after) → IsTakeable n before d
 takes n before d after legal =
-    let x : IsNext n before d = (legal_behind n [] before (d ∷ after) legal).0 in
+    let x : IsNext n before d = (legal_after n [] before (d ∷ after) legal).0 in
     record {
       next = x.starts ∙ sym (ap (λ (o : Option Point). (unwrap_or o (start n)).at) x.is_head);
       legal = legal_front n [] (before ++ d ∷ []) after (subst (IsLegal n) (sym (append_assoc before (d ∷ []) after)) legal);

@@ -52,8 +52,8 @@ module _ {M K : Type 0} (machine : machine_of.Ghosts M) (clock : clock_of.Ghosts
   }
 
   -- with something written before
-  pub answered_behind : (a b : M) (k l : K) (before x : List ℕ) (ts : List Turn) → IsAnswered machine clock a b k l [] x ts → IsAnswered machine clock a b k l before (before ++ x) ts
-  answered_behind a b k l before x ts p = record {
+  pub answered_after : (a b : M) (k l : K) (before x : List ℕ) (ts : List Turn) → IsAnswered machine clock a b k l [] x ts → IsAnswered machine clock a b k l before (before ++ x) ts
+  answered_after a b k l before x ts p = record {
     out = λ us. ap (λ t. before ++ t) (p.out us) ∙ sym (append_assoc before x (machine.answers b us));
     reached = p.reached;
     since = p.since;

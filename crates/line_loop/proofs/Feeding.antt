@@ -17,7 +17,7 @@ use Rattle.line_loop.specs.Feeding.{IsFed, IsFedLine, IsFedChunk, IsFedInPart}
 use Rattle.line_loop.specs.Lines.{given, turned, has_line_feed, Begins, IsPrefix, IsCutInto}
 use Rattle.line_loop.specs.Steps.{IsTaken, IsTakenInPart, IsTakenLine, IsTriedLine}
 use Rattle.line_loop.specs.Turns.{lines_in}
-use Rattle.line_loop.proofs.Answering.{answered_none, answered_then, answered_behind, lines_in-append}
+use Rattle.line_loop.proofs.Answering.{answered_none, answered_then, answered_after, lines_in-append}
 use Rattle.line_loop.proofs.Cutting.{begins_cut, begins_longer, begins_then, turned-last}
 use Rattle.line_loop.proofs.Telling.{Appends-none, Appends-then}
 
@@ -42,7 +42,7 @@ module _ {M K : Type 0} (machine : machine_of.Ghosts M) (clock : clock_of.Ghosts
     cut = λ all rest.
         ap (λ t. turned all (begun ++ (t ++ rest))) (sym e) ∙ ap (λ t. turned all (begun ++ t)) (append_assoc bytes more rest) ∙ p.cut all (more ++ rest) ∙ ap (λ t. lines_in p.turns ++ t) (q.cut all rest)
         ∙ sym (append_assoc (lines_in p.turns) (lines_in q.turns) (turned all (last ++ rest))) ∙ ap (λ t. t ++ turned all (last ++ rest)) (sym (lines_in-append p.turns q.turns));
-    answered = answered_then machine clock a b c k l m [] p.written (p.written ++ q.written) p.turns q.turns p.answered (answered_behind machine clock b c l m p.written q.written q.turns q.answered);
+    answered = answered_then machine clock a b c k l m [] p.written (p.written ++ q.written) p.turns q.turns p.answered (answered_after machine clock b c l m p.written q.written q.turns q.answered);
   }
 
   -- all answers were written
@@ -125,7 +125,7 @@ module _ {M K : Type 0} (machine : machine_of.Ghosts M) (clock : clock_of.Ghosts
           mid = s.mid;
           now = s.now;
           after = after;
-          answered = answered_then machine clock a b s.mid k l s.now [] p.written after p.turns q.turns p.answered (answered_behind machine clock b s.mid l s.now p.written s.after q.turns s.answered);
+          answered = answered_then machine clock a b s.mid k l s.now [] p.written after p.turns q.turns p.answered (answered_after machine clock b s.mid l s.now p.written s.after q.turns s.answered);
           since = s.since;
           left = s.left;
         };

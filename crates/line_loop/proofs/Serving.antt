@@ -12,7 +12,7 @@ use Rattle.line_loop.specs.declared.feed.FeedFault.TheVariants.{Sink as FedSink}
 use Rattle.line_loop.specs.Lines.{turned, IsPrefix, IsCutInto, has_line_feed}
 use Rattle.line_loop.specs.Run.{IsServed, IsUnderWay, IsPumped, IsCut, stop_status, byte_limit}
 use Rattle.line_loop.specs.Turns.{lines_in}
-use Rattle.line_loop.proofs.Answering.{answered_none, answered_then, answered_behind, answered_all, lines_in-append}
+use Rattle.line_loop.proofs.Answering.{answered_none, answered_then, answered_after, answered_all, lines_in-append}
 use Rattle.line_loop.proofs.Cutting.{turned-open}
 use Rattle.line_loop.proofs.Telling.{Keeps-consumes, Consumes-none, Consumes-then, Appends-none, Appends-then}
 
@@ -123,7 +123,7 @@ module _ {M K : Type 0} (machine : machine_of.Ghosts M) (clock : clock_of.Ghosts
     cut = λ all rest.
         ap (turned all) (append_assoc p.read q.read rest) ∙ p.cut all (q.read ++ rest) ∙ ap (λ t. lines_in p.turns ++ t) (q.cut (omega arith) all rest)
         ∙ sym (append_assoc (lines_in p.turns) (lines_in q.turns) (turned all (next ++ rest))) ∙ ap (λ t. t ++ turned all (next ++ rest)) (sym (lines_in-append p.turns q.turns));
-    answered = answered_then machine clock start old new was k l [] p.written (p.written ++ q.written) p.turns q.turns p.answered (answered_behind machine clock old new k l p.written q.written q.turns q.answered);
+    answered = answered_then machine clock start old new was k l [] p.written (p.written ++ q.written) p.turns q.turns p.answered (answered_after machine clock old new k l p.written q.written q.turns q.answered);
   }
 
   module _ (silent : (m : M) → machine.answers m [] ≡ []) (at_start : (m : M) → machine.reached m [] m) (unmoved : (m : M) → machine.since m [] m) where
@@ -131,7 +131,7 @@ module _ {M K : Type 0} (machine : machine_of.Ghosts M) (clock : clock_of.Ghosts
     pub served_whole : (start old new : M) (was k l : K) (a b c h i j : Option (List ℕ)) (begun next : List ℕ) (taken got : ℕ) → taken < byte_limit → got ≡ 0
         → IsUnderWay machine clock start old was k a b h i begun taken → IsPumped machine clock old new k l b c i j begun next got → IsServed machine clock start new was a c h j 0
     served_whole start old new was k l a b c h i j begun next taken got low none p q =
-        let all = answered_then machine clock start old new was k l [] p.written (p.written ++ q.written) p.turns q.turns p.answered (answered_behind machine clock old new k l p.written q.written q.turns q.answered) in
+        let all = answered_then machine clock start old new was k l [] p.written (p.written ++ q.written) p.turns q.turns p.answered (answered_after machine clock old new k l p.written q.written q.turns q.answered) in
         let out : p.written ++ q.written ≡ machine.answers start (p.turns ++ q.turns) = answered_all machine clock silent start new was l (p.written ++ q.written) (p.turns ++ q.turns) all in
         let empty : q.read ≡ [] = length-zero q.read (q.len ∙ none) in
         let len : length (p.read ++ q.read) ≡ taken = omega (arith, length-append p.read q.read, p.len, q.len, none) in
@@ -167,7 +167,7 @@ module _ {M K : Type 0} (machine : machine_of.Ghosts M) (clock : clock_of.Ghosts
         → IsUnderWay machine clock start old was k a b h i begun taken → IsCut machine clock room old new k b c i j begun e → IsServed machine clock start new was a c h j (stop_status e)
     served_part start old new was k a b c h i j begun taken room e shut low fits ten p q =
         let s = q.stopped in
-        let all = answered_then machine clock start old s.mid was k s.now [] p.written (p.written ++ s.after) p.turns q.turns p.answered (answered_behind machine clock old s.mid k s.now p.written s.after q.turns s.answered) in
+        let all = answered_then machine clock start old s.mid was k s.now [] p.written (p.written ++ s.after) p.turns q.turns p.answered (answered_after machine clock old s.mid k s.now p.written s.after q.turns s.answered) in
         let out : p.written ++ s.after ≡ machine.answers start (p.turns ++ q.turns) = answered_all machine clock silent start s.mid was s.now (p.written ++ s.after) (p.turns ++ q.turns) all in
         let len : length (p.read ++ q.read) ≡ taken + length q.read = omega (arith, length-append p.read q.read, p.len) in
         record {

@@ -30,7 +30,7 @@ status_of (Ok done) = 0
 status_of (Err e) = stop_status e
 
 module _ {M K : Type 0} (machine : machine_of.Ghosts M) (clock : clock_of.Ghosts K) where
-  -- the machine, the clock, and the bytes that the source has left and that the sink holds, where they tell them: before and behind
+  -- the machine, the clock, and the bytes that the source has left and that the sink holds, where they tell them: before and after
   pub record IsServed (start now : M) (was : K) (left0 left1 held0 held1 : Option (List ℕ)) (status : ℕ) : Type 0 where
     -- what was read and written
     pub read : List ℕ

@@ -2,7 +2,7 @@
 --     Turn               a line that it is given, with a reading of the clock
 --     turn_at time line  one of them
 --     lines_in ts        the lines of turns
---     later clock        the readings behind the first
+--     later clock        the readings after the first
 --     timed clock ls     lines, each with the next reading
 use Rattle.std.specs.Prelude.{ℕ, ◌+◌, List, [], ◌∷◌, map}
 

@@ -1,6 +1,6 @@
 -- A follower that receives all that it lacks is at the head. What waits is as much as before, and no flight is a new one.
 --     IsCaughtUp h f g       g is f at the head of h
---     lacking_is             what it lacks is what is behind it
+--     lacking_is             what it lacks is what is after it
 --     catches_up
 use Rattle.std.proofs.Common.{◌≡◌, inl, inr, ℕ, suc, ◌<◌, ◌≤◌, Bool, true, false, cond, nat_lt, List, [], ◌∷◌, ◌++◌, length, drop, Option, None, Some, refl, sym, ap, subst, ◌∙◌, arith, append_assoc, append-nil}
 use Rattle.std.specs.Option.{option_map}
@@ -16,7 +16,7 @@ use Rattle.wavelet_op.proofs.Partial.{and_then_some, both}
 use Rattle.delta_history.specs.Legal.{IsLegalFrom, IsLegal}
 use Rattle.delta_history.specs.Places.{started_below}
 use Rattle.delta_history.specs.Points.{Point, start, acts_of, replay, IsAt}
-use Rattle.delta_history.proofs.Chains.{legal_front, legal_behind, starts_at}
+use Rattle.delta_history.proofs.Chains.{legal_front, legal_after, starts_at}
 use Rattle.delta_history.proofs.Points.{replay_more}
 use Rattle.follower_rules.specs.Followers.{ClientOf, Flight, FollowerOf, flying, pending}
 use Rattle.follower_rules.specs.Receiving.{past, rebase, receive}
@@ -98,7 +98,7 @@ old_flight f m g a b y e =
 catches : (name : Key) (h : List DeltaOf) (subs : List Submission) (k : ClientOf) (before behind : List DeltaOf) (f : FollowerOf) → IsLegal name h → ((d : DeltaOf) → Mem d h → AreTextActs (acts_of d)) → before ++ behind ≡ h → replay (start name) before ≡ Some f.here → IsFollower name h subs k f → IsCaughtUp name h f (received f behind)
 catches name h subs k before [] f l t w r c = record { here = ap (replay (start name)) (sym w ∙ append-nil before) ∙ r; waiting = record { queue = refl; flight = λ y e. (y, e, refl) } }
 catches name h subs k before (d ∷ ds) f l t w r c =
-    let l' = legal_behind name [] before (d ∷ ds) (subst (λ z. IsLegalFrom name [] z) (sym w) l) in
+    let l' = legal_after name [] before (d ∷ ds) (subst (λ z. IsLegalFrom name [] z) (sym w) l) in
     let m : Mem d h = subst (λ z. Mem d z) w (mem_right d before (d ∷ ds) (inl refl)) in
     let at : d.from.version ≡ f.here.at.version = ap (λ (z : VersionAt). z.version) (starts_at name before d f.here r l'.0) in
     let x = meets name h subs k f d l m c at in
@@ -129,7 +129,7 @@ lacking_is : (name : Key) (h : List DeltaOf) (p : Point) → IsLegal name h → 
 lacking_is name h p l a =
     let l' : IsLegalFrom name [] (a.before ++ a.behind) = subst (λ z. IsLegalFrom name [] z) (sym a.whole) l in
     let low = below name [] a.before (start name) p (legal_front name [] a.before a.behind l') refl a.leads in
-    let high = above name a.before a.behind p (legal_behind name [] a.before a.behind l') a.leads in
+    let high = above name a.before a.behind p (legal_after name [] a.before a.behind l') a.leads in
     subst (λ z. drop (started_below p.at.version z) z ≡ a.behind) a.whole (all_below p.at.version a.before a.behind low high)
 
 pub catches_up : (name : Key) (h : List DeltaOf) (subs : List Submission) (k : ClientOf) (f : FollowerOf) → IsLegal name h → ((d : DeltaOf) → Mem d h → AreTextActs (acts_of d)) → IsFollower name h subs k f → IsCaughtUp name h f (caught_up h f)

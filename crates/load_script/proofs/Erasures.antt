@@ -1,6 +1,6 @@
 -- The item at a place is erased exactly where it is a character.
 --     erased_one        what is erased is one
---     cut_one, past_all     an element's start or end isn't, and nothing behind the last item
+--     cut_one, past_all     an element's start or end isn't, and nothing after the last item
 use Rattle.std.proofs.Common.{◌≡◌, ℕ, zero, suc, ◌+◌, ◌<◌, List, [], ◌∷◌, length, slice_get, Option, Some, None, refl, sym, ap, subst, arith}
 use Rattle.std.proofs.lemmas.Option.{slice_get_past}
 use Rattle.doc_items.specs.Balance.{BalancedFrom, Balanced, Closes, level}

@@ -1,6 +1,6 @@
 -- An exchange takes a follower to the head, with less that waits; so many of them settle it.
 --     IsIdle n f             nothing is in flight, and at most n entries wait
---     IsExchanged w k n c    what holds behind an exchange
+--     IsExchanged w k n c    what holds after an exchange
 --     level_leads, exchange_leads
 --     IsSettling, settling_leads
 use Rattle.std.proofs.Common.{◌≡◌, inl, inr, ℕ, zero, suc, ◌-◌, ◌≤◌, Bool, true, false, cond, nat_le, List, [], ◌∷◌, ◌++◌, length, take, drop, Option, None, Some, Ok, Err, refl, sym, ap, subst, ◌∙◌, arith}

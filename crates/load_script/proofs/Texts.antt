@@ -31,7 +31,7 @@ use Rattle.wavelet_op.proofs.Partial.{and_then_some}
 use Rattle.wavelet_op.proofs.Squares.{document_there, document_elsewhere}
 use Rattle.doc_items.specs.Maps.{same_text}
 use Rattle.delta_history.specs.Points.{Point, start, acts_of, next_point, replay}
-use Rattle.delta_history.proofs.Points.{behind_point}
+use Rattle.delta_history.proofs.Points.{after_point}
 use Rattle.follower_rules.specs.Followers.{ClientOf, FollowerOf, run_all, pending}
 use Rattle.wave_world.specs.Texts.{AreTextsIn, AreText, IsTextAct, AreTextActs, AreTextEntries}
 use Rattle.wave_world.specs.Worlds.{Mem}
@@ -133,7 +133,7 @@ replay_texts : (p q : Point) (ds : List DeltaOf) → ((d : DeltaOf) → Mem d ds
 replay_texts p q [] x h e = subst (λ (z : Point). IsTextState z.state) (same_Some e) h
 replay_texts p q (d ∷ ds) x h e =
     let m = and_then_some (next_point p d) (λ z. replay z ds) q e in
-    let b = behind_point p m.0 d m.1 in
+    let b = after_point p m.0 d m.1 in
     replay_texts m.0 q ds (λ y n. x y (inr n)) (subst IsTextState (sym b.same) (run_texts p.state b.state (acts_of d) (x d (inl refl)) h b.goes)) m.2
 
 empty_texts : IsTextState empty_state

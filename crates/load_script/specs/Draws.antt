@@ -1,6 +1,6 @@
 -- The numbers that are drawn: a linear congruential generator modulo 2^64 with the constants of Knuth's MMIX, of whose state the
 -- upper 31 bits are used.
---     next x          the state behind a draw at x
+--     next x          the state after a draw at x
 --     drawn n x       what is drawn at x, below n
 use Rattle.std.specs.Prelude.{ℕ, ◌+◌, ◌*◌, ◌/◌, ◌%◌, ◌^◌}
 

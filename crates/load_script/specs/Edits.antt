@@ -1,13 +1,13 @@
 -- What a follower's user does to the document, with numbers that are drawn. An edit that is refused changes nothing.
 --     letters f          the items of the document on the follower's screen
---     changed f acts     the follower with these acts behind what is pending
+--     changed f acts     the follower with these acts after what is pending
 --     mutated f acts     so, with these actions on the document
 --     typed f place n    the n-th letter of the alphabet is typed at a place; both are counted from 0
 --     erasure items place o      the actions that erase the item at a place, if it is o; None where it is no character
 --     erased f place     the item at a place is erased, if it is a character
 --     invited f          all users are added
 --     types x f, erases x f      a letter is typed at a place; the item at a place is erased, or a letter typed where there is no item.
---                        Place and letter are drawn, in this order, from x on; and the state behind the draws
+--                        Place and letter are drawn, in this order, from x on; and the state after the draws
 use Rattle.std.specs.Prelude.{ℕ, zero, suc, ◌+◌, List, [], ◌∷◌, map, length, slice_get, Option, Some, None, Ok, Err}
 use Rattle.std.specs.Option.{option_map_or}
 use Rattle.doc_items.specs.declared.item.Content.{Content}

@@ -1,9 +1,9 @@
 -- What passes between a follower and the host.
 --     Meeting            the host's deltas and a follower
 --     lacking h v        the deltas of h from version v on
---     received f ds      the follower behind deltas that it receives in turn
---     caught_up h f      behind all that it lacks
---     answered c f s j   behind the verdict on its submission; where that is a refusal, nothing is pending any more
+--     received f ds      the follower after deltas that it receives in turn
+--     caught_up h f      after all that it lacks
+--     answered c f s j   after the verdict on its submission; where that is a refusal, nothing is pending any more
 --     exchanged t c      a submission is taken, if there is one, and submitted at the time t; then the follower catches up
 --     settling t n c     so again, at most n times, until nothing is pending
 use Rattle.std.specs.Prelude.{ℕ, zero, suc, cond, List, [], ◌∷◌, drop, Some, None, Ok, Err}

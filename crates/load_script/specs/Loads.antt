@@ -8,7 +8,7 @@
 --     turned i choice x c    what a follower does at the time i
 --     step i l           a turn of a follower that is drawn
 --     steps n l          the steps from 1 to n
---     loaded n           behind them, with all followers settled and level
+--     loaded n           after them, with all followers settled and level
 --     Shows l f          a follower's screen is the host's state
 --     summary l          the version, the number of letters and the hash at the head
 use Rattle.std.specs.Prelude.{◌≡◌, ℕ, zero, suc, List, [], length, map, slice_get, slice_set, Option, Some, None}

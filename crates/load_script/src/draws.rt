@@ -39,7 +39,7 @@ impl Draws {
     }
 }
 
-// The state behind a draw.
+// The state after a draw.
 fn next(state: u64) -> u64
     ensures { result ≡ next state }
 {

@@ -19,7 +19,7 @@ use std::alloc::{AllocError, Global};
 use wave_base::DocumentName;
 use wavelet_op::{Ops, WaveletOp};
 
-// The operations are behind what is pending, unless they are refused.
+// The operations are after what is pending, unless they are refused.
 #[tactic(auto, unfolding(crate::specs::Edits::changed))]
 fn change(alloc: Global, follower: &mut Follower, ops: Ops) -> Result<(), Memory>
     ensures { OnOk result (follower_of follower.new ≡ changed (follower_of follower.old) (meanings ops)) }

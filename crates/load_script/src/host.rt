@@ -80,7 +80,7 @@ impl Host {
         length(self.container.history().state(), document)
     }
 
-    /// The verdict on a submission at the time; the delta that is accepted is behind the others then.
+    /// The verdict on a submission at the time; the delta that is accepted is after the others then.
     pub fn submit(
         &mut self,
         alloc: Global,

@@ -140,7 +140,7 @@ impl Script {
         self.level_one(alloc, 3)
     }
 
-    /// The load behind its founding.
+    /// The load after its founding.
     #[tactic(auto, unfolding(crate::specs::Loads::founded))]
     pub fn founded(alloc: Global, count: u64) -> Result<Script, Memory>
         ensures { IfOk result (λ s. load_of s ≡ founded count) }

@@ -47,7 +47,7 @@ pub enum Message {
         name: WaveletName,
         reason: UnopenedReason,
     },
-    /// The submission is in the history, as the delta at version `at`, behind which the history is at `to`.
+    /// The submission is in the history, as the delta at version `at`, after which the history is at `to`.
     Ack {
         name: WaveletName,
         client: u64,

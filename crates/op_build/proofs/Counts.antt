@@ -23,7 +23,7 @@ input_inserted out before u contents e = omega (arith, ap input_len e, input_len
 pub output_inserted : (out before : List Action) (u : ChangeSet) (contents : List Content) → out ≡ before ++ map (insertion u) contents → output_len out ≡ output_len before + length contents
 output_inserted out before u contents e = omega (arith, ap output_len e, output_len-append before (map (insertion u) contents), output_len-insertions u contents)
 
--- ---- behind one action more
+-- ---- after one action more
 
 pub input_next : (out before : List Action) (a : Action) (n : ℕ) → out ≡ before ++ (a ∷ []) → input_len (a ∷ []) ≡ n → input_len out ≡ input_len before + n
 input_next out before a n e f = omega (arith, ap input_len e, input_len-append before (a ∷ []), f)

@@ -1,4 +1,4 @@
--- Items that stay, before an edit and behind it.
+-- Items that stay, before an edit and after it.
 use Rattle.std.proofs.Common.{◌≡◌, ◌≤◌, ℕ, zero, suc, cond, true, List, [], ◌∷◌, ◌++◌, length, take, drop, refl, ap, ◌∙◌, arith, Option, None, Some, option_map}
 use Rattle.std.proofs.lemmas.Bool.{and_from}
 use Rattle.doc_items.specs.Changes.{none_running}

@@ -1,5 +1,5 @@
 -- What is done to a range is an edit of the whole.
---     Takes acts gone new     the actions make of these items those, whatever comes behind
+--     Takes acts gone new     the actions make of these items those, whatever comes after
 --     made                    an operation of such a plan is the edit
 use Rattle.std.proofs.Common.{◌≡◌, ◌≤◌, ◌+◌, ◌-◌, ℕ, cond, List, ◌++◌, length, take, drop, sym, ap, subst, ◌∙◌, arith, None, Some, is_none, append_assoc, drop-drop}
 use Rattle.std.proofs.lemmas.List.{take-append-drop, length-drop}

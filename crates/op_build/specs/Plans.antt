@@ -1,6 +1,6 @@
 -- The actions by which each edit is made.
 --     retained                   an item that stays as it is
---     around before acts behind  actions with items that stay before and behind them
+--     around before acts after  actions with items that stay before and after them
 --     plan items from count acts actions on a range of the items; all others stay
 --     one_change key old new     the change of one key
 --     typing, erasing, annotating, adding_element, adding_contents, setting_attribute     the actions of the edits

@@ -19,7 +19,7 @@ use doc_op::{ContentRun, DocOp, NormalBuilder};
 use std::alloc::Global;
 
 /// The operation that inserts items of these contents at a place, without annotations. Their elements must be whole. Refusals, in
-/// this order: `ZeroCount` where there are none, `OutOfRange` where the place is behind the last item, `CountTooLarge` where the items
+/// this order: `ZeroCount` where there are none, `OutOfRange` where the place is after the last item, `CountTooLarge` where the items
 /// and these together exceed `MAX_COUNT`.
 pub fn insert_contents<D: Items>(
     alloc: Global,

@@ -18,7 +18,7 @@ use doc_op::{ContentRun, DocOp};
 use std::alloc::Global;
 
 /// The operation that inserts an element's start and its end at a place, both with the annotations of the item left of it, or
-/// none at place 0. Refusals, in this order: `OutOfRange` where the place is behind the last item, `CountTooLarge` where the
+/// none at place 0. Refusals, in this order: `OutOfRange` where the place is after the last item, `CountTooLarge` where the
 /// items and these two exceed `MAX_COUNT`.
 pub fn insert_element<D: Items>(
     alloc: Global,

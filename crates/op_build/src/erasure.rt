@@ -51,7 +51,7 @@ fn is_balanced<D: Items>(document: &D, from: u64, count: u64) -> bool
     let mut left = count;
     while left > 0 {
         let item = first_of(document, place, left);
-        let Some(behind) = depth_behind(depth, &item.content) else {
+        let Some(behind) = depth_after(depth, &item.content) else {
             return false;
         };
         depth = behind;
@@ -61,8 +61,8 @@ fn is_balanced<D: Items>(document: &D, from: u64, count: u64) -> bool
     depth == 0
 }
 
-// The depth behind a content; None where it ends an element and none is open.
-fn depth_behind(depth: u64, content: &Content) -> Option<u64>
+// The depth after a content; None where it ends an element and none is open.
+fn depth_after(depth: u64, content: &Content) -> Option<u64>
     requires { depth < max_count }
     ensures some { IfSome result (λ behind. Closes content.now depth × (behind ≡ level content.now depth)) }
     ensures none { IfNone result (Closes content.now depth → ⊥) }

@@ -1,4 +1,4 @@
-// Operations that leave the items before and behind an edit as they are.
+// Operations that leave the items before and after an edit as they are.
 ghost use Rattle.std.specs.Prelude.{◌≡◌, ◌+◌, ◌≤◌, ◌++◌, IfOk};
 ghost use Rattle.doc_items.specs.Limits.{max_count};
 ghost use Rattle.doc_op.specs.Actions.{actions};
@@ -22,7 +22,7 @@ pub(crate) fn begun(alloc: Global, count: u64) -> Result<NormalBuilder, Memory>
     Ok(out)
 }
 
-/// The operation with so many items behind that stay.
+/// The operation with so many items after that stay.
 pub(crate) fn ended(alloc: Global, mut out: NormalBuilder, count: u64) -> Result<DocOp, Memory>
     requires input { input_len out + count ≤ max_count }
     requires output { output_len out + count ≤ max_count }

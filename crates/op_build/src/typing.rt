@@ -18,7 +18,7 @@ use doc_op::{ContentRun, DocOp};
 use std::alloc::Global;
 
 /// The operation that inserts the text's characters at a place, with the annotations of the item left of it, or none at place 0.
-/// Refusals, in this order: `ZeroCount` where the text is empty, `OutOfRange` where the place is behind the last item,
+/// Refusals, in this order: `ZeroCount` where the text is empty, `OutOfRange` where the place is after the last item,
 /// `CountTooLarge` where the items and the characters together exceed `MAX_COUNT`.
 pub fn type_at<D: Items>(
     alloc: Global,

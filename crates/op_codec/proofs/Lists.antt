@@ -18,7 +18,7 @@ use Rattle.op_codec.proofs.Fields.{IsBytes, bind_some, guard_on, some_is, Takes,
 
 -- ---- lists
 
--- what was read behind `done`
+-- what was read after `done`
 record Adds {X : Type 0} (spell : X → List ℕ) (Valid : X → Type 0) (done : List X) (n : ℕ) (bytes : List ℕ) (r : List X × List ℕ) : Type 0 where
   more : List X
   all : r.0 ≡ done ++ more

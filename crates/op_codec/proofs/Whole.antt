@@ -18,7 +18,7 @@ use Rattle.op_codec.proofs.Lists.{lists, changes, boundaries, elements, replacem
 
 -- ---- a component
 
--- what is read behind a tag
+-- what is read after a tag
 abbrev Behind : ℕ → List ℕ → Component × List ℕ → Type 0
 Behind tag bytes r = Takes (tag ∷ bytes) (component r.0) r.1 × IsComponent r.0
 

@@ -1,4 +1,4 @@
--- Bytes read from left to right: what stands at their front, and the bytes behind it; None where nothing of the kind does.
+-- Bytes read from left to right: what stands at their front, and the bytes after it; None where nothing of the kind does.
 --     number_at w, string_at, key_at, text_at, optional_at     numbers, bytes with their length, texts
 --     list_at f               a list of what f reads
 --     is_next, attributes_at  attributes, whose keys ascend in byte order
@@ -18,7 +18,7 @@ use Rattle.doc_op.specs.Refusals.{takes}
 use Rattle.op_codec.specs.declared.fault.CodecFault.{CodecFault}
 use Rattle.op_codec.specs.declared.fault.CodecFault.TheVariants.{BadBytes, Memory}
 
--- what was read, and the bytes behind it
+-- what was read, and the bytes after it
 abbrev pub Read : Type 0 → Type 0
 Read X = Option (X × List ℕ)
 
@@ -65,7 +65,7 @@ optional_at (suc (suc b) ∷ rest) = None
 
 -- ---- lists
 
--- n times more what f reads, behind what was read so far
+-- n times more what f reads, after what was read so far
 unfoldable pub list_of : {X : Type 0} → (List ℕ → Read X) → List X → ℕ → List ℕ → Read (List X)
 list_of f done zero bytes = Some (done, bytes)
 list_of f done (suc n) bytes = do

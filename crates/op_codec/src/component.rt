@@ -1,4 +1,4 @@
-// A component at the front of bytes, and the bytes behind it.
+// A component at the front of bytes, and the bytes after it.
 ghost use Rattle.std.specs.Prelude.{◌≡◌};
 ghost use Rattle.op_codec.specs.Reading.{Gives, tagged_at, component_at};
 

@@ -1,4 +1,4 @@
-// Numbers at the front of bytes, and the bytes behind them.
+// Numbers at the front of bytes, and the bytes after them.
 ghost use Rattle.std.specs.Int.{w32, w64};
 ghost use Rattle.op_codec.specs.Reading.{Gives, number_at};
 

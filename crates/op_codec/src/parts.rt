@@ -1,4 +1,4 @@
-// What components hold, at the front of bytes, and the bytes behind it.
+// What components hold, at the front of bytes, and the bytes after it.
 ghost use Rattle.std.specs.Prelude.{[], None};
 ghost use Rattle.std.specs.FinMap.{empty};
 ghost use Rattle.op_codec.specs.Reading.{Gives, text_at, list_of, list_at, attribute_at, attributes_of, attributes_at, change_at, boundary_at, element_at, replaced_at};

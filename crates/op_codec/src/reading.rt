@@ -38,7 +38,7 @@ fn components_of(alloc: Global, count: u32, bytes: &[u8]) -> Result<(DocOp, &[u8
     Ok((builder.finish(), rest))
 }
 
-/// The operation at the front of bytes, in normal form or not, and the bytes behind it.
+/// The operation at the front of bytes, in normal form or not, and the bytes after it.
 #[tactic(auto, unfolding(crate::specs::Reading::operation_at))]
 pub(crate) fn operation_at(alloc: Global, bytes: &[u8]) -> Result<(DocOp, &[u8]), CodecFault>
     ensures { Gives (λ r. (r.0, r.1.now)) result (operation_at bytes.now) }

@@ -29,7 +29,7 @@ pub fn normal_len(op: &DocOp) -> u64
 }
 
 /// Appends the spelling of an operation, which has fewer than 4,294,967,296 bytes. After want of memory a part of it may
-/// stand behind what was there.
+/// stand after what was there.
 pub fn write(alloc: Global, op: &DocOp, out: &mut Vec<u8>) -> Result<(), Memory>
     requires { length (canonical op.now) < limit }
     ensures appended { OnOk result (out.new.items ≡ out.old.items ++ canonical op.now) }

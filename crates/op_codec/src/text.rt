@@ -1,4 +1,4 @@
-// Texts at the front of bytes, and the bytes behind them.
+// Texts at the front of bytes, and the bytes after them.
 ghost use Rattle.std.specs.Prelude.{length};
 ghost use Rattle.op_codec.specs.Reading.{Gives, string_at, key_at, text_at, optional_at};
 

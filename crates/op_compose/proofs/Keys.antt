@@ -1,6 +1,6 @@
 -- Change sets that aren't empty, as updates have to be.
 --     some_change     so is the set of a list that isn't empty
---     then_some       a change set behind others keeps their keys
+--     then_some       a change set after others keeps their keys
 use Rattle.std.proofs.Common.{◌≡◌, ◌≢◌, ◌<◌, refl, sym, ap, ◌∙◌, arith, List, [], ◌∷◌, length, None, Some}
 use Rattle.std.specs.FinMap.{get, get-empty}
 use Rattle.std.specs.Ordering.{nat_cmp}

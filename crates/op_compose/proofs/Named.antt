@@ -1,7 +1,7 @@
 -- What deletions name and insertions have, as the changes that run there say.
 --     named_there, agrees_there     the second's old values are there, where the first inserts
 --     named_follows                 a deletion's names agree with the changes before it
---     put_new, names_old            new values behind other changes;  names before them
+--     put_new, names_old            new values after other changes;  names before them
 use Rattle.std.proofs.Common.{◌≡◌, Bool, true, refl, sym, ap, subst, ◌∙◌, Option, None, Some, option_map, option_and_then}
 use Rattle.std.specs.Cmp.{both_ways}
 use Rattle.std.specs.FinMap.{get}

@@ -1,11 +1,11 @@
 -- One change and then another, of one item.
---     follows w u, then w u     u can come behind w: a key of both has w's new value as u's old one;  both as one change set
+--     follows w u, then w u     u can come after w: a key of both has w's new value as u's old one;  both as one change set
 --     attributes_back a         the attribute change that undoes a
---     attributes_follow o a, attributes_then o a      a can come behind o;  both as one attribute change
+--     attributes_follow o a, attributes_then o a      a can come after o;  both as one attribute change
 --     named_new n c             where a deletion names a key that is changed: its value is the new one
 --     one_name_before n c       what a deletion names before the key is changed
 --     names_before n w          the names of a deletion before w: the keys of w with their old values, and its other names
---     can_precede c n w o       a deletion of c that names n can come behind the changes w and o
+--     can_precede c n w o       a deletion of c that names n can come after the changes w and o
 use Rattle.std.specs.Prelude.{Bool, true, ◌&&◌, Option, None, Some}
 use Rattle.doc_items.specs.Maps.{Key, same_value, merge, matches}
 use Rattle.doc_items.specs.Changes.{KeyChange, ChangeSet, agrees, put, back}

@@ -1,4 +1,4 @@
-// Two changes of one element's attributes, one behind the other.
+// Two changes of one element's attributes, one after the other.
 ghost use Rattle.std.specs.Prelude.{◌≡◌, ◌<◌, length, replicate, ◌&&◌, ◌++◌, ◌∷◌, [], IfOk, OnOk};
 ghost use Rattle.doc_items.specs.Changes.{IsAscending, change_set};
 ghost use Rattle.doc_op.specs.Actions.{Keep, Update};

@@ -103,7 +103,7 @@ pub(crate) fn delete_before<'a>(
     }
 }
 
-// The run's contents are before as they are behind.
+// The run's contents are before as they are after.
 #[tactic(auto, using(crate::proofs::Runs::all_unchanged, crate::proofs::Runs::put_all_unchanged))]
 fn delete_same<'a>(
     out: &mut NormalBuilder,

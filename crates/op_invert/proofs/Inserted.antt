@@ -1,7 +1,7 @@
 -- Items that are inserted as they are.
 --     item_put                          an item is inserted as it is
 --     is_character, no_character, one_more     characters in a row
---     front_put, rest_put, all_put      the first items, and then those behind them
+--     front_put, rest_put, all_put      the first items, and then those after them
 use Rattle.std.proofs.Common.{◌≡◌, ℕ, true, ◌+◌, ◌<◌, ◌≤◌, List, [], ◌∷◌, ◌++◌, length, map, take, drop, get_or, refl, sym, ap, ◌∙◌, arith, append_assoc, append-nil, Option, None, Some, option_map, option_and_then}
 use Rattle.std.proofs.lemmas.List.{map-append, take_more, take-append-drop, length_push, length-take-le, length-drop}
 use Rattle.std.specs.FinMap.{get}
@@ -61,7 +61,7 @@ one_more items m text more i x c h n less is e f =
       fits = omega (arith, len, less);
     }
 
--- ---- the first items, and then those behind them
+-- ---- the first items, and then those after them
 
 pub front_put : (items : List Item) (m : Map Key) (text : List ℕ) (n : ℕ) (out new : List Action) → AreCharacters items m text → n ≡ length text → new ≡ out ++ map (insertion (from_absent m)) (map Character text) → new ≡ out ++ map Ins (take n items)
 front_put items m text n out new h e f = f

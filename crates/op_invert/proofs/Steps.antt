@@ -1,6 +1,6 @@
 -- Steps of the walk that makes the inverse.
 --     undone_kept, undone_inserted, undone_deleted, undone_nothing     a run of one kind is passed
---     room_first, room_behind     room for the next run, and for what is behind it
+--     room_first, room_after     room for the next run, and for what is after it
 --     walk_starts, walk_goes      the whole walk
 --     put_on, put_all             items are put back, piece by piece
 use Rattle.std.proofs.Common.{◌≡◌, ℕ, zero, suc, ◌+◌, ◌-◌, ◌<◌, ◌≤◌, List, [], ◌∷◌, ◌++◌, length, map, replicate, take, drop, refl, sym, ap, subst, ◌∙◌, arith, append_assoc, append-nil, length-append, length-drop}
@@ -21,7 +21,7 @@ use Rattle.op_invert.specs.declared.reversal.Reversal.{Reversal}
 use Rattle.op_invert.proofs.Lengths.{input_of_items, output_of_items}
 use Rattle.op_invert.proofs.Reading.{IsNext}
 
--- ---- the inverse of a run, and of what is behind it
+-- ---- the inverse of a run, and of what is after it
 
 inverse_kept : (n : ℕ) (u : ChangeSet) (a : AttributeChange) (items : List Item) (more : List Action) → n ≤ length items
     → inverse (replicate n (Keep u a) ++ more) items ≡ replicate n (Keep (back u) (attributes_back a)) ++ inverse more (drop n items)
@@ -125,8 +125,8 @@ room_first items r front behind h =
     let o = output_len-append front behind in
     record { place = omega (arith, h.place, i); input = omega (arith, h.input, o); output = omega (arith, h.output, i) }
 
-room_behind : (items : List Item) (old new : Reversal) (front behind : List Action) → HasRoom items old (front ++ behind) → Undone items front old new → HasRoom items new behind
-room_behind items old new front behind h w =
+room_after : (items : List Item) (old new : Reversal) (front behind : List Action) → HasRoom items old (front ++ behind) → Undone items front old new → HasRoom items new behind
+room_after items old new front behind h w =
     let i = input_len-append front behind in
     let o = output_len-append front behind in
     record { place = omega (arith, h.place, w.place, i); input = omega (arith, h.input, w.input, o); output = omega (arith, h.output, w.output, i) }
@@ -151,7 +151,7 @@ walk_starts items all acts r out place e whole i o = record {
 pub walk_goes : (items : List Item) (all front behind left : List Action) (old new : Reversal) (n : ℕ) → IsOnWay items all old (front ++ behind) → Undone items front old new → n ≡ length front → left ≡ drop n (front ++ behind) → IsOnWay items all new left
 walk_goes items all front behind left old new n h w count e =
     let rest : left ≡ behind = e ∙ drop_at front behind n (sym count) in
-    subst (IsOnWay items all new) (sym rest) (record { is = sym (w.is behind) ∙ h.is; room = room_behind items old new front behind h.room w })
+    subst (IsOnWay items all new) (sym rest) (record { is = sym (w.is behind) ∙ h.is; room = room_after items old new front behind h.room w })
 
 pub walk_ends : (items : List Item) (all front behind : List Action) (old new : Reversal) → IsOnWay items all old (front ++ behind) → Undone items front old new → front ++ behind ≡ [] → new.out ≡ inverse all items
 walk_ends items all front behind old new h w e =
@@ -173,7 +173,7 @@ fewer front behind left n count some e =
 
 -- ---- items are put back
 
--- those at p, and then those behind them
+-- those at p, and then those after them
 pub put_on : (items next : List Item) (p left : ℕ) (out more all : List Action) (q : ℕ) → IsNext items next p left → more ≡ out ++ map Ins next → q ≡ p + length next
     → out ++ map Ins (take left (drop p items)) ≡ all → more ++ map Ins (take (left - length next) (drop q items)) ≡ all
 put_on items next p left out more all q n e place is =

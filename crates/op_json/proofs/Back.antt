@@ -43,7 +43,7 @@ module _ {X : Type 0} (read : Data → Option X) (write : X → Data) where
 
 -- ---- attributes
 
--- behind this entry
+-- after this entry
 entries_from : (m : Map Key) (e : Key × Key) (es : List (Key × Key)) → Rising (e ∷ es) → attributes_from m (Some e.0) (items_of (map entry_data es)) ≡ Some (insert_all m es)
 entries_from m e [] h = refl
 entries_from m e (f ∷ es) h =

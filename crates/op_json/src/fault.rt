@@ -4,7 +4,7 @@ use thiserror::Error;
 #[derive(Clone, Copy, Debug, PartialEq, Eq, Error)]
 pub enum JsonFault {
     /// The value is no array (index 0), or this is the index of its first element that is no component or that a builder
-    /// refuses behind those before it.
+    /// refuses after those before it.
     #[error("element {0} of an operation is no component that may stand there")]
     BadField(u64),
     /// Want of memory.

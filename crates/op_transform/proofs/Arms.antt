@@ -64,16 +64,16 @@ both_refused lo eo k b d n m u w a o t e s c h ls es =
 
 -- ---- one keeps, the other deletes
 
-passed_behind : (t : Bool) (v u : ChangeSet) (a : AttributeChange) (cs : List Content) (s s' : Side) → t ≡ true → IsDeletedBehind t v u a cs s s' → IsDeletedBehind true v u a cs s s'
-passed_behind t v u a cs s s' e h = subst (λ x. IsDeletedBehind x v u a cs s s') e h
+passed_after : (t : Bool) (v u : ChangeSet) (a : AttributeChange) (cs : List Content) (s s' : Side) → t ≡ true → IsDeletedBehind t v u a cs s s' → IsDeletedBehind true v u a cs s s'
+passed_after t v u a cs s s' e h = subst (λ x. IsDeletedBehind x v u a cs s s') e h
 
-failed_behind : (t : Bool) (v u : ChangeSet) (a : AttributeChange) (cs : List Content) (s s' : Side) → t ≡ false → IsDeletedBehind t v u a cs s s' → IsDeletedBehind false v u a cs s s'
-failed_behind t v u a cs s s' e h = subst (λ x. IsDeletedBehind x v u a cs s s') e h
+failed_after : (t : Bool) (v u : ChangeSet) (a : AttributeChange) (cs : List Content) (s s' : Side) → t ≡ false → IsDeletedBehind t v u a cs s s' → IsDeletedBehind false v u a cs s s'
+failed_after t v u a cs s s' e h = subst (λ x. IsDeletedBehind x v u a cs s s') e h
 
 pub earlier_deleted : (lo : List Action) (e e' : Side) (k b n : ℕ) (u v : ChangeSet) (part : Option AttributePart) (cs : List Content) (t : Bool) → n ≡ length cs → t ≡ true → IsDeletedBehind t v u (kept_change part) cs e e'
     → (ls es : List Action) → front lo e.out (transform_from k b (replicate n (Keep u (kept_change part)) ++ ls) e.depth (map (deletion v) cs ++ es)) ≡ front lo e'.out (transform_from (k + n) b ls e'.depth es)
 earlier_deleted lo e e' k b n u v part cs t same is h ls es =
-    let d = passed_behind t v u (kept_change part) cs e e' is h in
+    let d = passed_after t v u (kept_change part) cs e e' is h in
     ap (λ j. front lo e.out (transform_from k b (replicate j (Keep u (kept_change part)) ++ ls) e.depth (map (deletion v) cs ++ es))) same
     ∙ passes _ _ _ _ _ _ _ _ _ _ _ _ [] _ _ (sym (append-nil lo)) d.1.out refl (keep_delete_meet cs u v (kept_change part) k b e.depth d.0) ls es
     ∙ (λ i. front lo e'.out (transform_from (k + sym same i) b ls (sym (d.1.depth ∙ levels-put (kept_change part) cs e.depth) i) es))
@@ -82,12 +82,12 @@ pub earlier_refused : (lo : List Action) (e e' : Side) (k b n : ℕ) (u v : Chan
     → (ls es : List Action) → front lo e.out (transform_from k b (replicate n (Keep u (kept_change part)) ++ ls) e.depth (map (deletion v) cs ++ es)) ≡ Err k
 earlier_refused lo e e' k b n u v part cs t same s fit is h ls es =
     ap (λ j. front lo e.out (transform_from k b (replicate j (Keep u (kept_change part)) ++ ls) e.depth (map (deletion v) cs ++ es))) same
-    ∙ stops _ _ _ _ _ _ _ _ _ refl (keep_delete_stop n cs u v part k b e.depth same s fit (failed_behind t v u (kept_change part) cs e e' is h)) ls es
+    ∙ stops _ _ _ _ _ _ _ _ _ refl (keep_delete_stop n cs u v part k b e.depth same s fit (failed_after t v u (kept_change part) cs e e' is h)) ls es
 
 pub later_deleted : (eo : List Action) (l l' : Side) (k d n : ℕ) (u v : ChangeSet) (part : Option AttributePart) (cs : List Content) (t : Bool) → n ≡ length cs → t ≡ true → IsDeletedBehind t v u (kept_change part) cs l l'
     → (ls es : List Action) → front l.out eo (transform_from k l.depth (map (deletion v) cs ++ ls) d (replicate n (Keep u (kept_change part)) ++ es)) ≡ front l'.out eo (transform_from (k + n) l'.depth ls d es)
 later_deleted eo l l' k d n u v part cs t same is h ls es =
-    let r = passed_behind t v u (kept_change part) cs l l' is h in
+    let r = passed_after t v u (kept_change part) cs l l' is h in
     ap (λ j. front l.out eo (transform_from k l.depth (map (deletion v) cs ++ ls) d (replicate j (Keep u (kept_change part)) ++ es))) same
     ∙ passes _ _ _ _ _ _ _ _ _ _ _ _ _ [] _ r.1.out (sym (append-nil eo)) refl (delete_keep_meet cs u v (kept_change part) k l.depth d r.0) ls es
     ∙ (λ i. front l'.out eo (transform_from (k + sym same i) (sym (r.1.depth ∙ levels-put (kept_change part) cs l.depth) i) ls d es))
@@ -96,7 +96,7 @@ pub later_refused : (eo : List Action) (l l' : Side) (k d n : ℕ) (u v : Change
     → (ls es : List Action) → front l.out eo (transform_from k l.depth (map (deletion v) cs ++ ls) d (replicate n (Keep u (kept_change part)) ++ es)) ≡ Err k
 later_refused eo l l' k d n u v part cs t same s fit is h ls es =
     ap (λ j. front l.out eo (transform_from k l.depth (map (deletion v) cs ++ ls) d (replicate j (Keep u (kept_change part)) ++ es))) same
-    ∙ stops _ _ _ _ _ _ _ _ _ refl (delete_keep_stop n cs u v part k l.depth d same s fit (failed_behind t v u (kept_change part) cs l l' is h)) ls es
+    ∙ stops _ _ _ _ _ _ _ _ _ refl (delete_keep_stop n cs u v part k l.depth d same s fit (failed_after t v u (kept_change part) cs l l' is h)) ls es
 
 -- ---- both delete
 

@@ -1,7 +1,7 @@
 -- The names of a deletion, where they are the old values of changes.
---     names_cross       changes come behind a deletion's names exactly where both have equal old values
+--     names_cross       changes come after a deletion's names exactly where both have equal old values
 --     names_alike       two deletions name no key in two ways exactly there
---     names_behind      the names behind changes are the old values of those changes turned back, and of the rest
+--     names_behind      the names after changes are the old values of those changes turned back, and of the rest
 --     names_inserted    all annotations of an inserted item, as names
 use Rattle.std.proofs.Common.{◌≡◌, Bool, true, false, refl, sym, ap, ◌∙◌, Option, None, Some}
 use Rattle.std.specs.Option.{option_map, option_and_then}

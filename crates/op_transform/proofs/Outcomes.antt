@@ -1,6 +1,6 @@
 -- What a result of the transform tells of the parts that it is made from.
 --     no_ok, same_Ok       a refusal is no result; two results that are equal
---     fronted, passed_ok   the results behind a front, and behind a test
+--     fronted, passed_ok   the results after a front, and after a test
 use Rattle.std.proofs.Common.{◌≡◌, ℕ, Bool, true, false, cond, refl, sym, ap, true≢false, Result, Ok, Err, List, ◌++◌}
 use Rattle.doc_op.specs.Actions.{Action}
 use Rattle.op_transform.specs.Transform.{Both, Outcome, front}

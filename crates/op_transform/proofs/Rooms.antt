@@ -20,7 +20,7 @@ pub zero_or_more : (n : ℕ) → (n ≡ 0) ⊎ (0 < n)
 zero_or_more zero = inl refl
 zero_or_more (suc n) = inr (omega arith)
 
--- ---- so much is written behind an output
+-- ---- so much is written after an output
 
 abbrev pub IsShort : List Action → ℕ → Type 0
 IsShort acts n = (input_len acts ≤ n) × (output_len acts ≤ n)
@@ -86,7 +86,7 @@ deleted_within w cs s s' place l n h same p =
     let d = h.depth in
     (omega (arith, k.0, same), omega (arith, k.1, same), omega (arith, d, levels_less cs s.depth, p.2, same))
 
-pub behind_within : (t : Bool) (v u : ChangeSet) (a : AttributeChange) (cs : List Content) (s s' : Side) (place l n : ℕ) → t ≡ true → IsDeletedBehind t v u a cs s s' → n ≡ length cs → IsSideWithin s place l → IsSideWithin s' (place + n) (l + n)
-behind_within t v u a cs s s' place l n e h same p =
+pub after_within : (t : Bool) (v u : ChangeSet) (a : AttributeChange) (cs : List Content) (s s' : Side) (place l n : ℕ) → t ≡ true → IsDeletedBehind t v u a cs s s' → n ≡ length cs → IsSideWithin s place l → IsSideWithin s' (place + n) (l + n)
+after_within t v u a cs s s' place l n e h same p =
     let d = subst (λ x. IsDeletedBehind x v u a cs s s') e h in
     deleted_within (merge one_second_turned v u) (map (put_content a) cs) s s' place l n d.1 (same ∙ sym (length-map cs (put_content a))) p

@@ -76,14 +76,14 @@ keeps_stop (suc n) u w a o k b d s h = record { is = λ ls es. unless _ _ _ h }
 
 -- ---- one keeps, the other deletes
 
--- the test and the deletion behind a change, by the changes whose old values are the names
+-- the test and the deletion after a change, by the changes whose old values are the names
 follows : (c : Content) (v u : ChangeSet) (a : AttributeChange) (t : Bool) → (content_agrees a c && matches same_old v u) ≡ t → can_follow c (old_values v) u a ≡ t
 follows c v u a t h = ap (λ x. content_agrees a c && x) (names_cross v u) ∙ h
 
 behind : (c : Content) (v u : ChangeSet) (a : AttributeChange) → Del (put_content a c) (names_after (old_values v) u) ≡ deletion (merge one_second_turned v u) (put_content a c)
 behind c v u a = ap (Del (put_content a c)) (sym (names_behind v u))
 
--- the deletions of contents whose attributes change by a, behind the changes u
+-- the deletions of contents whose attributes change by a, after the changes u
 abbrev Behind : List Content → ChangeSet → ChangeSet → AttributeChange → List Action
 Behind cs v u a = map (deletion (merge one_second_turned v u)) (map (put_content a) cs)
 

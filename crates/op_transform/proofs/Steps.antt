@@ -25,7 +25,7 @@ use Rattle.op_transform.specs.declared.walk.Walk.{Walk}
 use Rattle.op_transform.specs.declared.pair.Pair.{Pair}
 use Rattle.op_transform.proofs.Laws.{are_structured}
 
--- ---- what is left behind a run
+-- ---- what is left after a run
 
 drop-front : (x rest : List Action) (n : ℕ) → n ≡ length x → drop n (x ++ rest) ≡ rest
 drop-front [] rest n e = ap (λ k. drop k rest) e

@@ -5,7 +5,7 @@
 --     update_if_any c        an update, or none where no key changes
 --     attributes_cross, attributes_over, attributes_under     the same of two attribute changes
 --     names_after n c        the names n where the changes c came in between: c's keys have their new values
---     can_follow c n u a     a deletion of content c with names n can come behind the changes u and a
+--     can_follow c n u a     a deletion of content c with names n can come after the changes u and a
 --     delete_alike           two deletions are of one content, and name no key in two ways
 --     delete_all x           the deletion of the item x, all its annotations named
 --     keep_all               an item is kept as it is

@@ -2,7 +2,7 @@
 --     HasAllRoom w ls es     the walk's outputs have room for these actions too
 --     Goes done l e n m done'     n actions of the later operation and m of the earlier one are passed
 --     IsStep s ..            so many as the step says; at the end of both nothing happens
---     IsStepped              so, and the cursors stand behind them
+--     IsStepped              so, and the cursors stand after them
 --     IsBroken               the walk is refused
 --     IsPairOf               the operations of the walk's outputs
 --     IsConflict             the operations have no transform

@@ -6,7 +6,7 @@
 --     later_inserts d x r    the later operation inserts x where the earlier one has d deleted elements open: x is deleted with
 --                            them
 --     earlier_inserts b y r      and the other way round
---     transform_from k b ls d es     behind k common items, where the operations have b and d deleted elements open; where
+--     transform_from k b ls d es     after k common items, where the operations have b and d deleted elements open; where
 --                            both insert, the later one comes first
 --     transform later earlier
 use Rattle.std.specs.Prelude.{ℕ, zero, suc, cond, ◌&&◌, List, [], ◌∷◌, ◌++◌, Result, Ok, Err}

@@ -1,5 +1,5 @@
 -- What the steps of the walk keep, whatever actions follow.
---     levels cs n            the depth behind these contents, from the depth n before them
+--     levels cs n            the depth after these contents, from the depth n before them
 --     common cs es           how many contents are equal before the first that isn't
 --     NoInsert l             the actions don't begin with an insertion, so that one of the earlier operation comes first
 --     expects w ls es        what comes out in the end, where these actions are still to come

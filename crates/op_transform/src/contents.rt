@@ -9,7 +9,7 @@ use doc_items::{Attributes, Memory};
 use doc_op::{AttributePart, ContentRun};
 use std::alloc::Global;
 
-/// The depth behind the contents.
+/// The depth after the contents.
 #[tactic(auto, using(crate::proofs::Runs::levels_text))]
 pub(crate) fn level(run: ContentRun<'_>, depth: u64) -> u64
     requires { depth < 2 ^ 63 }

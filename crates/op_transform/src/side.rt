@@ -57,14 +57,14 @@ impl Side {
         ensures { IfOk result (λ t. IsDeletedBehind t names.now changes.now (kept_change kept.entry.part) (contents run.entry) self.old self.new) }
     {
         match kept.part {
-            None => self.delete_behind(alloc, run, names, changes),
+            None => self.delete_after(alloc, run, names, changes),
             Some(part) => self.delete_changed(alloc, run, names, part, changes),
         }
     }
 
-    // Deletes the run behind the running changes of the other operation, if they agree with the names; or answers false.
+    // Deletes the run after the running changes of the other operation, if they agree with the names; or answers false.
     #[tactic(auto, using(crate::proofs::Runs::all_unchanged, crate::proofs::Runs::put_all_unchanged))]
-    fn delete_behind<'a>(
+    fn delete_after<'a>(
         &mut self,
         alloc: Global,
         run: ContentRun<'_>,
@@ -109,7 +109,7 @@ impl Side {
                     kind,
                     attributes: &after,
                 };
-                self.delete_behind(alloc, start, names, changes)
+                self.delete_after(alloc, start, names, changes)
             }
             ContentRun::Characters(_) => Ok(false),
             ContentRun::End => Ok(false),

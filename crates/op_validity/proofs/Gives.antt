@@ -1,5 +1,5 @@
 -- What the actions of an operation that applies make of a document, one after another.
---     gives_refl, gives_trans     a step behind others
+--     gives_refl, gives_trans     a step after others
 --     tail_refl, tail_one, tail_trans     what is left is the last of the items
 --     given, none_left            one item
 --     gives_insertion             one insertion

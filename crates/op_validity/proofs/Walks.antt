@@ -1,5 +1,5 @@
 -- Steps of a walk, one after another.
---     same-refl, same-trans, stops-back     a step behind others
+--     same-refl, same-trans, stops-back     a step after others
 --     taken, missed, ended                  one item
 --     same-inserted                         insertions take no item
 use Rattle.std.proofs.Common.{zero, ◌<◌, ◌≤◌, drop, get_or, drop-cons, add-one, add-zero, replicate, subst, ◌≡◌, ℕ, suc, ◌+◌, Bool, true, false, cond, List, [], ◌∷◌, ◌++◌, length, map, refl, sym, ap, ◌∙◌, arith, Option, None, Some, is_some, option_map}
@@ -120,7 +120,7 @@ too_few (suc n) p (i ∷ items) more h =
 
 -- ---- one after another
 
--- behind the first steps of a run stands one more
+-- after the first steps of a run stands one more
 pub run_more : (p q r : ℕ) (x y z : List Item) (all left rest : List Action) (act : Action) → left ≡ act ∷ rest → Same p x all q y left → Same q y (act ∷ rest) r z rest → Same p x all r z rest
 run_more p q r x y z all left rest act e h k = same-trans p q r x y z all left rest h (subst (λ l. Same q y l r z rest) (sym e) k)
 

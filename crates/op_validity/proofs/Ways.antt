@@ -2,7 +2,7 @@
 --     fit_at, passable_at     what a builder took can be walked over and gone past
 --     actions_next, running_next     one component further
 --     valid_parts, valid_is     structured, and applies
---     walked                    behind the last component nothing is left to be made
+--     walked                    after the last component nothing is left to be made
 use Rattle.std.proofs.Common.{◌≡◌, ℕ, ◌+◌, ◌<◌, List, [], ◌∷◌, ◌++◌, length, take, drop, get_or, drop-cons, add-one, refl, sym, ap, ◌∙◌, true≢false, Bool, true, false, cond, Option, Some, None, IsSome, is_none}
 use Rattle.std.proofs.Math.Seq.{take-suc}
 use Rattle.doc_op.specs.declared.component.Component.{Component}

@@ -5,7 +5,7 @@
 --     content_meets d c       a content meets a demand
 --     IsFit                   the keys of a demand's, of a component's update ascend
 --     IsPassable u c          a boundary fits where u runs
---     Same p items a q left b     behind a at place p of a document stands what stands behind b at place q
+--     Same p items a q left b     after a at place p of a document stands what stands after b at place q
 --     Stops e p items a       the actions are refused there
 --     Gives items made a left more b     what the actions a make of the items, the actions b make of the items left, which
 --                             are the last of them

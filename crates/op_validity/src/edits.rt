@@ -90,7 +90,7 @@ impl<'a> Edits<'a> {
         Ok(())
     }
 
-    // Goes on behind retained items. Where the operation applies, so many are left.
+    // Goes on after retained items. Where the operation applies, so many are left.
     fn skip(&mut self, count: u64)
         requires at { IsAtPlace self.old }
         requires closed { IsClosed self.old }

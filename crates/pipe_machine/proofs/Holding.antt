@@ -1,7 +1,7 @@
 -- What is sent is so of the histories.
 --     begins_held     so it is of longer ones
 --     after_begins    turns leave longer ones
---     all_held        whatever turns send is so of the histories behind them
+--     all_held        whatever turns send is so of the histories after them
 use Rattle.std.proofs.Common.{◌≡◌, ℕ, Bool, true, false, not, ◌&&◌, cond, if◌then◌else◌, List, [], ◌∷◌, ◌++◌, map, take, Option, None, Some, Result, Ok, Err, refl, sym, ap, subst, ◌∙◌, is_some, option_map, option_and_then, append_assoc, append-nil}
 use Rattle.std.specs.List.{All}
 use Rattle.std.specs.Str.{chars, encode_utf8_all}
@@ -108,8 +108,8 @@ begins_held hs gs b (message.Dropped name) h = tt
 
 -- ---- what a history keeps for an id
 
-has_behind : (d : DeltaOf) (ds : List DeltaOf) (client number : ℕ) → HasOf ds client number → HasOf (d ∷ ds) client number
-has_behind d ds client number h = record {
+has_after : (d : DeltaOf) (ds : List DeltaOf) (client number : ℕ) → HasOf ds client number → HasOf (d ∷ ds) client number
+has_after d ds client number h = record {
   delta = h.delta;
   is_in = record { before = d ∷ h.is_in.before; behind = h.is_in.behind; whole = ap (λ l. d ∷ l) h.is_in.whole };
   of_client = h.of_client;
@@ -132,7 +132,7 @@ kept_has i p (d ∷ ds) k e =
   where
     go : (q : Point) → (kept i q ds ≡ Some k → HasOf ds i.client i.number) → (t : Bool) → same_id i d.id ≡ t → cond t (Some (record { at = p.at.version; to = q.at })) (kept i q ds) ≡ Some k → HasOf (d ∷ ds) i.client i.number
     go q behind true t f = has_first d ds i t
-    go q behind false t f = has_behind d ds i.client i.number (behind f)
+    go q behind false t f = has_after d ds i.client i.number (behind f)
 
 -- ---- verdicts
 

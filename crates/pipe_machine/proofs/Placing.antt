@@ -1,10 +1,10 @@
 -- The sessions that a turn may have something for.
 --     due_back, due_here              one place before others, or none
 --     due_alone .. due_none           those of one session, of all, and of none
---     due_set                         sending to a seat in front changes nothing of those behind
+--     due_set                         sending to a seat in front changes nothing of those after it
 --     gap_sent, gap_after             nothing is sent to those between, and they stay
---     reach_more, next_at             the place behind one more; those from an element on
---     end_sent, end_after, quiet_from nothing is sent to those behind the last
+--     reach_more, next_at             the place after one more; those from an element on
+--     end_sent, end_after, quiet_from nothing is sent to those after the last
 --     got_within .. none_behind       elements at places
 --     told_more, told_all             those who were sent all
 --     among_more .. among_apart       the places of the due are gathered one by one
@@ -26,11 +26,11 @@ use Rattle.pipe_machine.proofs.Quiet.{IsQuiet, quiet_seat}
 pub some_same : {A : Type 0} (x y : A) → Some x ≡ Some y → x ≡ y
 some_same x y e = cc
 
-here_or_behind : (i k : ℕ) → i ≤ k → (k ≡ i) ⊎ (i + 1 ≤ k)
-here_or_behind zero zero h = inl refl
-here_or_behind zero (suc k) h = inr (omega arith)
-here_or_behind (suc i) zero h = absurd (omega (arith, h))
-here_or_behind (suc i) (suc k) h = go (here_or_behind i k (omega (arith, h)))
+here_or_after : (i k : ℕ) → i ≤ k → (k ≡ i) ⊎ (i + 1 ≤ k)
+here_or_after zero zero h = inl refl
+here_or_after zero (suc k) h = inr (omega arith)
+here_or_after (suc i) zero h = absurd (omega (arith, h))
+here_or_after (suc i) (suc k) h = go (here_or_after i k (omega (arith, h)))
   where
     go : (k ≡ i) ⊎ (i + 1 ≤ k) → (suc k ≡ suc i) ⊎ (suc i + 1 ≤ suc k)
     go (inl e) = inl (ap suc e)
@@ -72,7 +72,7 @@ none_behind (p ∷ ps) (suc k) h = none_behind ps k (omega (arith, h))
 
 module _ (c : Shown) where
   told_back : (i j : ℕ) (ss : List Seat) (s : Seat) → slice_get ss i ≡ Some s → is_told c s ≡ true → AreToldFrom c (i + 1) j ss → AreToldFrom c i j ss
-  told_back i j ss s e t told k x low high got = go (here_or_behind i k low)
+  told_back i j ss s e t told k x low high got = go (here_or_after i k low)
     where
       go : (k ≡ i) ⊎ (i + 1 ≤ k) → is_told c x ≡ true
       go (inl is) = subst (λ y. is_told c y ≡ true) (some_same s x (sym e ∙ ap (slice_get ss) (sym is) ∙ got)) t
@@ -187,7 +187,7 @@ module _ (c : Shown) where
 
   -- those in front of one, and that one
   pub told_more : (p : ℕ) (ss : List Seat) (x : Seat) → p < length ss → AreToldFrom c 0 p ss → is_told c x ≡ true → AreToldFrom c 0 (p + 1) (slice_set ss p x)
-  told_more p ss x within told is k s low high got = go (here_or_behind k p (omega (arith, high)))
+  told_more p ss x within told is k s low high got = go (here_or_after k p (omega (arith, high)))
     where
       go : (p ≡ k) ⊎ (k + 1 ≤ p) → is_told c s ≡ true
       go (inl e) = subst (λ y. is_told c y ≡ true) (some_same x s (sym (get_set ss p x within) ∙ ap (slice_get (slice_set ss p x)) e ∙ got)) is

@@ -1,7 +1,7 @@
 -- Seats in runs.
---     get_front, get_behind      a seat of the first run, or of those after it
+--     get_front, get_after      a seat of the first run, or of those after it
 --     get_set                    a seat that was put in another's place
---     set_front, set_behind      so it is with another session
+--     set_front, set_after      so it is with another session
 --     set_length, as_many        there are as many seats then, and where the names are the same
 --     put_front, put_behind      and with one more seat
 --     seats_apart                runs one after another
@@ -27,10 +27,10 @@ get_front [] ys i d h = absurd (omega (arith, h))
 get_front (x ∷ xs) ys zero d h = refl
 get_front (x ∷ xs) ys (suc i) d h = get_front xs ys i d (omega (arith, h))
 
-pub get_behind : (xs ys : List Seat) (i : ℕ) (d : Seat) → length xs ≤ i → get_or (xs ++ ys) i d ≡ get_or ys (i - length xs) d
-get_behind [] ys i d h = ap (λ (k : ℕ). get_or ys k d) (whole i)
-get_behind (x ∷ xs) ys zero d h = absurd (omega (arith, h))
-get_behind (x ∷ xs) ys (suc i) d h = get_behind xs ys i d (omega (arith, h)) ∙ ap (λ (k : ℕ). get_or ys k d) (sym (less i (length xs)))
+pub get_after : (xs ys : List Seat) (i : ℕ) (d : Seat) → length xs ≤ i → get_or (xs ++ ys) i d ≡ get_or ys (i - length xs) d
+get_after [] ys i d h = ap (λ (k : ℕ). get_or ys k d) (whole i)
+get_after (x ∷ xs) ys zero d h = absurd (omega (arith, h))
+get_after (x ∷ xs) ys (suc i) d h = get_after xs ys i d (omega (arith, h)) ∙ ap (λ (k : ℕ). get_or ys k d) (sym (less i (length xs)))
 
 pub get_set : (xs : List Seat) (i : ℕ) (v d : Seat) → i < length xs → get_or (slice_set xs i v) i d ≡ v
 get_set [] i v d h = absurd (omega (arith, h))
@@ -42,10 +42,10 @@ set_front [] ys i v h = absurd (omega (arith, h))
 set_front (x ∷ xs) ys zero v h = refl
 set_front (x ∷ xs) ys (suc i) v h = ap (λ (l : List Seat). x ∷ l) (set_front xs ys i v (omega (arith, h)))
 
-pub set_behind : (xs ys : List Seat) (i : ℕ) (v : Seat) → length xs ≤ i → slice_set (xs ++ ys) i v ≡ xs ++ slice_set ys (i - length xs) v
-set_behind [] ys i v h = ap (λ (k : ℕ). slice_set ys k v) (whole i)
-set_behind (x ∷ xs) ys zero v h = absurd (omega (arith, h))
-set_behind (x ∷ xs) ys (suc i) v h = ap (λ (l : List Seat). x ∷ l) (set_behind xs ys i v (omega (arith, h)) ∙ ap (λ (k : ℕ). xs ++ slice_set ys k v) (sym (less i (length xs))))
+pub set_after : (xs ys : List Seat) (i : ℕ) (v : Seat) → length xs ≤ i → slice_set (xs ++ ys) i v ≡ xs ++ slice_set ys (i - length xs) v
+set_after [] ys i v h = ap (λ (k : ℕ). slice_set ys k v) (whole i)
+set_after (x ∷ xs) ys zero v h = absurd (omega (arith, h))
+set_after (x ∷ xs) ys (suc i) v h = ap (λ (l : List Seat). x ∷ l) (set_after xs ys i v (omega (arith, h)) ∙ ap (λ (k : ℕ). xs ++ slice_set ys k v) (sym (less i (length xs))))
 
 pub set_length : (xs : List Seat) (i : ℕ) (v : Seat) → length (slice_set xs i v) ≡ length xs
 set_length [] i v = refl

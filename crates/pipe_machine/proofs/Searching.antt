@@ -1,5 +1,5 @@
 -- A seat is found by its name.
---     before_place, behind_place     whether a seat is before the place of a name
+--     before_place, after_place     whether a seat is before the place of a name
 --     ordered_names                  order is that of the names alone
 --     ordered_either, ordered_with   seats stay in order
 use Rattle.std.proofs.Common.{◌≡◌, ◌+◌, ◌<◌, ◌≤◌, ℕ, zero, suc, Bool, true, false, cond, List, [], ◌∷◌, slice_get, slice_set, get_or, length, Some, Result, Ok, Err, OnOk, OnErr, refl, sym, ap, subst, ◌∙◌, arith, true≢false, Less, Equal, Greater}
@@ -91,13 +91,13 @@ before_place n ss k s o = go ss k (to_ascending ss o)
         let rest = go xs j (any x.name (seat_names xs) a) e gt in
         omega (arith, first, rest)
 
-pub behind_place : (n : Key) (ss : List Seat) (k : ℕ) (s : Seat) → slice_get ss k ≡ Some s → is_gt (slice_cmp nat_cmp n s.name) ≡ false → place_in n 0 ss ≤ k
-behind_place n [] k s e gt = absurd cc
-behind_place n (x ∷ ss) zero s e gt = ap_le (ap (λ b. cond b (place_in n (0 + 1) ss) 0) (ap (λ z. is_gt (slice_cmp nat_cmp n z.name)) (some_same x s e) ∙ gt))
+pub after_place : (n : Key) (ss : List Seat) (k : ℕ) (s : Seat) → slice_get ss k ≡ Some s → is_gt (slice_cmp nat_cmp n s.name) ≡ false → place_in n 0 ss ≤ k
+after_place n [] k s e gt = absurd cc
+after_place n (x ∷ ss) zero s e gt = ap_le (ap (λ b. cond b (place_in n (0 + 1) ss) 0) (ap (λ z. is_gt (slice_cmp nat_cmp n z.name)) (some_same x s e) ∙ gt))
   where
     ap_le : {m : ℕ} → m ≡ 0 → m ≤ 0
     ap_le h = omega (arith, h)
-behind_place n (x ∷ ss) (suc k) s e gt = go (is_gt (slice_cmp nat_cmp n x.name)) refl (behind_place n ss k s e gt)
+after_place n (x ∷ ss) (suc k) s e gt = go (is_gt (slice_cmp nat_cmp n x.name)) refl (after_place n ss k s e gt)
   where
     go : (b : Bool) → is_gt (slice_cmp nat_cmp n x.name) ≡ b → place_in n 0 ss ≤ k → place_in n 0 (x ∷ ss) ≤ suc k
     go true h l = let first = on_greater n x ss h in omega (arith, first, l)

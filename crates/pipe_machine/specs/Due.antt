@@ -8,7 +8,7 @@
 --     AreToldFrom c i j ss    so was each from one place up to another
 --     IsDueAlone c d ss       so was each that isn't due
 --     AreTheDue c i ps ss     these places ascend, and from i on so was each that isn't at one of them
---     reach i ps              the place behind the last of these, or i
+--     reach i ps              the place after the last of these, or i
 use Rattle.std.specs.Prelude.{◌≡◌, ℕ, ◌+◌, ◌<◌, ◌≤◌, ◌==◌, Bool, true, false, ◌||◌, cond, List, [], ◌∷◌, ◌++◌, length, slice_get, Option, None, Some, is_some}
 use Rattle.std.specs.List.{list_all}
 use Rattle.doc_items.specs.Maps.{Key}

@@ -5,7 +5,7 @@
 --     submits_to l n      the line is one
 --     submitted_in ts n   one of the turns is one
 --     IsFileAmong may m   this is the file of a name of which this holds
---     IsMoved may a b     the shelf before and behind a step that may submit to the names of which this holds
+--     IsMoved may a b     the shelf before and after a step that may submit to the names of which this holds
 --     StandsForEither n ds es f   the file stands for the one history of the name, or for the other
 --     IsFileOfEither n ds es c    as it reads, and in each image, the container's file stands for the one history or the other
 --     AreWrittenOn a b P  the files of all containers were written on, and a crash since then left what it might have left before, or what

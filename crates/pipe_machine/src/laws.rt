@@ -2,7 +2,7 @@
 ghost use Rattle.pipe_machine.specs.Held.{SentIsHeld};
 ghost use Rattle.pipe_machine.specs.Meant.{SentIsMeant};
 
-/// What turns send of deltas, snapshots and acknowledgements stands in the histories behind them, which go on with the deltas that they
+/// What turns send of deltas, snapshots and acknowledgements stands in the histories after them, which go on with the deltas that they
 /// had.
 pub fn sent_is_held()
     ensures { SentIsHeld }

@@ -18,7 +18,7 @@ use Rattle.delta_history.specs.Histories.{HistoryOf, head_of, IsGrown}
 use Rattle.delta_history.specs.Legal.{has_id, standing, may_write, IsNext, IsLegal}
 use Rattle.delta_history.specs.Verdicts.{same_hash}
 use Rattle.delta_history.specs.Points.{Point, start, acts_of, next_point, replay}
-use Rattle.delta_history.proofs.Chains.{legal_behind, goes_on}
+use Rattle.delta_history.proofs.Chains.{legal_after, goes_on}
 use Rattle.delta_history.proofs.Points.{and_then_is}
 use Rattle.follower_rules.specs.Followers.{FollowerOf}
 use Rattle.follower_rules.specs.Receiving.{Over, over, is_within, advance_with, advance_within, advance_to, advance, receive_hash, receive_gap, receive_old}
@@ -31,7 +31,7 @@ use Rattle.replica_store.specs.Copies.{CopyOf, in_world}
 pub next_of : (g h : HistoryOf) (d : DeltaOf) → IsGrown g d h → IsLegal h.name h.deltas → IsNext g.name g.deltas d
 next_of g h d w l =
     let here : IsLegal g.name (g.deltas ++ d ∷ []) = subst (λ n. IsLegal n (g.deltas ++ d ∷ [])) w.name (subst (IsLegal h.name) w.deltas l) in
-    (legal_behind g.name [] g.deltas (d ∷ []) here).0
+    (legal_after g.name [] g.deltas (d ∷ []) here).0
 
 -- ---- the copy in the world
 

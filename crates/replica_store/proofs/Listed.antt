@@ -1,5 +1,5 @@
 -- What is sought among copies, one after another.
---     get_behind, get_front     an item of one list after another
+--     get_after, get_front     an item of one list after another
 --     sought_past, found_here   what is sought past some items, and among them
 --     relays_skip, relays_past, relays_found        submissions that wait: past a copy of another host, past one of this host, and at one
 --     reaches_skip, reaches_past, reaches_found     how far copies reach
@@ -17,10 +17,10 @@ use Rattle.replica_store.specs.declared.sought.Sought.TheVariants.{Found, Past}
 use Rattle.replica_store.specs.Listings.{IsSought, relays_at, reach_at, relays_among, reaches_among}
 use Rattle.replica_store.specs.Worlds.{WorldOf}
 
-pub get_behind : {A : Type 0} (xs ys : List A) (p q : ℕ) → q ≡ length xs + p → slice_get (xs ++ ys) q ≡ slice_get ys p
-get_behind [] ys p q e = ap (slice_get ys) (omega (arith, e))
-get_behind (x ∷ xs) ys p zero e = absurd (omega (arith, e))
-get_behind (x ∷ xs) ys p (suc q) e = get_behind xs ys p q (omega (arith, e))
+pub get_after : {A : Type 0} (xs ys : List A) (p q : ℕ) → q ≡ length xs + p → slice_get (xs ++ ys) q ≡ slice_get ys p
+get_after [] ys p q e = ap (slice_get ys) (omega (arith, e))
+get_after (x ∷ xs) ys p zero e = absurd (omega (arith, e))
+get_after (x ∷ xs) ys p (suc q) e = get_after xs ys p q (omega (arith, e))
 
 pub get_front : {A : Type 0} (xs ys : List A) (p : ℕ) (x : A) → slice_get xs p ≡ Some x → slice_get (xs ++ ys) p ≡ Some x
 get_front [] ys p x e = absurd (cc)
@@ -29,7 +29,7 @@ get_front (y ∷ xs) ys (suc p) x e = get_front xs ys p x e
 
 -- what is sought past some items
 pub sought_past : {A : Type 0} (xs ys : List A) (p left : ℕ) (s : Sought A) → p ≡ length xs + left → IsSought ys left s → IsSought (xs ++ ys) p s
-sought_past xs ys p left (Found x) e is = get_behind xs ys left p e ∙ is
+sought_past xs ys p left (Found x) e is = get_after xs ys left p e ∙ is
 sought_past xs ys p left (Past n) e is = let size = length-append xs ys in omega (arith, e, is, size)
 
 pub found_here : {A : Type 0} (xs ys : List A) (p : ℕ) (x : A) → slice_get xs p ≡ Some x → IsSought (xs ++ ys) p (Found x)

@@ -3,6 +3,6 @@
 pub enum Sought<T> {
     /// The item there.
     Found(T),
-    /// The list ends before: the place is this one behind its end.
+    /// The list ends before: the place is this one after its end.
     Past(u64),
 }

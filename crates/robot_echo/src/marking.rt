@@ -55,7 +55,7 @@ fn edit_of(alloc: Global, own: &DocumentName, op: DocOp) -> Result<Reaction, Mem
     }
 }
 
-// The mark behind these items.
+// The mark after these items.
 fn marked(alloc: Global, items: &Rope, own: &DocumentName) -> Result<Reaction, Memory>
     requires { own.now ≡ echo_name }
     ensures { IfOk result (IsMarked items.now) }

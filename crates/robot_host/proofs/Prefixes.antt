@@ -23,7 +23,7 @@ use Rattle.delta_history.specs.Legal.{IsLegal}
 use Rattle.delta_history.specs.Points.{Point, start, acts_of, next_point, replay, end_of}
 use Rattle.delta_history.proofs.Chains.{legal_front}
 use Rattle.delta_history.proofs.Finding.{legal_end}
-use Rattle.delta_history.proofs.Points.{behind_point, replay_append}
+use Rattle.delta_history.proofs.Points.{after_point, replay_append}
 use Rattle.robot_host.specs.Places.{AreNext}
 use Rattle.robot_host.specs.Views.{Seen, seen_from, is_among, is_shown, view}
 use Rattle.robot_host.specs.Presence.{were_before}
@@ -105,7 +105,7 @@ pub step_back : (robots : List Key) (a : Key) (h : HistoryOf) (n k : ℕ) (d : D
 step_back robots a h n k d here is same l e there next =
     let i = led h k d l e in
     let now : here ≡ is_some (role_of i.after.state a) = there i.after (ap (λ z. replay (start h.name) (take z h.deltas)) same ∙ i.leads) in
-    let behind = behind_point i.before i.after d i.goes in
+    let behind = after_point i.before i.after d i.goes in
     record {
       next = next_if robots a h k d is e i (subst (λ z. AreNext robots a h (view robots a h z) is) same next) (not (is_among d.id.author robots) && here) (ap (λ b. not (is_among d.id.author robots) && b) (sym now));
       was = λ p q.

@@ -1,7 +1,7 @@
 -- A robot that is shown one delta.
 --     asked_is           what is known of its seat
 --     ended              where the delta ends
---     reacted            it was shown the delta, and its edit stands behind the others
+--     reacted            it was shown the delta, and its edit stands after the others
 use Rattle.std.proofs.Common.{◌≡◌, ℕ, zero, suc, ◌+◌, ◌≤◌, List, [], ◌∷◌, ◌++◌, length, slice_get, Option, Some, None, Result, Ok, Err, refl, sym, ap, ◌∙◌, arith, MatchResult}
 use Rattle.std.specs.declared.alloc.Global.{Global}
 use Rattle.std.specs.declared.dyn_box.DynBox.{DynBox}
@@ -13,7 +13,7 @@ use Rattle.wavelet_op.specs.States.{State}
 use Rattle.delta_history.specs.Histories.{HistoryOf, head_of}
 use Rattle.delta_history.specs.Legal.{IsLegal}
 use Rattle.delta_history.specs.Places.{from_or}
-use Rattle.state_cache.specs.States.{state_behind}
+use Rattle.state_cache.specs.States.{state_after}
 use Rattle.robot_host.specs.declared.edit.RobotEdit.{RobotEdit}
 use Rattle.robot_host.specs.declared.reaction.Reaction.{Reaction}
 use Rattle.robot_host.specs.declared.seat.Seat.{Seat}
@@ -52,12 +52,12 @@ ended h i x l s =
         past (x ∷ xs) (suc k) e = let w = past xs k e in omega (arith, w)
 
 pub reacted : (h : HistoryOf) (r i : ℕ) (s t : RobotOf) (es es' : List RobotEdit) (d : DeltaOf) (state : State) (at : VersionAt) (name : Key) (answer : Reaction) → IsLegal h.name h.deltas → slice_get h.deltas i ≡ Some d
-    → state_behind h.deltas (i + 1) ≡ Some state → at ≡ from_or (head_of h).at (slice_get h.deltas (i + 1)) → name ≡ h.name
+    → state_after h.deltas (i + 1) ≡ Some state → at ≡ from_or (head_of h).at (slice_get h.deltas (i + 1)) → name ≡ h.name
     → t ≡ after_answer (asked name s d state answer) answer → es' ≡ es ++ edit_by r (id_at s.address at) at answer → HasReacted h r i s t es es'
 reacted h r i s t es es' d state at name answer l e behind from named is edits =
     let seen = seen_there h i d l e in
     let next : i + 1 ≡ suc i = omega arith in
-    let here : state ≡ seen.0.state = state_seen h i (seen_at d seen.0) state seen.1 (ap (state_behind h.deltas) (sym next) ∙ behind) in
+    let here : state ≡ seen.0.state = state_seen h i (seen_at d seen.0) state seen.1 (ap (state_after h.deltas) (sym next) ∙ behind) in
     let end : at ≡ seen.0.at = from ∙ ended h i (seen_at d seen.0) l seen.1 in
     record {
       shown = record { seen = seen_at d seen.0; answer = answer };

@@ -2,7 +2,7 @@
 --     asked name s x r        the robot after it answered
 --     dropped s               the robot after it was dropped
 --     after_answer s r        so only where it leaves
---     HasReacted h r i s t es es'      the robot r was shown the delta at a place, and its edit is behind the others
+--     HasReacted h r i s t es es'      the robot r was shown the delta at a place, and its edit is after the others
 --     AreTaken h n is as m left        of the places the first ones were taken in turn, with these answers; the robot then went through
 --                                      m deltas
 --     HasShown h r is left n s t m es es'      so the robot was shown the deltas at these places, but for those that are left

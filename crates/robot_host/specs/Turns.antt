@@ -4,12 +4,12 @@
 --     StayedFrom b as here       a robot that is there answered so; one that isn't is shown nothing
 --     IsTurnOf robots h r s t n m es      the robot r was shown what of its view comes after the first n deltas, up to the first m; these
 --                                are its edits
---     IsOneTurn robots h r ss ts ns ms es es'    so, among all robots and their numbers; its edits are behind the others
+--     IsOneTurn robots h r ss ts ns ms es es'    so, among all robots and their numbers; its edits are after the others
 --     IsThrough h r ss ns        the robot, if it is there, went through all deltas
 --     of_robot r es              the edits of a robot
 --     AreTurns robots h ss ts ns ms es       so each of the robots
 --     AreTurnsBelow k ..         those with numbers from k on are as they were
---     HaveTurnedBelow, HaveTurned     so, with their edits behind the others
+--     HaveTurnedBelow, HaveTurned     so, with their edits after the others
 --     is_of_there robots e       the edit is of a robot that is there
 --     HaveAnswered .. es given   each robot had its part; what is given are the edits kept before and then those answered, of robots that
 --                                are there

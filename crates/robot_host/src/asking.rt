@@ -74,7 +74,7 @@ fn ask(
     }
 }
 
-// What follows from an answer: an edit is put behind the others, and a robot that leaves is dropped. Whether it stays.
+// What follows from an answer: an edit is put after the others, and a robot that leaves is dropped. Whether it stays.
 fn follow(
     seat: &mut Seat,
     edits: &mut Vec<RobotEdit>,
@@ -102,7 +102,7 @@ fn follow(
     }
 }
 
-/// Shows the robot that is there the delta at a place of the history, and follows its answer: an edit is put behind the others. Whether
+/// Shows the robot that is there the delta at a place of the history, and follows its answer: an edit is put after the others. Whether
 /// the robot stays. The error is want of memory: then the robot and the edits are as they were.
 pub(crate) fn show_at(
     alloc: Global,

@@ -33,7 +33,7 @@ fn is_shown(seats: &[Seat], delta: &AppliedDelta, here: bool) -> bool
     here
 }
 
-// Puts the place behind the others, where the delta there is shown.
+// Puts the place after the others, where the delta there is shown.
 fn put_if(shown: bool, place: usize, places: &mut Vec<usize>) -> Result<(), Memory>
     ensures { OnOk result (reverse places.new.items ≡ cond shown (place ∷ reverse places.old.items) (reverse places.old.items)) }
 {

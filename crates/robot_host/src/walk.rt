@@ -2,7 +2,7 @@
 ghost use Rattle.std.specs.Prelude.{◌≡◌, ◌≤◌, ◌<◌, suc, length, Some, IsSome, IfOk, OnOk, OnErr};
 ghost use Rattle.wavelet_op.specs.States.{empty_state, run};
 ghost use Rattle.delta_history.specs.Points.{acts_of, run_all};
-ghost use Rattle.state_cache.specs.States.{state_behind};
+ghost use Rattle.state_cache.specs.States.{state_after};
 ghost use Rattle.robot_host.specs.Walks.{IsReached, IsThere};
 
 use delta_history::History;
@@ -112,7 +112,7 @@ impl Walk {
     pub fn state<'a>(&'a self, history: &'a History, place: usize) -> &'a WaveletState
         requires reached { IsReached history.now.deltas self.now }
         requires there { IsThere history.now.deltas place self.now }
-        ensures { state_behind history.now.deltas place ≡ Some result.now }
+        ensures { state_after history.now.deltas place ≡ Some result.now }
     {
         if place == history.deltas().len() {
             return history.state();

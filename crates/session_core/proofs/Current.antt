@@ -1,5 +1,5 @@
 -- What was delivered leaves nothing of what is open to be sent.
---     nothing_behind      no delta of a history stands at its head
+--     nothing_after      no delta of a history stands at its head
 --     sent_user           a user's session after a delivery
 use Rattle.std.proofs.Common.{◌≡◌, ◌<◌, ℕ, Bool, true, ◌&&◌, ◌==◌, cond, nat_lt, suc, List, [], ◌∷◌, ◌++◌, length, drop, refl, sym, ap, subst, ◌∙◌, arith, Option, None, Some}
 use Rattle.std.specs.Prelude.{IfSome}
@@ -15,7 +15,7 @@ use Rattle.delta_history.specs.Places.{started_below}
 use Rattle.delta_history.specs.Points.{Point, start, replay, next_point}
 use Rattle.delta_history.proofs.Chains.{starts_at, goes_from, some_ops}
 use Rattle.delta_history.proofs.Finding.{legal_end}
-use Rattle.delta_history.proofs.Points.{and_then_is, behind_point, replay_more, rises}
+use Rattle.delta_history.proofs.Points.{and_then_is, after_point, replay_more, rises}
 use Rattle.session_core.specs.declared.session.Party.TheVariants.{User}
 use Rattle.session_core.specs.declared.session.Opening.{Opening}
 use Rattle.session_core.specs.declared.session.Session.{Session}
@@ -34,7 +34,7 @@ all_started name b [] p q l e r = refl
 all_started name b (d ∷ ds) p q l e r =
     let n = l.0 in
     let z = goes_from name b d p e n in
-    let a = behind_point p n.after d z in
+    let a = after_point p n.after d z in
     let at : d.from.version ≡ p.at.version = ap (λ (y : VersionAt). y.version) (starts_at name b d p e n) in
     let rest : replay n.after ds ≡ Some q = sym (and_then_is (next_point p d) (λ y. replay y ds) n.after z) ∙ r in
     let up = rises n.after q ds rest in
@@ -46,8 +46,8 @@ none_left : {A : Type 0} (xs : List A) → drop (length xs) xs ≡ []
 none_left [] = refl
 none_left (x ∷ xs) = none_left xs
 
-pub nothing_behind : (h : HistoryOf) → IsLegal h.name h.deltas → since (head_of h).at.version h ≡ []
-nothing_behind h l =
+pub nothing_after : (h : HistoryOf) → IsLegal h.name h.deltas → since (head_of h).at.version h ≡ []
+nothing_after h l =
     let all = all_started h.name [] h.deltas (start h.name) (head_of h) l refl (legal_end h.name h.deltas l) in
     ap (λ n. drop n h.deltas) all ∙ none_left h.deltas
 

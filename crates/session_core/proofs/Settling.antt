@@ -8,7 +8,7 @@ use Rattle.std.proofs.Math.ListN.{drop_of_length-le}
 use Rattle.std.proofs.lemmas.List.{take_more_set, drop-set-lt, take_all, take_at, drop_at, length-take-le}
 
 module _ {A : Type 0} (f : A → List A) where
-  -- the element at a place, and those behind it
+  -- the element at a place, and those after it
   here : (xs : List A) (p : ℕ) (d : A) → p < length xs → flat_map f (drop p xs) ≡ f (get_or xs p d) ++ flat_map f (drop (p + 1) xs)
   here xs p d h = ap (flat_map f) (drop-cons xs p d h) ∙ ap (λ n. f (get_or xs p d) ++ flat_map f (drop n xs)) (sym (add-one p))
 

@@ -3,7 +3,7 @@
 --     verdict_message .., told_verdict ..     how a user and a peer are told a verdict
 --     is_waiting ws n i, with_waiting ws n i  a submission waits; it waits from now on, once
 --     answered s n i a          the answer to a submission
---     sent_at n v os            the wavelet is open, its deltas sent up to a version: where it was open before, else behind the others
+--     sent_at n v os            the wavelet is open, its deltas sent up to a version: where it was open before, else after the others
 --     snapshot_of n h           the snapshot of a history's head
 --     written_len s             how many bytes are written for the message of a snapshot
 --     is_sendable s             it is one, and is written with at most max_peer bytes

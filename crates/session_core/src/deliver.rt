@@ -48,8 +48,8 @@ fn starts_below(delta: &AppliedDelta, version: u64) -> bool
     delta.from.version < version
 }
 
-// The place of the first delta of a history that was applied at a version or behind it. At the head there is none.
-#[tactic(auto, using(delta_history::proofs::Finding::rising, crate::proofs::Current::nothing_behind))]
+// The place of the first delta of a history that was applied at a version or after it. At the head there is none.
+#[tactic(auto, using(delta_history::proofs::Finding::rising, crate::proofs::Current::nothing_after))]
 fn first_since(history: &History, version: u64) -> usize
     ensures value { result ≡ started_below version history.now.deltas }
     ensures whole { since (head_of history.now).at.version history.now ≡ [] }

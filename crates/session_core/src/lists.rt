@@ -84,7 +84,7 @@ impl Openings {
         self.list.as_slice()
     }
 
-    /// The wavelet is open, behind the others. After want of memory all is as it was.
+    /// The wavelet is open, after the others. After want of memory all is as it was.
     pub fn push(&mut self, opening: Opening) -> Result<(), Memory>
         ensures ok { OnOk result (self.new ≡ self.old ++ opening ∷ []) }
         ensures err { OnErr result (self.new ≡ self.old) }
@@ -101,7 +101,7 @@ impl Openings {
         place_in(self.list.as_slice(), name)
     }
 
-    /// The wavelet is open, its deltas sent up to this version: at its place where it was open, else behind the others. After want of
+    /// The wavelet is open, its deltas sent up to this version: at its place where it was open, else after the others. After want of
     /// memory all is as it was.
     pub fn set(&mut self, name: WaveletName, sent: u64) -> Result<(), Memory>
         ensures ok { OnOk result (self.new ≡ sent_at name sent self.old) }
@@ -183,7 +183,7 @@ impl Waitings {
         drop(self.list.remove(place));
     }
 
-    /// One more waits, behind the others. After want of memory all is as it was.
+    /// One more waits, after the others. After want of memory all is as it was.
     pub fn push(&mut self, waiting: Waiting) -> Result<(), Memory>
         ensures ok { OnOk result (self.new ≡ self.old ++ waiting ∷ []) }
         ensures err { OnErr result (self.new ≡ self.old) }

@@ -127,7 +127,7 @@ module _ (d : Key) (k : ℕ) where
   pub own_founded : (hs : List Hosted) → AllByRecursion (λ h. is_of d k h.name ≡ true) hs → list_all (is_own_mark d k) (founded d k (loaded hs)) ≡ true
   own_founded hs all = ap (λ b. b && list_all (is_own_mark d k) (loaded hs)) (founded_own d k []) ∙ own_loaded hs all
 
--- ---- a new shard, of what a domain hosts of these histories, with these marks behind the first one
+-- ---- a new shard, of what a domain hosts of these histories, with these marks after the first one
 
 module _ (d : Key) (k : ℕ) (hs : List Hosted) (ms : List Mark) (is : ms ≡ loaded (hosted_by d hs)) where
   pub new_replay : AreAscending (names_of hs) → AllByRecursion (λ h. is_in k h.name ≡ true) hs → HaveDeltas hs → hosted_by d hs ≡ replayed d k (founded d k ms)

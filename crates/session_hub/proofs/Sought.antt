@@ -14,7 +14,7 @@ use Rattle.peer_turns.specs.declared.item.CopyAt.{CopyAt}
 use Rattle.peer_turns.specs.declared.item.Relay.{Relay}
 use Rattle.turn_cells.specs.declared.cells.Passes.{Passes}
 use Rattle.turn_cells.specs.Cells.{BeginsAt, seen_of, loads_of, added_of, loads_at, added_at}
-use Rattle.replica_store.proofs.Listed.{get_behind, get_front}
+use Rattle.replica_store.proofs.Listed.{get_after, get_front}
 use Rattle.replica_store.specs.Listings.{relays_of, reaches_of}
 use Rattle.shard_marks.specs.declared.mark.Mark.{Mark}
 use Rattle.shard_marks.specs.Marks.{copied}
@@ -48,7 +48,7 @@ module _ {A : Type 0} where
     left_next more e = let now = here in let size = length-append (across n g) (g n) in omega (arith, now, size, e)
 
     pub found_in : (x : A) → n < 16 → slice_get (g n) left ≡ Some x → slice_get (across 16 g) place ≡ Some x
-    found_in x l e = across_get (suc n) 16 g place x (omega (arith, l)) (get_behind (across n g) (g n) left place here ∙ e)
+    found_in x l e = across_get (suc n) 16 g place x (omega (arith, l)) (get_after (across n g) (g n) left place here ∙ e)
 
   pub none_in : (xs : List A) (place left : ℕ) → place ≡ length xs + left → slice_get xs place ≡ None
   none_in xs place left at = slice_get_past xs place (omega (arith, at))

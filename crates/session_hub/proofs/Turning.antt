@@ -69,7 +69,7 @@ each_some P (Some x) so = so x refl
 prefix_length : {X : Type 0} (xs ys : List X) → IsPrefix xs ys → length xs ≤ length ys
 prefix_length xs ys p = let longer = length-append xs p.0 in let whole = ap length p.1 in omega (arith, longer, whole)
 
--- `e` and `j` are the shard's own domain and number, and `rs` and `os` its marks behind the first one, before and after
+-- `e` and `j` are the shard's own domain and number, and `rs` and `os` its marks after the first one, before and after
 module _ {T : Type 0} (p q : Pass T Mark) (d : Key) (k : ℕ) (e : Key) (j : ℕ) (rs os : List Mark) where
   pub answered_by : (peers : List Key) (n : Key) (s : Submission) (t : ℕ) (a : SubmitAnswer) → is_founded d k (seen p) ≡ true → IsPrefix (seen p) (founded e j rs) → IsJudged (server e peers) j (founded e j rs) os n s t a
       → seen q ≡ os → added q + length (founded e j rs) ≡ added p + length os → IsAnsweredBy p q (server d peers) k n s t a

@@ -35,7 +35,7 @@ use Rattle.session_core.specs.Answers.{place_told, put_told, told_at}
 use Rattle.session_core.specs.Current.{is_none_left}
 use Rattle.session_core.specs.Deliveries.{since, applieds, telling_of, host_news, host_told, after_host, hosts_sent, hosts_told, delivered_to, delivered, after_for, after_delivery}
 use Rattle.session_core.specs.Rules.{party_is_peer}
-use Rattle.session_core.proofs.Current.{nothing_behind}
+use Rattle.session_core.proofs.Current.{nothing_after}
 use Rattle.wavelet_shelf.specs.FileNames.{shard_of}
 use Rattle.wavelet_shelf.specs.Hosting.{Hosted, names_of, deltas_in, copy_of}
 use Rattle.wavelet_shelf.proofs.Names.{own, decided, any, lower, below_none}
@@ -190,7 +190,7 @@ none_is ds e = ap is_none_left e
 pub legal_sound : (name : Key) (ds : List DeltaOf) → IsLegal name ds → is_sound (hosted_as name ds) ≡ true
 legal_sound name ds legal =
     let h : HistoryOf = history_of (hosted_as name ds) in
-    and_from (is_whole (hosted_as name ds)) (list_all is_short ds) (none_is (since (head_of h).at.version h) (nothing_behind h legal)) (legal_short name [] ds legal)
+    and_from (is_whole (hosted_as name ds)) (list_all is_short ds) (none_is (since (head_of h).at.version h) (nothing_after h legal)) (legal_short name [] ds legal)
 
 -- ---- what is shown of them
 

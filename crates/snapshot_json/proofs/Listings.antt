@@ -1,5 +1,5 @@
 -- A walk over borrowed keys, with a value for each.
---     next_listed               one value more, behind the others
+--     next_listed               one value more, after the others
 --     next_back                 where each key that is left has a property all have it, and so with one key less
 --     first_there, rest_there   a property of all keys that are left is one of the first, and of the others
 use Rattle.std.proofs.Common.{◌≡◌, ◌+◌, ◌<◌, ℕ, List, [], ◌∷◌, ◌++◌, length, map, drop, sym, ap, subst, ◌∙◌, slice_index_or, append_assoc}

@@ -3,7 +3,7 @@
 --     document_of d              a document's name, and the components of the operation that makes it of the empty document
 --     joined s e                 the state with one participant more, where the address isn't there yet
 --     opened s e                 the state with one document more, where the operation applies and the document isn't empty
---     states_from read step s last ds     the state after a step for each item; the keys rise in byte order, the first behind `last`
+--     states_from read step s last ds     the state after a step for each item; the keys rise in byte order, the first after `last`
 --     state_of d                 the state whose participants and documents stand in these members
 use Rattle.std.specs.Prelude.{if◌then◌else◌, List, Option, Some, None, is_some, option_and_then, option_map, codes}
 use Rattle.serde_json.specs.Data.{Data, Items, no_items, item}

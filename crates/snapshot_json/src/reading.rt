@@ -72,7 +72,7 @@ fn joined(
     after(alloc, state, &set_role)
 }
 
-// Whether an address is the first of its list, or comes behind the last one in byte order.
+// Whether an address is the first of its list, or comes after the last one in byte order.
 fn comes_next(last: &Option<Address>, address: &Address) -> bool
     ensures { result ≡ is_next last.now address.now }
 {
@@ -146,7 +146,7 @@ fn opened(
     }
 }
 
-// Whether a name is the first of its list, or comes behind the last one in byte order.
+// Whether a name is the first of its list, or comes after the last one in byte order.
 fn is_behind(last: &Option<DocumentName>, name: &DocumentName) -> bool
     ensures { result ≡ is_next last.now name.now }
 {

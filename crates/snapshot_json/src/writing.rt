@@ -26,7 +26,7 @@ use wavelet_state::WaveletState;
 
 // ---- operations that make documents
 
-// Puts an item behind what was inserted.
+// Puts an item after what was inserted.
 #[tactic(auto, using(crate::proofs::Insertions::item_added))]
 fn insert_item(alloc: Global, out: &mut NormalBuilder, item: &Item) -> Result<(), Memory>
     requires { output_len out.old + 1 ≤ max_count }
@@ -50,7 +50,7 @@ fn insert_item(alloc: Global, out: &mut NormalBuilder, item: &Item) -> Result<()
     }
 }
 
-// Puts the items of a document behind what was inserted.
+// Puts the items of a document after what was inserted.
 fn insert_all(alloc: Global, out: &mut NormalBuilder, rope: &Rope) -> Result<(), Memory>
     requires { out.old ≡ [] }
     ensures { OnOk result (out.new ≡ map Ins rope.now) }

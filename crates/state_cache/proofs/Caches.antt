@@ -10,7 +10,7 @@ use Rattle.doc_op.proofs.Applying.{same_Some, no_value}
 use Rattle.wavelet_op.specs.Deltas.{DeltaOf}
 use Rattle.wavelet_op.specs.States.{State, empty_state}
 use Rattle.delta_history.specs.Points.{run_all}
-use Rattle.state_cache.specs.States.{state_behind, AreKept, IsCacheOf, IsBegun}
+use Rattle.state_cache.specs.States.{state_after, AreKept, IsCacheOf, IsBegun}
 
 pub begun_kept : (ds : List DeltaOf) (states : List State) → IsBegun ds states → AreKept ds states
 begun_kept ds states b k s at =
@@ -24,10 +24,10 @@ last_of [] s t (suc k) e P h l = no_value e
 last_of (x ∷ states) s t zero e P h l = h zero t e
 last_of (x ∷ states) s t (suc k) e P h l = last_of states s t k e (λ j. P (suc j)) (λ j u g. h (suc j) u g) l
 
-pub kept_more : (ds : List DeltaOf) (states : List State) (s : State) → AreKept ds states → state_behind ds (length states * 64) ≡ Some s → AreKept ds (states ++ s ∷ [])
-kept_more ds states s kept at k t e = last_of states s t k e (λ j u. state_behind ds (j * 64) ≡ Some u) kept at
+pub kept_more : (ds : List DeltaOf) (states : List State) (s : State) → AreKept ds states → state_after ds (length states * 64) ≡ Some s → AreKept ds (states ++ s ∷ [])
+kept_more ds states s kept at k t e = last_of states s t k e (λ j u. state_after ds (j * 64) ≡ Some u) kept at
 
-pub looked_up : (ds : List DeltaOf) (states held : List State) (k : ℕ) (x s : State) → AreKept ds states → held ≡ states → k < length held → x ≡ get_or held k x → s ≡ x → state_behind ds (k * 64) ≡ Some s
+pub looked_up : (ds : List DeltaOf) (states held : List State) (k : ℕ) (x s : State) → AreKept ds states → held ≡ states → k < length held → x ≡ get_or held k x → s ≡ x → state_after ds (k * 64) ≡ Some s
 looked_up ds states held k x s kept same inside is e =
     kept k s (ap (λ z. slice_get z k) (sym same) ∙ slice_get_read held (length held) k x refl inside is ∙ ap Some (sym e))
 

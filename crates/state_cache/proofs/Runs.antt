@@ -1,7 +1,7 @@
 -- Deltas in turn.
 --     run_all_append      of two parts of a list the second goes on where the first leads
 --     split                  so both parts of valid deltas are valid
---     stretch_valid, stretch_leads      a stretch of them, behind a front
+--     stretch_valid, stretch_leads      a stretch of them, after a front
 use Rattle.std.proofs.Common.{◌≡◌, ℕ, ◌+◌, List, [], ◌∷◌, ◌++◌, take, drop, Option, Some, None, IsSome, true≢false, refl, sym, ap, subst, ◌∙◌, option_and_then}
 use Rattle.std.proofs.Math.Seq.{take-add}
 use Rattle.std.proofs.lemmas.List.{take-append-drop}
@@ -11,7 +11,7 @@ use Rattle.wavelet_op.specs.Deltas.{DeltaOf}
 use Rattle.wavelet_op.specs.States.{State, empty_state, run}
 use Rattle.wavelet_op.proofs.Partial.{and_then_some, and_then_same, and_then_twice}
 use Rattle.delta_history.specs.Points.{run_all}
-use Rattle.state_cache.specs.States.{state_behind}
+use Rattle.state_cache.specs.States.{state_after}
 
 pub run_all_append : (s : State) (xs ys : List DeltaOf) → run_all s (xs ++ ys) ≡ option_and_then (λ t. run_all t ys) (run_all s xs)
 run_all_append s [] ys = refl
@@ -32,9 +32,9 @@ split s xs ys h =
     let m = and_then_some (run_all s xs) (λ t. run_all t ys) all.0 (sym (run_all_append s xs ys) ∙ all.1) in
     record { middle = m.0; leads = m.1; rest = subst IsSome (sym m.2) refl }
 
--- ---- a stretch behind a front
+-- ---- a stretch after a front
 
-pub stretch_valid : (ds : List DeltaOf) (n m : ℕ) (s : State) → IsSome (run_all empty_state ds) → state_behind ds n ≡ Some s → IsSome (run_all s (take m (drop n ds)))
+pub stretch_valid : (ds : List DeltaOf) (n m : ℕ) (s : State) → IsSome (run_all empty_state ds) → state_after ds n ≡ Some s → IsSome (run_all s (take m (drop n ds)))
 stretch_valid ds n m s h e =
     let front : IsSome (run_all empty_state (take (n + m) ds)) = (
     let a = split empty_state (take (n + m) ds) (drop (n + m) ds) (subst (λ z. IsSome (run_all empty_state z)) (sym (take-append-drop (n + m) ds)) h) in
@@ -43,5 +43,5 @@ stretch_valid ds n m s h e =
     let b = split empty_state (take n ds) (take m (drop n ds)) (subst (λ z. IsSome (run_all empty_state z)) (take-add n m ds) front) in
     subst (λ z. IsSome (run_all z (take m (drop n ds)))) (same_Some (sym b.leads ∙ e)) b.rest
 
-pub stretch_leads : (ds : List DeltaOf) (n m : ℕ) (s t : State) → state_behind ds n ≡ Some s → run_all s (take m (drop n ds)) ≡ Some t → state_behind ds (n + m) ≡ Some t
+pub stretch_leads : (ds : List DeltaOf) (n m : ℕ) (s t : State) → state_after ds n ≡ Some s → run_all s (take m (drop n ds)) ≡ Some t → state_after ds (n + m) ≡ Some t
 stretch_leads ds n m s t e r = ap (run_all empty_state) (take-add n m ds) ∙ run_all_append empty_state (take n ds) (take m (drop n ds)) ∙ ap (option_and_then (λ z. run_all z (take m (drop n ds)))) e ∙ r

@@ -1,18 +1,18 @@
--- The states behind the deltas of a history, and those of them that are kept.
---     state_behind ds n      the state behind the first n deltas, from the state without anything on
---     AreKept ds states      the k-th of the states is the one behind the first 64 k deltas
---     IsCacheOf ds states    these are the states behind 0, 64, 128 and so on of the deltas
+-- The states after the deltas of a history, and those of them that are kept.
+--     state_after ds n      the state after the first n deltas, from the state without anything on
+--     AreKept ds states      the k-th of the states is the one after the first 64 k deltas
+--     IsCacheOf ds states    these are the states after 0, 64, 128 and so on of the deltas
 --     IsBegun ds states      so they are of deltas with which these ones begin
 use Rattle.std.specs.Prelude.{◌≡◌, ℕ, ◌+◌, ◌*◌, ◌<◌, ◌≤◌, List, ◌++◌, length, take, slice_get, Option, Some}
 use Rattle.wavelet_op.specs.Deltas.{DeltaOf}
 use Rattle.wavelet_op.specs.States.{State, empty_state}
 use Rattle.delta_history.specs.Points.{run_all}
 
-abbrev pub state_behind : List DeltaOf → ℕ → Option State
-state_behind ds n = run_all empty_state (take n ds)
+abbrev pub state_after : List DeltaOf → ℕ → Option State
+state_after ds n = run_all empty_state (take n ds)
 
 abbrev pub AreKept : List DeltaOf → List State → Type 0
-AreKept ds states = (k : ℕ) (s : State) → slice_get states k ≡ Some s → state_behind ds (k * 64) ≡ Some s
+AreKept ds states = (k : ℕ) (s : State) → slice_get states k ≡ Some s → state_after ds (k * 64) ≡ Some s
 
 pub record IsCacheOf (ds : List DeltaOf) (states : List State) : Type 0 where
   pub kept : AreKept ds states

@@ -3,7 +3,7 @@ ghost use Rattle.std.specs.Prelude.{◌≡◌, ◌+◌, ◌*◌, ◌<◌, ◌≤
 ghost use Rattle.wavelet_op.specs.Acts.{meanings};
 ghost use Rattle.wavelet_op.specs.States.{empty_state, run};
 ghost use Rattle.delta_history.specs.Points.{run_all};
-ghost use Rattle.state_cache.specs.States.{state_behind, AreKept, IsCacheOf, IsBegun};
+ghost use Rattle.state_cache.specs.States.{state_after, AreKept, IsCacheOf, IsBegun};
 
 use crate::Steps;
 use doc_items::Memory;
@@ -16,7 +16,7 @@ use wavelet_state::{WaveletState, apply_delta};
 // How many deltas there are from one kept state to the next.
 const INTERVAL: usize = 64;
 
-/// The states behind 0, 64, 128 and so on of the deltas that it was grown over.
+/// The states after 0, 64, 128 and so on of the deltas that it was grown over.
 #[derive(Drop)]
 pub struct StateCache {
     states: Vec<WaveletState>,
@@ -63,7 +63,7 @@ impl StateCache {
         }
     }
 
-    // Keeps the states that are still to be kept. After want of memory some may stand behind the others.
+    // Keeps the states that are still to be kept. After want of memory some may stand after the others.
     fn keep_all(&mut self, alloc: Global, deltas: &[AppliedDelta]) -> Result<(), Memory>
         requires valid { IsSome (run_all empty_state deltas.now) }
         requires begins { IsBegun deltas.now self.old }
@@ -95,7 +95,7 @@ impl StateCache {
         Ok(())
     }
 
-    /// The state behind the first `count` of the deltas that the cache was grown over, with at most 63 steps: one for each delta
+    /// The state after the first `count` of the deltas that the cache was grown over, with at most 63 steps: one for each delta
     /// that is applied. The error is want of memory.
     pub fn state_at<L: Ledger>(
         &self,
@@ -107,7 +107,7 @@ impl StateCache {
         requires valid { IsSome (run_all empty_state deltas.now) }
         requires cached { IsCacheOf deltas.now self.now }
         requires inside { count ≤ length deltas.now }
-        ensures value { IfOk result (λ s. state_behind deltas.now count ≡ Some s) }
+        ensures value { IfOk result (λ s. state_after deltas.now count ≡ Some s) }
         ensures cost { steps.new ≤ steps.old + 63 }
     {
         let count = count as usize;
@@ -118,7 +118,7 @@ impl StateCache {
     }
 }
 
-// The state is behind the delta, which is valid.
+// The state is after the delta, which is valid.
 fn apply_one(alloc: Global, state: &mut WaveletState, delta: &AppliedDelta) -> Result<(), Memory>
     requires { IsSome (run state.old (meanings delta.now.ops)) }
     ensures { OnOk result (run state.old (meanings delta.now.ops) ≡ Some state.new) }
@@ -130,7 +130,7 @@ fn apply_one(alloc: Global, state: &mut WaveletState, delta: &AppliedDelta) -> R
     }
 }
 
-// The state is behind the deltas, which are valid in turn.
+// The state is after the deltas, which are valid in turn.
 fn apply_all(alloc: Global, state: &mut WaveletState, deltas: &[AppliedDelta]) -> Result<(), Memory>
     requires { IsSome (run_all state.old deltas.now) }
     ensures { OnOk result (run_all state.old deltas.now ≡ Some state.new) }
@@ -141,7 +141,7 @@ fn apply_all(alloc: Global, state: &mut WaveletState, deltas: &[AppliedDelta]) -
     Ok(())
 }
 
-// So it is, with a step for each delta.
+// The state is after the deltas, which are valid in turn, with a step for each of them.
 fn apply_counted<L: Ledger>(
     alloc: Global,
     state: &mut WaveletState,

@@ -1,4 +1,4 @@
--- What the echo writes: `echoes`, each line behind the last digit of its time, with a line feed.
+-- What the echo writes: `echoes`, each line after the last digit of its time, with a line feed.
 use Rattle.std.specs.Prelude.{ℕ, ◌+◌, ◌%◌, List, [], ◌∷◌, ◌++◌}
 use Rattle.line_loop.specs.Turns.{Turn}
 

@@ -39,7 +39,7 @@ module _ {T E : Type 0} where
   abbrev pub LooksAtHead : List E → ℕ → Place T E → Place T E → Type 0
   LooksAtHead log id s s' = (v : View E) × Stands s id v Out × (s' ≡ looked s 2 id (record v { seen = log; loads = v.loads + 1 }))
 
-  -- the look behind a join
+  -- the look after a join
   abbrev pub Settles : ℕ → Place T E → Place T E → Type 0
   Settles id s s' = (v : View E) × (xs : List E) × Stands s id v (Told xs) × (s' ≡ looked s 0 id (record v { seen = longer_of v.seen xs; stage = Out }))
 

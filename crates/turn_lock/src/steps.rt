@@ -34,7 +34,7 @@ impl<T, E> Play<Option<T>, View<E>> for LookHead {
     ghost then = { TellsHead };
 }
 
-/// The look behind a join, which tells that both seats saw one history.
+/// The look after a join, which tells that both seats saw one history.
 pub(crate) struct Settle;
 
 impl<T, E> Play<Option<T>, View<E>> for Settle {

@@ -7,7 +7,7 @@ use Rattle.std.proofs.lemmas.Bool.Decides.{nat_tests}
 use Rattle.std.proofs.lemmas.List.Elements.{All-cons}
 use Rattle.std.proofs.lemmas.List.Folds.{list_any_none, list_all-append}
 use Rattle.std.proofs.lemmas.List.Splits.{slice_split_at, slice_split_none, join_with_byte-slice_split, length-slice_split}
-use Rattle.wave_base.specs.Grammar.{before, behind, joined, has, is_word, is_user, is_id, is_domain, is_address, is_wavelet_part, is_behind_wave_domain, is_wavelet_name, domain_of, host_of, at_sign, slash, dot}
+use Rattle.wave_base.specs.Grammar.{before, behind, joined, has, is_word, is_user, is_id, is_domain, is_address, is_wavelet_part, is_after_wave_domain, is_wavelet_name, domain_of, host_of, at_sign, slash, dot}
 use Rattle.wave_base.specs.Relations.{IsDomain, IsAddress, IsWaveletName}
 use Rattle.wave_base.specs.declared.scanner.Alphabet.{Alphabet}
 use Rattle.wave_base.specs.declared.scanner.Alphabet.TheVariants.{User, Label, Id}
@@ -164,7 +164,7 @@ name_apart t e =
     )
 
 pub name_made : (wave_domain wave_id domain id t : List ℕ) → IsWaveletName wave_domain wave_id domain id t → (is_wavelet_name t ≡ true) × (host_of t ≡ domain)
-unfolding is_wavelet_name is_behind_wave_domain is_wavelet_part host_of
+unfolding is_wavelet_name is_after_wave_domain is_wavelet_part host_of
 name_made wave_domain wave_id domain id t h =
     let wavelet = domain ++ slash ∷ id in
     let rest = wave_id ++ slash ∷ wavelet in
@@ -173,7 +173,7 @@ name_made wave_domain wave_id domain id t h =
     let k = domain-free domain h.domain_good in
     let last = joined-made slash domain id k is_domain is_id h.domain_good h.id_good in
     let middle = joined-made slash wave_id wavelet g is_id is_wavelet_part h.wave_id_good last in (
-      ap (joined slash is_domain is_behind_wave_domain) h.whole ∙ joined-made slash wave_domain rest f is_domain is_behind_wave_domain h.wave_domain_good middle,
+      ap (joined slash is_domain is_after_wave_domain) h.whole ∙ joined-made slash wave_domain rest f is_domain is_after_wave_domain h.wave_domain_good middle,
       ap (λ x. before slash (behind slash (behind slash x))) h.whole
           ∙ ap (λ x. before slash (behind slash x)) (behind-made slash wave_domain rest f)
           ∙ ap (before slash) (behind-made slash wave_id wavelet g)

@@ -4,7 +4,7 @@ use Rattle.std.specs.List.{list_any, list_all, slice_split, position_or_len, bef
 use Rattle.std.proofs.lemmas.Bool.{and_parts}
 use Rattle.std.proofs.lemmas.Bool.Decides.{nat_tests}
 use Rattle.std.proofs.lemmas.List.Sums.{split_at_first, passes_at_first}
-use Rattle.wave_base.specs.Grammar.{before, behind, joined, is_user, is_id, is_domain, is_address, is_wavelet_part, is_behind_wave_domain, is_wavelet_name, domain_of, host_of, at_sign, slash, dot, is_word}
+use Rattle.wave_base.specs.Grammar.{before, behind, joined, is_user, is_id, is_domain, is_address, is_wavelet_part, is_after_wave_domain, is_wavelet_name, domain_of, host_of, at_sign, slash, dot, is_word}
 use Rattle.wave_base.specs.declared.scanner.Alphabet.TheVariants.{User, Label, Id}
 use Rattle.wave_base.proofs.Cuts.{any-first}
 
@@ -65,12 +65,12 @@ pub domain_of-good : (t : List ℕ) → is_address t ≡ true → is_domain (dom
 unfolding domain_of
 domain_of-good t e = (address-parts t e).back
 
-pub name-parts : (t : List ℕ) → is_wavelet_name t ≡ true → Joined slash is_domain is_behind_wave_domain t
+pub name-parts : (t : List ℕ) → is_wavelet_name t ≡ true → Joined slash is_domain is_after_wave_domain t
 unfolding is_wavelet_name
-name-parts t e = joined-parts slash is_domain is_behind_wave_domain t e
+name-parts t e = joined-parts slash is_domain is_after_wave_domain t e
 
-pub behind-parts : (t : List ℕ) → is_behind_wave_domain t ≡ true → Joined slash is_id is_wavelet_part t
-unfolding is_behind_wave_domain
+pub behind-parts : (t : List ℕ) → is_after_wave_domain t ≡ true → Joined slash is_id is_wavelet_part t
+unfolding is_after_wave_domain
 behind-parts t e = joined-parts slash is_id is_wavelet_part t e
 
 pub wavelet-parts : (t : List ℕ) → is_wavelet_part t ≡ true → Joined slash is_domain is_id t
@@ -84,7 +84,7 @@ name-bound t e =
     let l = wavelet-parts _ k.back in
     let wavelet = length-joined slash is_domain is_id _ 255 128 l (domain-bound _ l.front) (id-bound _ l.back) in
     let rest = length-joined slash is_id is_wavelet_part _ 128 384 k (id-bound _ k.front) wavelet in
-    length-joined slash is_domain is_behind_wave_domain t 255 513 j (domain-bound _ j.front) rest
+    length-joined slash is_domain is_after_wave_domain t 255 513 j (domain-bound _ j.front) rest
 
 pub host_of-good : (t : List ℕ) → is_wavelet_name t ≡ true → is_domain (host_of t) ≡ true
 unfolding host_of

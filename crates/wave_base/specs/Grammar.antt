@@ -4,11 +4,11 @@
 --     is_word alphabet t                     one byte or more, each of the alphabet
 --     is_user, is_id                         words of at most 64 and 128 bytes; a document or a session is named by an id
 --     is_domain                              labels with a dot between each two, at most 255 bytes in all
---     before b t, behind b t, IsCut          what stands on the two sides of the first byte b
+--     before b t, after b t, IsCut          what stands on the two sides of the first byte b
 --     joined b p q t                         what p takes, then the first byte b, then what q takes
 --     is_address                             user @ domain
 --     is_wavelet_part                        wavelet domain / wavelet id
---     is_behind_wave_domain                  wave id / wavelet domain / wavelet id
+--     is_after_wave_domain                  wave id / wavelet domain / wavelet id
 --     is_wavelet_name                        wave domain / wave id / wavelet domain / wavelet id
 --     domain_of, host_of                     the domain of an address, the wavelet domain of a wavelet name
 use Rattle.std.specs.Prelude.{ℕ, Bool, true, ◌≡◌, ◌&&◌, ◌||◌, ◌==◌, nat_le, List, length, not, codes}
@@ -64,11 +64,11 @@ is_address t = joined at_sign is_user is_domain t
 unfoldable pub is_wavelet_part : List ℕ → Bool
 is_wavelet_part t = joined slash is_domain is_id t
 
-unfoldable pub is_behind_wave_domain : List ℕ → Bool
-is_behind_wave_domain t = joined slash is_id is_wavelet_part t
+unfoldable pub is_after_wave_domain : List ℕ → Bool
+is_after_wave_domain t = joined slash is_id is_wavelet_part t
 
 unfoldable pub is_wavelet_name : List ℕ → Bool
-is_wavelet_name t = joined slash is_domain is_behind_wave_domain t
+is_wavelet_name t = joined slash is_domain is_after_wave_domain t
 
 unfoldable pub domain_of : List ℕ → List ℕ
 domain_of address = behind at_sign address

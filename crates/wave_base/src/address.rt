@@ -10,7 +10,7 @@ ghost use Rattle.wave_base.specs.Faults.{IsAddressFault};
 
 use crate::BaseFault;
 use crate::grammar::is_address;
-use crate::scanner::text_behind;
+use crate::scanner::text_after;
 use doc_items::Memory;
 use std::alloc::Global;
 use std::cmp::Ordering;
@@ -62,7 +62,7 @@ impl Address {
         ensures part { result.now ≡ domain_of self.now }
         ensures good { is_domain result.now ≡ true }
     {
-        text_behind(self.text.as_str(), '@')
+        text_after(self.text.as_str(), '@')
     }
 
     /// An equal address.

@@ -1,6 +1,6 @@
 // The grammar of names, tested on texts.
 ghost use Rattle.std.specs.Prelude.{◌≡◌};
-ghost use Rattle.wave_base.specs.Grammar.{is_user, is_id, is_domain, is_address, is_wavelet_part, is_behind_wave_domain, is_wavelet_name};
+ghost use Rattle.wave_base.specs.Grammar.{is_user, is_id, is_domain, is_address, is_wavelet_part, is_after_wave_domain, is_wavelet_name};
 
 use crate::scanner::{Alphabet, cut, is_word};
 
@@ -46,8 +46,8 @@ fn is_wavelet_part(text: &str) -> bool
 }
 
 /// Whether the text is a wave id, `/`, and a wavelet domain with its wavelet id.
-fn is_behind_wave_domain(text: &str) -> bool
-    ensures { result ≡ is_behind_wave_domain text.now }
+fn is_after_wave_domain(text: &str) -> bool
+    ensures { result ≡ is_after_wave_domain text.now }
 {
     match cut(text, '/') {
         Some((id, wavelet)) => is_id(id) && is_wavelet_part(wavelet),
@@ -60,7 +60,7 @@ pub fn is_wavelet_name(text: &str) -> bool
     ensures { result ≡ is_wavelet_name text.now }
 {
     match cut(text, '/') {
-        Some((domain, rest)) => is_domain(domain) && is_behind_wave_domain(rest),
+        Some((domain, rest)) => is_domain(domain) && is_after_wave_domain(rest),
         None => false,
     }
 }

@@ -15,7 +15,7 @@ pub fn addresses_have_two_parts()
     ensures made { (user domain t : List ℕ) → IsAddress user domain t → (is_address t ≡ true) × (domain_of t ≡ domain) }
 {}
 
-/// The law of wavelet names: each is two domains with an id behind each, the second domain being the host; and whatever is put
+/// The law of wavelet names: each is two domains with an id after each, the second domain being the host; and whatever is put
 /// together so is a name with that host.
 #[tactic(auto, using(crate::proofs::Made::name_apart))]
 pub fn wavelet_names_have_four_parts()

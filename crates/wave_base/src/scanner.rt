@@ -38,7 +38,7 @@ pub fn is_word(alphabet: Alphabet, text: &str) -> bool
     !text.is_empty() && text.bytes().all(|byte| alphabet.has(byte))
 }
 
-/// What stands before and behind the first `separator`, an ASCII character; None where there is none.
+/// What stands before and after the first `separator`, an ASCII character; None where there is none.
 pub fn cut(text: &str, separator: char) -> Option<(&str, &str)>
     requires { separator < 128 }
     ensures { MatchOption result (list_any (λ b. b == separator) text.now ≡ false) (λ p. IsCut separator text.now p.0.now p.1.now) }
@@ -57,8 +57,8 @@ pub fn text_before(text: &str, separator: char) -> &str
     }
 }
 
-/// What stands behind the first `separator`; nothing where there is none.
-pub fn text_behind(text: &str, separator: char) -> &str
+/// What stands after the first `separator`; nothing where there is none.
+pub fn text_after(text: &str, separator: char) -> &str
     requires { separator < 128 }
     ensures { result.now ≡ behind separator text.now }
 {

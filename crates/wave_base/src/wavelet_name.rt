@@ -10,7 +10,7 @@ ghost use Rattle.wave_base.specs.Faults.{IsNameFault};
 
 use crate::BaseFault;
 use crate::grammar::is_wavelet_name;
-use crate::scanner::{text_before, text_behind};
+use crate::scanner::{text_after, text_before};
 use doc_items::Memory;
 use std::alloc::Global;
 use std::cmp::Ordering;
@@ -68,8 +68,8 @@ impl WaveletName {
         ensures part { result.now ≡ host_of self.now }
         ensures good { is_domain result.now ≡ true }
     {
-        let behind_wave_domain = text_behind(self.text.as_str(), '/');
-        let wavelet = text_behind(behind_wave_domain, '/');
+        let after_wave_domain = text_after(self.text.as_str(), '/');
+        let wavelet = text_after(after_wave_domain, '/');
         text_before(wavelet, '/')
     }
 

@@ -40,8 +40,8 @@ use Rattle.wavelet_op.proofs.Maps.{same_text_is}
 use Rattle.delta_history.specs.Histories.{HistoryOf, IsGrown, head_of}
 use Rattle.delta_history.specs.Legal.{IsLegal, IsLegalFrom}
 use Rattle.delta_history.specs.Points.{Point, start, acts_of, end_of}
-use Rattle.delta_history.proofs.Chains.{legal_behind}
-use Rattle.delta_history.proofs.Points.{behind_point, replay_more}
+use Rattle.delta_history.proofs.Chains.{legal_after}
+use Rattle.delta_history.proofs.Points.{after_point, replay_more}
 use Rattle.wave_index.specs.Blips.{manifest}
 use Rattle.wave_index.specs.Counts.{counted, counts_in, touched_words, touched, moved, CountsAs, IsOf}
 use Rattle.wave_index.specs.Edges.{untouched, both, edges_of, is_on, edges_over, edges_in, is_mutated, is_first, IsApartAt}
@@ -233,8 +233,8 @@ no_histories w n d = sym (ap (λ (o : Option TakenOf). option_map_or (λ t. coun
 pub next_state : (h k : HistoryOf) (d : DeltaOf) → IsLegal k.name k.deltas → IsGrown h d k → run (head_of h).state (acts_of d) ≡ Some (head_of k).state
 next_state h k d l g =
     let whole : IsLegalFrom h.name [] (h.deltas ++ d ∷ []) = subst (λ (n : List ℕ). IsLegalFrom n [] (h.deltas ++ d ∷ [])) g.name (subst (λ (ds : List DeltaOf). IsLegalFrom k.name [] ds) g.deltas l) in
-    let n = (legal_behind h.name [] h.deltas (d ∷ []) whole).0 in
-    let b = behind_point n.here n.after d n.goes in
+    let n = (legal_after h.name [] h.deltas (d ∷ []) whole).0 in
+    let b = after_point n.here n.after d n.goes in
     let before : head_of h ≡ n.here = ap (λ (o : Option Point). unwrap_or o (start h.name)) n.is_head in
     let after : head_of k ≡ n.after =
     (λ i. end_of (g.name i) (g.deltas i)) ∙ ap (λ (o : Option Point). unwrap_or o (start h.name)) (replay_more (start h.name) n.here n.after h.deltas d n.is_head n.goes) in

@@ -18,7 +18,7 @@ use Rattle.wave_base.specs.declared.fault.BaseFault.{BaseFault}
 use Rattle.wave_base.specs.declared.fault.BaseFault.TheVariants.{BadName}
 use Rattle.wavelet_op.specs.States.{State, document_of, kept}
 use Rattle.wave_index.specs.Blips.{named_items}
-use Rattle.wave_index.specs.Titles.{ends_at, shown, begun_behind, line_from, max_title, title, is_begun, is_whole}
+use Rattle.wave_index.specs.Titles.{ends_at, shown, begun_after, line_from, max_title, title, is_begun, is_whole}
 
 -- what is left of a title after some of its characters
 abbrev pub rest_of : List ℕ → List Item → List ℕ
@@ -44,7 +44,7 @@ ends : (b : Bool) (x y : List ℕ) → b ≡ true → cond b x y ≡ x
 ends true x y e = refl
 ends false x y e = absurd (true≢false (sym e))
 
-step : (t : List ℕ) (c : Content) (items : List Item) → length t ≤ max_title → (length t == max_title) ≡ false → t ++ take (max_title - length t) (shown c ++ line_from (begun_behind (is_begun t) c) items) ≡ (t ++ shown c) ++ rest_of (t ++ shown c) items
+step : (t : List ℕ) (c : Content) (items : List Item) → length t ≤ max_title → (length t == max_title) ≡ false → t ++ take (max_title - length t) (shown c ++ line_from (begun_after (is_begun t) c) items) ≡ (t ++ shown c) ++ rest_of (t ++ shown c) items
 step t (Character c) items h e =
     let some : length t < max_title = grind (arith, nat_tests, h, e) in
     let left : (max_title - length t) - 1 ≡ max_title - length (t ++ c ∷ []) = omega (arith, length_more t c) in

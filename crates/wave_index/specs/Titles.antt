@@ -2,7 +2,7 @@
 --     is_line kind          an element of this type begins a line
 --     ends_at begun c       the line ends before this content, where it has a character already
 --     shown c               the characters that a content adds
---     begun_behind begun c  whether the line has a character after the content
+--     begun_after begun c  whether the line has a character after the content
 --     line_from begun items the characters of the line that is left of these items
 --     max_title             how many characters a title has at most
 --     title items           the title
@@ -28,14 +28,14 @@ shown (Character c) = c ∷ []
 shown (Start kind m) = []
 shown End = []
 
-abbrev pub begun_behind : Bool → Content → Bool
-begun_behind begun (Character c) = true
-begun_behind begun (Start kind m) = begun
-begun_behind begun End = begun
+abbrev pub begun_after : Bool → Content → Bool
+begun_after begun (Character c) = true
+begun_after begun (Start kind m) = begun
+begun_after begun End = begun
 
 abbrev pub line_from : Bool → List Item → List ℕ
 line_from begun [] = []
-line_from begun (i ∷ items) = cond (ends_at begun i.content) [] (shown i.content ++ line_from (begun_behind begun i.content) items)
+line_from begun (i ∷ items) = cond (ends_at begun i.content) [] (shown i.content ++ line_from (begun_after begun i.content) items)
 
 abbrev pub max_title : ℕ
 max_title = 80

@@ -17,7 +17,7 @@ use Rattle.wavelet_state.specs.Inverses.{inverse_acts}
 use Rattle.wavelet_state.proofs.Inverses.{acts_back_law}
 use Rattle.delta_history.specs.Points.{Point, start, acts_of, next_point, replay, end_of}
 use Rattle.delta_history.proofs.Finding.{legal_end}
-use Rattle.delta_history.proofs.Points.{behind_point, replay_append}
+use Rattle.delta_history.proofs.Points.{after_point, replay_append}
 use Rattle.wave_playback.specs.Laws.{inverses, run_each, LeadBack}
 
 each_append : (s : State) (xs ys : List (List Act)) → run_each s (xs ++ ys) ≡ option_and_then (λ t. run_each t ys) (run_each s xs)
@@ -36,7 +36,7 @@ whole_behind : (p q : Point) (ds : List DeltaOf) → IsWhole p.state → replay 
 whole_behind p q [] w e = subst (λ (z : Point). IsWhole z.state) (same_Some e) w
 whole_behind p q (d ∷ ds) w e =
     let m = and_then_some (next_point p d) (λ z. replay z ds) q e in
-    let a = behind_point p m.0 d m.1 in
+    let a = after_point p m.0 d m.1 in
     whole_behind m.0 q ds (subst IsWhole (sym a.same) (states_hold p.state a.state (acts_of d) w a.goes)) m.2
 
 -- ---- from a point to the one before
@@ -45,7 +45,7 @@ led_back : (p q : Point) (ds : List DeltaOf) → IsWhole p.state → replay p ds
 led_back p q [] w e = ap (λ (z : Point). Some z.state) (sym (same_Some e))
 led_back p q (d ∷ ds) w e =
     let m = and_then_some (next_point p d) (λ z. replay z ds) q e in
-    let a = behind_point p m.0 d m.1 in
+    let a = after_point p m.0 d m.1 in
     let goes : run p.state (acts_of d) ≡ Some m.0.state = a.goes ∙ ap (λ s. Some s) (sym a.same) in
     let whole = states_hold p.state m.0.state (acts_of d) w goes in
     let rest = led_back m.0 q ds whole m.2 in

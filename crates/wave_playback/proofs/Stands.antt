@@ -26,8 +26,8 @@ use Rattle.delta_history.specs.Places.{started_below, from_or, if_at, count_at}
 use Rattle.delta_history.specs.Points.{Point, start, acts_of, next_point, replay, run_all, end_of}
 use Rattle.delta_history.proofs.Chains.{starts_at, goes_from, some_ops}
 use Rattle.delta_history.proofs.Finding.{rising, at_start, behind_start, started_within, state_is, front_runs, legal_end}
-use Rattle.delta_history.proofs.Points.{and_then_is, behind_point, replay_more, run_some}
-use Rattle.state_cache.specs.States.{state_behind}
+use Rattle.delta_history.proofs.Points.{and_then_is, after_point, replay_more, run_some}
+use Rattle.state_cache.specs.States.{state_after}
 use Rattle.state_cache.proofs.Runs.{run_all_append, split}
 use Rattle.wave_playback.specs.Places.{version_at, IsThere, IsBack, AreBacks}
 use Rattle.wave_playback.specs.Playing.{PlaybackOf, shown_at, next_end, last_of, last_start, at_version, moved, forward, back, sought}
@@ -42,7 +42,7 @@ ending_from : (name : List ℕ) (b ds : List DeltaOf) (p q : Point) (k : ℕ) (d
 ending_from name b [] p q k d l e r h = no_value h
 ending_from name b (x ∷ ds) p q zero d l e r h =
     let z = goes_from name b x p e l.0 in
-    let a = behind_point p l.0.after x z in
+    let a = after_point p l.0.after x z in
     let from = ap (λ (y : VersionAt). y.version) (starts_at name b x p e l.0) in
     let rest : replay l.0.after ds ≡ Some q = sym (and_then_is (next_point p x) (λ y. replay y ds) l.0.after z) ∙ r in
     let next = first_from name (b ++ x ∷ []) ds l.0.after q l.1 (replay_more (start name) p l.0.after b x e z) rest in
@@ -111,7 +111,7 @@ pub there_shown : (h : HistoryOf) (k v : ℕ) (s : State) → IsLegal h.name h.d
 there_shown h k v s l t =
     state_is h.name h.deltas v l ∙ ap (option_and_then (λ (j : ℕ). run_all empty_state (take j h.deltas))) (count_is h k v l t.within t.version) ∙ t.state
 
-pub counted_shown : (h : HistoryOf) (k v : ℕ) (s : State) → IsLegal h.name h.deltas → count_at v (head_of h).at h.deltas ≡ Some k → state_behind h.deltas k ≡ Some s → shown_at h v ≡ Some s
+pub counted_shown : (h : HistoryOf) (k v : ℕ) (s : State) → IsLegal h.name h.deltas → count_at v (head_of h).at h.deltas ≡ Some k → state_after h.deltas k ≡ Some s → shown_at h v ≡ Some s
 counted_shown h k v s l c e = state_is h.name h.deltas v l ∙ ap (option_and_then (λ (j : ℕ). run_all empty_state (take j h.deltas))) c ∙ e
 
 pub none_shown : (h : HistoryOf) (v : ℕ) → IsLegal h.name h.deltas → count_at v (head_of h).at h.deltas ≡ None → shown_at h v ≡ None
@@ -129,34 +129,34 @@ alone s d = go (run s (acts_of d))
     go None = refl
     go (Some t) = refl
 
-pub goes_on : (h : HistoryOf) (k : ℕ) (s : State) (d : DeltaOf) → IsLegal h.name h.deltas → state_behind h.deltas k ≡ Some s → slice_get h.deltas k ≡ Some d → IsSome (run s (meanings d.ops))
+pub goes_on : (h : HistoryOf) (k : ℕ) (s : State) (d : DeltaOf) → IsLegal h.name h.deltas → state_after h.deltas k ≡ Some s → slice_get h.deltas k ≡ Some d → IsSome (run s (meanings d.ops))
 goes_on h k s d l e at =
     let whole = subst (λ z. IsSome (run_all empty_state z)) (one_more h.deltas k d at) (front_runs h.name h.deltas (suc k) l) in
     let x = split empty_state (take k h.deltas) (d ∷ []) whole in
     let y : IsSome (run_all s (d ∷ [])) = subst (λ z. IsSome (run_all z (d ∷ []))) (same_Some (sym x.leads ∙ e)) x.rest in
     subst IsSome (alone s d) y
 
-pub next_state : (ds : List DeltaOf) (k : ℕ) (s : State) (d : DeltaOf) → state_behind ds k ≡ Some s → slice_get ds k ≡ Some d → state_behind ds (suc k) ≡ run s (meanings d.ops)
+pub next_state : (ds : List DeltaOf) (k : ℕ) (s : State) (d : DeltaOf) → state_after ds k ≡ Some s → slice_get ds k ≡ Some d → state_after ds (suc k) ≡ run s (meanings d.ops)
 next_state ds k s d e at =
     ap (run_all empty_state) (one_more ds k d at) ∙ run_all_append empty_state (take k ds) (d ∷ []) ∙ ap (option_and_then (λ t. run_all t (d ∷ []))) e ∙ alone s d
 
 -- ---- a delta back
 
 -- the state before a delta leads to the one after it, to which the kept inverse applies
-pub before_some : (h : HistoryOf) (k : ℕ) → IsLegal h.name h.deltas → (s : State) × (state_behind h.deltas k ≡ Some s)
-before_some h k l = go (state_behind h.deltas k) refl (front_runs h.name h.deltas k l)
+pub before_some : (h : HistoryOf) (k : ℕ) → IsLegal h.name h.deltas → (s : State) × (state_after h.deltas k ≡ Some s)
+before_some h k l = go (state_after h.deltas k) refl (front_runs h.name h.deltas k l)
   where
-    go : (o : Option State) → state_behind h.deltas k ≡ o → IsSome (state_behind h.deltas k) → (s : State) × (state_behind h.deltas k ≡ Some s)
+    go : (o : Option State) → state_after h.deltas k ≡ o → IsSome (state_after h.deltas k) → (s : State) × (state_after h.deltas k ≡ Some s)
     go (Some s) e i = (s, e)
     go None e i = absurd (true≢false (sym i ∙ ap is_some e))
 
 pub back_applies : (h : HistoryOf) (backs : List (Option (List WaveletOp))) (k : ℕ) (ops : List WaveletOp) (t : State) → IsLegal h.name h.deltas → AreBacks h.deltas backs
-    → slice_get backs k ≡ Some (Some ops) → state_behind h.deltas (suc k) ≡ Some t → run t (meanings ops) ≡ state_behind h.deltas k
+    → slice_get backs k ≡ Some (Some ops) → state_after h.deltas (suc k) ≡ Some t → run t (meanings ops) ≡ state_after h.deltas k
 back_applies h backs k ops t l a e at =
     let s = before_some h k l in
     a k (Some ops) e s.0 t s.1 at ∙ sym s.1
 
-pub is_back : (ds : List DeltaOf) (k : ℕ) (d : DeltaOf) (o : Option (List WaveletOp)) (s t : State) → state_behind ds k ≡ Some s → slice_get ds k ≡ Some d → run s (meanings d.ops) ≡ Some t
+pub is_back : (ds : List DeltaOf) (k : ℕ) (d : DeltaOf) (o : Option (List WaveletOp)) (s t : State) → state_after ds k ≡ Some s → slice_get ds k ≡ Some d → run s (meanings d.ops) ≡ Some t
     → IfSome o (λ ops. run t (meanings ops) ≡ Some s) → IsBack ds k o
 is_back ds k d None s t e at goes b = tt
 is_back ds k d (Some ops) s t e at goes b = λ x y ex ey.
@@ -175,7 +175,7 @@ kept_more ds backs o k a n b j p e = last_of_more backs o p j (λ i q. IsBack ds
 
 -- ---- the ends
 
-pub head_state : (h : HistoryOf) → IsLegal h.name h.deltas → state_behind h.deltas (length h.deltas) ≡ Some (head_of h).state
+pub head_state : (h : HistoryOf) → IsLegal h.name h.deltas → state_after h.deltas (length h.deltas) ≡ Some (head_of h).state
 head_state h l = ap (run_all empty_state) (take_all (length h.deltas) h.deltas (le_refl _)) ∙ run_some (start h.name) (head_of h) h.deltas (legal_end h.name h.deltas l)
 
 -- ---- as the code has it
@@ -183,7 +183,7 @@ head_state h l = ap (run_all empty_state) (take_all (length h.deltas) h.deltas (
 pub got_at : (xs ys : List DeltaOf) (k : ℕ) (d : DeltaOf) → xs ≡ ys → k < length ys → d ≡ get_or xs k d → slice_get ys k ≡ Some d
 got_at xs ys k d e h is = subst (λ z. slice_get z k ≡ Some d) e (slice_get_read xs (length xs) k d refl (subst (λ z. k < length z) (sym e) h) is)
 
-pub start_shown : (h : HistoryOf) (k : ℕ) → IsLegal h.name h.deltas → k ≤ length h.deltas → shown_at h (version_at h k) ≡ state_behind h.deltas k
+pub start_shown : (h : HistoryOf) (k : ℕ) → IsLegal h.name h.deltas → k ≤ length h.deltas → shown_at h (version_at h k) ≡ state_after h.deltas k
 start_shown h k l w = state_is h.name h.deltas (version_at h k) l ∙ ap (option_and_then (λ (j : ℕ). run_all empty_state (take j h.deltas))) (count_is h k (version_at h k) l w refl)
 
 pub never_lost : (h : HistoryOf) (k : ℕ) (o : Option State) → IsLegal h.name h.deltas → k ≤ length h.deltas → o ≡ shown_at h (version_at h k) → o ≡ None → ⊥
@@ -191,18 +191,18 @@ never_lost h k o l w is none =
     let s = before_some h k l in
     no_value (sym (sym s.1 ∙ sym (start_shown h k l w) ∙ sym is ∙ none))
 
-pub next_at : (ds : List DeltaOf) (k : ℕ) (s t : State) (d : DeltaOf) → state_behind ds k ≡ Some s → slice_get ds k ≡ Some d → run s (meanings d.ops) ≡ Some t → state_behind ds (k + 1) ≡ Some t
+pub next_at : (ds : List DeltaOf) (k : ℕ) (s t : State) (d : DeltaOf) → state_after ds k ≡ Some s → slice_get ds k ≡ Some d → run s (meanings d.ops) ≡ Some t → state_after ds (k + 1) ≡ Some t
 next_at ds k s t d e at goes =
     let one : suc k ≡ k + 1 = omega arith in
-    subst (λ n. state_behind ds n ≡ Some t) one (next_state ds k s d e at ∙ goes)
+    subst (λ n. state_after ds n ≡ Some t) one (next_state ds k s d e at ∙ goes)
 
 pub back_at : (h : HistoryOf) (backs : List (Option (List WaveletOp))) (k : ℕ) (ops : List WaveletOp) (t : State) → IsLegal h.name h.deltas → AreBacks h.deltas backs → 0 < k
-    → slice_get backs (k - 1) ≡ Some (Some ops) → state_behind h.deltas k ≡ Some t → run t (meanings ops) ≡ state_behind h.deltas (k - 1)
+    → slice_get backs (k - 1) ≡ Some (Some ops) → state_after h.deltas k ≡ Some t → run t (meanings ops) ≡ state_after h.deltas (k - 1)
 back_at h backs k ops t l a some e at =
     let one : k ≡ suc (k - 1) = omega (arith, some) in
-    back_applies h backs (k - 1) ops t l a e (subst (λ n. state_behind h.deltas n ≡ Some t) one at)
+    back_applies h backs (k - 1) ops t l a e (subst (λ n. state_after h.deltas n ≡ Some t) one at)
 
-pub back_goes : (h : HistoryOf) (k : ℕ) (t : State) (o : Option State) → IsLegal h.name h.deltas → o ≡ state_behind h.deltas k → IsSome o
+pub back_goes : (h : HistoryOf) (k : ℕ) (t : State) (o : Option State) → IsLegal h.name h.deltas → o ≡ state_after h.deltas k → IsSome o
 back_goes h k t o l e = ap is_some (e ∙ (before_some h k l).1)
 
 -- ---- versions that are counted
@@ -218,7 +218,7 @@ counted h k v e = go (version_at h (started_below v h.deltas) == v) refl e
         (subst (λ j. version_at h j ≡ v) same ((Decides-eqb (version_at h (started_below v h.deltas)) v).0 is), omega (arith, same, within))
     go false is c = no_value c
 
-pub counted_there : (h : HistoryOf) (k v : ℕ) (s : State) → IsLegal h.name h.deltas → count_at v (head_of h).at h.deltas ≡ Some k → state_behind h.deltas k ≡ Some s → IsThere h k v s
+pub counted_there : (h : HistoryOf) (k v : ℕ) (s : State) → IsLegal h.name h.deltas → count_at v (head_of h).at h.deltas ≡ Some k → state_after h.deltas k ≡ Some s → IsThere h k v s
 counted_there h k v s l c e = let x = counted h k v c in record { legal = l; within = x.1; version = x.0; state = e }
 
 head_version : (h : HistoryOf) → version_at h (length h.deltas) ≡ (head_of h).at.version
@@ -301,7 +301,7 @@ pub record IsSought (p : PlaybackOf) (v : ℕ) (went : Bool) (q : PlaybackOf) : 
   pub ok : (went, q) ≡ sought p v
   pub end : went ≡ is_some (shown_at p.history v)
 
-pub goes_to : (p : PlaybackOf) (k v : ℕ) (s : State) → IsLegal p.history.name p.history.deltas → count_at v (head_of p.history).at p.history.deltas ≡ Some k → state_behind p.history.deltas k ≡ Some s → IsSought p v true (at_version p.history v)
+pub goes_to : (p : PlaybackOf) (k v : ℕ) (s : State) → IsLegal p.history.name p.history.deltas → count_at v (head_of p.history).at p.history.deltas ≡ Some k → state_after p.history.deltas k ≡ Some s → IsSought p v true (at_version p.history v)
 goes_to p k v s l c e =
     let shown = counted_shown p.history k v s l c e in
     record { ok = sym (ap (λ o. moved p (option_map (λ (x : State). v) o)) shown); end = sym (ap is_some shown) }

@@ -11,7 +11,7 @@ use Rattle.wavelet_op.specs.declared.op.WaveletOp.{WaveletOp}
 use Rattle.delta_history.specs.Histories.{HistoryOf, head_of}
 use Rattle.delta_history.specs.Legal.{IsLegal}
 use Rattle.delta_history.specs.Places.{from_or}
-use Rattle.state_cache.specs.States.{state_behind}
+use Rattle.state_cache.specs.States.{state_after}
 
 abbrev pub version_at : HistoryOf → ℕ → ℕ
 version_at h k = (from_or (head_of h).at (slice_get h.deltas k)).version
@@ -20,10 +20,10 @@ pub record IsThere (h : HistoryOf) (k v : ℕ) (s : State) : Type 0 where
   pub legal : IsLegal h.name h.deltas
   pub within : k ≤ length h.deltas
   pub version : version_at h k ≡ v
-  pub state : state_behind h.deltas k ≡ Some s
+  pub state : state_after h.deltas k ≡ Some s
 
 abbrev pub IsBack : List DeltaOf → ℕ → Option (List WaveletOp) → Type 0
-IsBack ds k o = IfSome o (λ ops. (s t : State) → state_behind ds k ≡ Some s → state_behind ds (suc k) ≡ Some t → run t (meanings ops) ≡ Some s)
+IsBack ds k o = IfSome o (λ ops. (s t : State) → state_after ds k ≡ Some s → state_after ds (suc k) ≡ Some t → run t (meanings ops) ≡ Some s)
 
 abbrev pub AreBacks : List DeltaOf → List (Option (List WaveletOp)) → Type 0
 AreBacks ds backs = (k : ℕ) (o : Option (List WaveletOp)) → slice_get backs k ≡ Some o → IsBack ds k o

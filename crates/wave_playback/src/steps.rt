@@ -3,7 +3,7 @@ ghost use Rattle.std.specs.Prelude.{◌≡◌, ◌<◌, ◌≤◌, ◌+◌, ◌-
 ghost use Rattle.std.specs.Vec.{vec_len, vec_capacity};
 ghost use Rattle.wavelet_op.specs.Acts.{meanings};
 ghost use Rattle.wavelet_op.specs.States.{run};
-ghost use Rattle.state_cache.specs.States.{state_behind};
+ghost use Rattle.state_cache.specs.States.{state_after};
 ghost use Rattle.wave_playback.specs.Places.{AreBacks};
 
 use crate::places::version_at;
@@ -30,7 +30,7 @@ fn lead_on(alloc: Global, state: &mut WaveletState, ops: &Ops) -> Result<(), Mem
     }
 }
 
-// So it is; and what takes them back.
+// The state is after the operations, which are valid there; the answer is what takes them back.
 fn lead_on_inverting(
     alloc: Global,
     state: &mut WaveletState,
@@ -68,10 +68,10 @@ fn step_first(
     backs: &mut Backs,
 ) -> Result<(), Memory>
     requires inside { place < length history.now.deltas }
-    requires here { state_behind history.now.deltas place ≡ Some state.old }
+    requires here { state_after history.now.deltas place ≡ Some state.old }
     requires backs { AreBacks history.now.deltas backs.old.items }
     requires next { length backs.old.items ≡ place }
-    ensures ok { OnOk result (state_behind history.now.deltas (place + 1) ≡ Some state.new) }
+    ensures ok { OnOk result (state_after history.now.deltas (place + 1) ≡ Some state.new) }
     ensures kept { OnErr result (state.new ≡ state.old) }
     ensures backs { AreBacks history.now.deltas backs.new.items }
     ensures longer { length backs.old.items ≤ length backs.new.items }
@@ -92,8 +92,8 @@ fn step_again(
     state: &mut WaveletState,
 ) -> Result<(), Memory>
     requires inside { place < length history.now.deltas }
-    requires here { state_behind history.now.deltas place ≡ Some state.old }
-    ensures ok { OnOk result (state_behind history.now.deltas (place + 1) ≡ Some state.new) }
+    requires here { state_after history.now.deltas place ≡ Some state.old }
+    ensures ok { OnOk result (state_after history.now.deltas (place + 1) ≡ Some state.new) }
     ensures kept { OnErr result (state.new ≡ state.old) }
 {
     let delta = &history.deltas()[place];
@@ -110,10 +110,10 @@ pub(crate) fn step_on(
     backs: &mut Backs,
 ) -> Result<(), Memory>
     requires inside { place < length history.now.deltas }
-    requires here { state_behind history.now.deltas place ≡ Some state.old }
+    requires here { state_after history.now.deltas place ≡ Some state.old }
     requires backs { AreBacks history.now.deltas backs.old.items }
     requires reached { place ≤ length backs.old.items }
-    ensures ok { OnOk result (state_behind history.now.deltas (place + 1) ≡ Some state.new) }
+    ensures ok { OnOk result (state_after history.now.deltas (place + 1) ≡ Some state.new) }
     ensures kept { OnErr result (state.new ≡ state.old) }
     ensures backs { AreBacks history.now.deltas backs.new.items }
     ensures longer { length backs.old.items ≤ length backs.new.items }
@@ -132,7 +132,7 @@ pub(crate) fn replayed(
     place: usize,
 ) -> Result<WaveletState, Memory>
     requires { place ≤ length history.now.deltas }
-    ensures { IfOk result (λ s. state_behind history.now.deltas place ≡ Some s) }
+    ensures { IfOk result (λ s. state_after history.now.deltas place ≡ Some s) }
 {
     // The history is legal.
     let _deltas = history.deltas();
@@ -153,10 +153,10 @@ pub(crate) fn step_back(
 ) -> Result<(), Memory>
     requires some { 0 < place }
     requires inside { place ≤ length history.now.deltas }
-    requires here { state_behind history.now.deltas place ≡ Some state.old }
+    requires here { state_after history.now.deltas place ≡ Some state.old }
     requires backs { AreBacks history.now.deltas backs.now.items }
     requires reached { place ≤ length backs.now.items }
-    ensures ok { OnOk result (state_behind history.now.deltas (place - 1) ≡ Some state.new) }
+    ensures ok { OnOk result (state_after history.now.deltas (place - 1) ≡ Some state.new) }
     ensures kept { OnErr result (state.new ≡ state.old) }
 {
     // The history is legal.

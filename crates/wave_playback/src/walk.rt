@@ -1,6 +1,6 @@
 // Many deltas on, or back.
 ghost use Rattle.std.specs.Prelude.{◌≡◌, ◌≤◌, length, Some, IfOk, OnOk, OnErr};
-ghost use Rattle.state_cache.specs.States.{state_behind};
+ghost use Rattle.state_cache.specs.States.{state_after};
 ghost use Rattle.wave_playback.specs.Places.{AreBacks};
 
 use crate::steps::{Backs, replayed, step_back, step_on};
@@ -20,10 +20,10 @@ fn walk_on(
 ) -> Result<(), Memory>
     requires order { from ≤ to }
     requires inside { to ≤ length history.now.deltas }
-    requires here { state_behind history.now.deltas from ≡ Some state.old }
+    requires here { state_after history.now.deltas from ≡ Some state.old }
     requires backs { AreBacks history.now.deltas backs.old.items }
     requires reached { from ≤ length backs.old.items }
-    ensures ok { OnOk result (state_behind history.now.deltas to ≡ Some state.new) }
+    ensures ok { OnOk result (state_after history.now.deltas to ≡ Some state.new) }
     ensures backs { AreBacks history.now.deltas backs.new.items }
     ensures longer { length backs.old.items ≤ length backs.new.items }
     ensures reached { OnOk result (to ≤ length backs.new.items) }
@@ -45,10 +45,10 @@ fn walk_back(
 ) -> Result<(), Memory>
     requires order { to ≤ from }
     requires inside { from ≤ length history.now.deltas }
-    requires here { state_behind history.now.deltas from ≡ Some state.old }
+    requires here { state_after history.now.deltas from ≡ Some state.old }
     requires backs { AreBacks history.now.deltas backs.now.items }
     requires reached { from ≤ length backs.now.items }
-    ensures ok { OnOk result (state_behind history.now.deltas to ≡ Some state.new) }
+    ensures ok { OnOk result (state_after history.now.deltas to ≡ Some state.new) }
 {
     let mut place = from;
     while place > to {
@@ -69,10 +69,10 @@ fn from_here(
 ) -> Result<WaveletState, Memory>
     requires from { from ≤ length history.now.deltas }
     requires to { to ≤ length history.now.deltas }
-    requires here { state_behind history.now.deltas from ≡ Some shown.now }
+    requires here { state_after history.now.deltas from ≡ Some shown.now }
     requires backs { AreBacks history.now.deltas backs.old.items }
     requires reached { from ≤ length backs.old.items }
-    ensures ok { IfOk result (λ s. state_behind history.now.deltas to ≡ Some s) }
+    ensures ok { IfOk result (λ s. state_after history.now.deltas to ≡ Some s) }
     ensures backs { AreBacks history.now.deltas backs.new.items }
     ensures longer { length backs.old.items ≤ length backs.new.items }
     ensures reached { OnOk result (to ≤ length backs.new.items) }
@@ -97,7 +97,7 @@ fn from_head(
     requires to { to ≤ length history.now.deltas }
     requires backs { AreBacks history.now.deltas backs.now.items }
     requires reached { length history.now.deltas ≤ length backs.now.items }
-    ensures ok { IfOk result (λ s. state_behind history.now.deltas to ≡ Some s) }
+    ensures ok { IfOk result (λ s. state_after history.now.deltas to ≡ Some s) }
 {
     let all = history.deltas().len();
     let mut state = history.state().copy(alloc)?;
@@ -117,10 +117,10 @@ fn reach(
 ) -> Result<WaveletState, Memory>
     requires from { from ≤ length history.now.deltas }
     requires to { to ≤ length history.now.deltas }
-    requires here { state_behind history.now.deltas from ≡ Some shown.now }
+    requires here { state_after history.now.deltas from ≡ Some shown.now }
     requires backs { AreBacks history.now.deltas backs.old.items }
     requires reached { from ≤ length backs.old.items }
-    ensures ok { IfOk result (λ s. state_behind history.now.deltas to ≡ Some s) }
+    ensures ok { IfOk result (λ s. state_after history.now.deltas to ≡ Some s) }
     ensures backs { AreBacks history.now.deltas backs.new.items }
     ensures longer { length backs.old.items ≤ length backs.new.items }
     ensures reached { OnOk result (to ≤ length backs.new.items) }
@@ -148,10 +148,10 @@ pub(crate) fn go(
 ) -> Result<(), Memory>
     requires from { from ≤ length history.now.deltas }
     requires to { to ≤ length history.now.deltas }
-    requires here { state_behind history.now.deltas from ≡ Some state.old }
+    requires here { state_after history.now.deltas from ≡ Some state.old }
     requires backs { AreBacks history.now.deltas backs.old.items }
     requires reached { from ≤ length backs.old.items }
-    ensures ok { OnOk result (state_behind history.now.deltas to ≡ Some state.new) }
+    ensures ok { OnOk result (state_after history.now.deltas to ≡ Some state.new) }
     ensures kept { OnErr result (state.new ≡ state.old) }
     ensures backs { AreBacks history.now.deltas backs.new.items }
     ensures longer { length backs.old.items ≤ length backs.new.items }

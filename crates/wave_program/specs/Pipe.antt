@@ -5,7 +5,7 @@
 --     IsLeftOf a b ts us      a run over the shelf a answered the turns ts, and tried us: the histories are those of before that or those
 --                             it leads to, each file stands for one of the two, files and containers came for names alone that have
 --                             a delta, and the file of a name that has none yet is as it was, or emptied, where it is no container's
---     IsOver                  a run over a shelf: what it read and wrote, and the shelf before and behind it
+--     IsOver                  a run over a shelf: what it read and wrote, and the shelf before and after it
 use Rattle.std.specs.Prelude.{◌≡◌, ◌⊎◌, ℕ, List, [], ◌∷◌, ◌++◌, Option, IfSome, true}
 use Rattle.doc_items.specs.Maps.{Key}
 use Rattle.disk_model.specs.declared.disk.Disk as disk_of
@@ -50,10 +50,10 @@ module _ {F D K : Type 0} {folder : folder_of.Ghosts F D} {disk : disk_of.Ghosts
   pub record IsOver (a b : Shelf F D folder disk) (was : K) (left0 left1 held0 held1 : Option (List ℕ)) (status : ℕ) : Type 0 where
     pub known : IsServing status
     pub run : IsRun clock (answers_over (hosted_of a)) was left0 left1 held0 held1 status
-    -- what was tried behind the turns that were answered, if anything
+    -- what was tried after the turns that were answered, if anything
     pub tried : List Turn
     pub lines : IsPrefix (lines_in run.turns ++ lines_in tried) (turned true run.read)
-    -- the shelf behind them
+    -- the shelf after them
     pub moved : IsMoved (submitted_in (run.turns ++ tried)) a b
     pub left : IsLeftOf a b run.turns tried
     pub grown : (n : Key) → Begins (deltas_in (hosted_after (hosted_of a) run.turns) n) (deltas_in (hosted_of b) n)

@@ -17,7 +17,7 @@
 --     IsLoaded a m              the shelf m is a with its files loaded
 --     IsClosed a g              the disks of the shelf a were put back into the folder g
 --     IsShelfUnloaded, IsShelfRun   what follows, over shelves
---     entered_at folder path f  the paths that the folder f was to enter, and this one behind them
+--     entered_at folder path f  the paths that the folder f was to enter, and this one after them
 --     AreStanding f hs loaded   the files of the folder f stand for these histories, whose names ascend, and those of these names were
 --                               loaded
 --     IsStoredRun               lines answered over the files of a folder, by whose end these paths were entered
@@ -171,7 +171,7 @@ abbrev pub entered_at : {F D : Type 0} → folder_of.Ghosts F D → List ℕ →
 entered_at folder path f = (one_entered path (folder.log f)).entries
 
 module _ {F D : Type 0} (folder : folder_of.Ghosts F D) (disk : disk_of.Ghosts D) where
-  -- the folder before and behind it; the sink's count of faults comes last
+  -- the folder before and after it; the sink's count of faults comes last
   pub record IsUnloaded (entries : List Entry) (f g : F) (held0 held1 : Option (List ℕ)) (before now : ℕ) (status : ℕ) : Type 0 where
     pub known : (status ≡ 5) ⊎ ((status ≡ 6) ⊎ (status ≡ 8))
     pub silent : (status ≡ 5) ⊎ (status ≡ 8) → held1 ≡ held0
@@ -189,7 +189,7 @@ module _ {F D : Type 0} (folder : folder_of.Ghosts F D) (disk : disk_of.Ghosts D
     pub sound : (m : List ℕ) → IsSound disk.view (folder.files f m) m
     pub apart : AreApartIn (λ n. loaded n ≡ true)
 
-  -- the folder before and behind it
+  -- the folder before and after it
   pub record IsStoredRun {K : Type 0} (clock : clock_of.Ghosts K) (entries : List Entry) (f g : F) (was : K)
       (left0 left1 held0 held1 : Option (List ℕ)) (status : ℕ) : Type 0 where
     -- the histories for which the files stand, and the names whose files were loaded
@@ -200,7 +200,7 @@ module _ {F D : Type 0} (folder : folder_of.Ghosts F D) (disk : disk_of.Ghosts D
     -- what was read and written
     pub known : IsServing status
     pub run : IsRun clock (answers_over hosted) was left0 left1 held0 held1 status
-    -- what was tried behind the turns that were answered, if anything
+    -- what was tried after the turns that were answered, if anything
     pub tried : List Turn
     pub lines : IsPrefix (lines_in run.turns ++ lines_in tried) (turned true run.read)
     -- whatever was sent stands in the histories, and these in the files: just these, where no turn failed

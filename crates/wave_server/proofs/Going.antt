@@ -1,5 +1,5 @@
 -- How a server goes on from turn to turn.
---     drop_front, returned_more     what was put back since, with more behind it
+--     drop_front, returned_more     what was put back since, with more after it
 --     going_put        one more link was put back, and its session is noted
 --     going_unkept     one more link was put back, and nothing is noted
 --     going_more       the one or the other

@@ -27,7 +27,7 @@ use Rattle.follower_rules.specs.Followers.{ClientOf, client_of, same_client, Fli
 use Rattle.follower_rules.specs.Laws.{IsPlace, IsSound, AreOwn}
 use Rattle.follower_rules.specs.Receiving.{is_within, receive_gap, receive_old, receive}
 use Rattle.follower_rules.specs.Submitting.{queued, edit, sent_by, submitting}
-use Rattle.follower_rules.proofs.Advances.{IsAdvance, advance_is, place_behind}
+use Rattle.follower_rules.proofs.Advances.{IsAdvance, advance_is, place_after}
 use Rattle.follower_rules.proofs.Gathers.{IsGathered, gathered, IsSubmitting, submitting_is_sound}
 use Rattle.follower_rules.proofs.Sounds.{new_is_sound, edit_is_sound, edited_is, dropped_is_sound}
 use Rattle.wave_world.specs.Texts.{AreTextActs, AreTextEntries}
@@ -67,7 +67,7 @@ place_from name b (x ∷ xs) p q l e h r =
     let n = l.0 in
     let z = goes_from name b x p e n in
     let rest : replay n.after xs ≡ Some q = sym (and_then_is (next_point p x) (λ y. replay y xs) n.after z) ∙ r in
-    place_from name (b ++ x ∷ []) xs n.after q l.1 (replay_more (start name) p n.after b x e z) (place_behind p n.after x h z n.held) rest
+    place_from name (b ++ x ∷ []) xs n.after q l.1 (replay_more (start name) p n.after b x e z) (place_after p n.after x h z n.held) rest
 
 pub place_at : (name : Key) (h : List DeltaOf) (p : Point) → IsLegal name h → IsAt name h p → IsPlace p
 place_at name h p l a =

@@ -1,5 +1,5 @@
 -- Where deltas stand in a legal history, and what stays as it grows.
---     below, above          a delta before a point starts below it, one behind it there or above
+--     below, above          a delta before a point starts below it, one after it there or above
 --     IsHere, find_at, find_here    a delta that starts at the version of a point comes next there
 --     next_at, at_more, passed_more, kept_more    points, passes and what is kept, as the history grows
 --     IsAnswer, IsBased, IsFrom, IsFlying     messages, submissions, deltas and flights that agree with the history
@@ -18,9 +18,9 @@ use Rattle.delta_history.specs.declared.kept.Kept.{Kept}
 use Rattle.delta_history.specs.Laws.{IsKept}
 use Rattle.delta_history.specs.Legal.{IsNext, IsLegalFrom, IsLegal}
 use Rattle.delta_history.specs.Passing.{all_acts, IsPassed}
-use Rattle.delta_history.specs.Points.{Point, start, acts_of, version_behind, next_point, replay, IsAt}
-use Rattle.delta_history.proofs.Chains.{legal_front, legal_behind, starts_at, goes_from, some_ops, at_longer}
-use Rattle.delta_history.proofs.Points.{and_then_is, behind_point, replay_append, replay_more, rises}
+use Rattle.delta_history.specs.Points.{Point, start, acts_of, version_after, next_point, replay, IsAt}
+use Rattle.delta_history.proofs.Chains.{legal_front, legal_after, starts_at, goes_from, some_ops, at_longer}
+use Rattle.delta_history.proofs.Points.{and_then_is, after_point, replay_append, replay_more, rises}
 use Rattle.follower_rules.specs.Followers.{ClientOf, client_of, Flight}
 use Rattle.wave_world.specs.Worlds.{Mem, Answer}
 use Rattle.wave_world.proofs.Members.{mem_split, whole_more}
@@ -32,7 +32,7 @@ below name b [] p q l e r d m = absurd m
 below name b (x ∷ xs) p q l e r d m =
     let n = l.0 in
     let z = and_then_some (next_point p x) (λ y. replay y xs) q r in
-    let a = behind_point p z.0 x z.1 in
+    let a = after_point p z.0 x z.1 in
     let up : z.0.at.version ≤ q.at.version = rises z.0 q xs z.2 in
     let at : x.from.version ≡ p.at.version = ap (λ (y : VersionAt). y.version) (starts_at name b x p e n) in
     let some = some_ops name b x n in
@@ -45,7 +45,7 @@ above name b [] p l e d m = absurd m
 above name b (x ∷ xs) p l e d m =
     let n = l.0 in
     let z = goes_from name b x p e n in
-    let a = behind_point p n.after x z in
+    let a = after_point p n.after x z in
     let at : x.from.version ≡ p.at.version = ap (λ (y : VersionAt). y.version) (starts_at name b x p e n) in
     let first : p.at.version ≤ x.from.version = omega (arith, at) in
     let rest : (y : DeltaOf) → Mem y xs → n.after.at.version ≤ y.from.version = above name (b ++ x ∷ []) xs n.after l.1 (replay_more (start name) p n.after b x e z) in
@@ -59,34 +59,34 @@ pub record IsHere (name : Key) (h : List DeltaOf) (p : Point) (d : DeltaOf) : Ty
   pub leads : replay (start name) before ≡ Some p
   pub next : IsNext name before d
 
-find_behind : (name : Key) (b xs : List DeltaOf) (p : Point) (d : DeltaOf) → IsLegalFrom name b xs → replay (start name) b ≡ Some p → d.from.version ≡ p.at.version → Mem d xs → (rest : List DeltaOf) × (xs ≡ d ∷ rest)
-find_behind name b [] p d l e v m = absurd m
-find_behind name b (x ∷ xs) p d l e v (inl s) = (xs, ap (λ y. y ∷ xs) (sym s))
-find_behind name b (x ∷ xs) p d l e v (inr t) =
+find_after : (name : Key) (b xs : List DeltaOf) (p : Point) (d : DeltaOf) → IsLegalFrom name b xs → replay (start name) b ≡ Some p → d.from.version ≡ p.at.version → Mem d xs → (rest : List DeltaOf) × (xs ≡ d ∷ rest)
+find_after name b [] p d l e v m = absurd m
+find_after name b (x ∷ xs) p d l e v (inl s) = (xs, ap (λ y. y ∷ xs) (sym s))
+find_after name b (x ∷ xs) p d l e v (inr t) =
     let n = l.0 in
     let z = goes_from name b x p e n in
-    let a = behind_point p n.after x z in
+    let a = after_point p n.after x z in
     let u : n.after.at.version ≤ d.from.version = above name (b ++ x ∷ []) xs n.after l.1 (replay_more (start name) p n.after b x e z) d t in
     let some = some_ops name b x n in
     absurd (omega (arith, a.version, some, u, v))
 
--- it is the first behind the point
+-- it is the first after the point
 pub find_at : (name : Key) (h : List DeltaOf) (p : Point) (d : DeltaOf) (before behind : List DeltaOf) → IsLegal name h → before ++ behind ≡ h → replay (start name) before ≡ Some p → Mem d h → d.from.version ≡ p.at.version → (rest : List DeltaOf) × (behind ≡ d ∷ rest)
 find_at name h p d before behind l w e m v =
     let l' : IsLegalFrom name [] (before ++ behind) = subst (λ z. IsLegalFrom name [] z) (sym w) l in
     let m' : Mem d (before ++ behind) = subst (λ z. Mem d z) (sym w) m in
     let low = legal_front name [] before behind l' in
-    let back = legal_behind name [] before behind l' in
+    let back = legal_after name [] before behind l' in
     elim (mem_split d before behind m') [
       | inl a ↦ (let u : d.from.version < p.at.version = below name [] before (start name) p low refl e d a in absurd (omega (arith, u, v)))
-      | inr b ↦ find_behind name before behind p d back e v b
+      | inr b ↦ find_after name before behind p d back e v b
     ]
 
 pub find_here : (name : Key) (h : List DeltaOf) (p : Point) (d : DeltaOf) → IsLegal name h → IsAt name h p → Mem d h → d.from.version ≡ p.at.version → IsHere name h p d
 find_here name h p d l at m v =
     let found = find_at name h p d at.before at.behind l at.whole at.leads m v in
     let l' : IsLegalFrom name [] (at.before ++ at.behind) = subst (λ z. IsLegalFrom name [] z) (sym at.whole) l in
-    let back = legal_behind name [] at.before at.behind l' in
+    let back = legal_after name [] at.before at.behind l' in
     record {
       before = at.before;
       behind = found.0;
@@ -95,7 +95,7 @@ find_here name h p d l at m v =
       next = (subst (λ z. IsLegalFrom name at.before z) found.1 back).0;
     }
 
--- the point behind it
+-- the point after it
 pub next_at : (name : Key) (h : List DeltaOf) (p q : Point) (d : DeltaOf) → IsHere name h p d → next_point p d ≡ Some q → IsAt name h q
 next_at name h p q d f n = record {
   before = f.before ++ d ∷ [];
@@ -176,12 +176,12 @@ from_sent name h s subs d x = record { sent = x.sent; is_sent = inr x.is_sent; s
 
 -- ---- acts on their way
 
--- the hashed version behind a delta goes by the one before it and by the delta
-same_behind : (p q p' q' : Point) (d : DeltaOf) → p.at ≡ p'.at → next_point p d ≡ Some q → next_point p' d ≡ Some q' → q.at ≡ q'.at
-same_behind p q p' q' d e n n' =
-    let a = behind_point p q d n in
-    let b = behind_point p' q' d n' in
-    ap (λ (x : Point). x.at) a.is ∙ ap (λ (x : VersionAt). version_behind x d) e ∙ sym (ap (λ (x : Point). x.at) b.is)
+-- the hashed version after a delta goes by the one before it and by the delta
+same_after : (p q p' q' : Point) (d : DeltaOf) → p.at ≡ p'.at → next_point p d ≡ Some q → next_point p' d ≡ Some q' → q.at ≡ q'.at
+same_after p q p' q' d e n n' =
+    let a = after_point p q d n in
+    let b = after_point p' q' d n' in
+    ap (λ (x : Point). x.at) a.is ∙ ap (λ (x : VersionAt). version_after x d) e ∙ sym (ap (λ (x : Point). x.at) b.is)
 
 all_acts_append : (xs ys : List DeltaOf) → all_acts (xs ++ ys) ≡ all_acts xs ++ all_acts ys
 all_acts_append [] ys = refl
@@ -192,7 +192,7 @@ pub passed_on : (name : Key) (h : List DeltaOf) (b : VersionAt) (p q : Point) (d
 passed_on name h b p q d acts now g l m v n x e =
     let whole' : (x.before ++ x.between) ++ x.behind ≡ h = append_assoc x.before x.between x.behind ∙ x.whole in
     let leads : replay (start name) (x.before ++ x.between) ≡ Some x.end = replay_append (start name) x.before x.between ∙ and_then_is (replay (start name) x.before) (λ z. replay z x.between) x.base x.is_base ∙ x.is_end in
-    let l' : IsLegalFrom name (x.before ++ x.between) x.behind = legal_behind name [] (x.before ++ x.between) x.behind (subst (λ z. IsLegalFrom name [] z) (sym whole') l) in
+    let l' : IsLegalFrom name (x.before ++ x.between) x.behind = legal_after name [] (x.before ++ x.between) x.behind (subst (λ z. IsLegalFrom name [] z) (sym whole') l) in
     let found = find_at name h x.end d (x.before ++ x.between) x.behind l whole' leads m (ap (λ (z : VersionAt). z.version) (v ∙ sym x.at_end)) in
     let next : IsNext name (x.before ++ x.between) d = (subst (λ z. IsLegalFrom name (x.before ++ x.between) z) found.1 l').0 in
     let goes = goes_from name (x.before ++ x.between) d x.end leads next in
@@ -206,7 +206,7 @@ passed_on name h b p q d acts now g l m v n x e =
       is_base = x.is_base;
       at_base = x.at_base;
       is_end = replay_more x.base x.end next.after x.between d x.is_end goes;
-      at_end = same_behind x.end next.after p q d x.at_end goes n;
+      at_end = same_after x.end next.after p q d x.at_end goes n;
       passed = ap (pass acts) (all_acts_append x.between (d ∷ [])) ∙ pass_appends acts (all_acts x.between) (all_acts (d ∷ [])) ∙ and_then_is (pass acts (all_acts x.between)) (λ o. pass o (all_acts (d ∷ []))) now x.passed ∙ and_then_is (grid now (acts_of d)) (λ z. pass z.0 []) g e;
     }
 
@@ -214,7 +214,7 @@ passed_on name h b p q d acts now g l m v n x e =
 pub fresh_on : (name : Key) (h : List DeltaOf) (p q : Point) (d : DeltaOf) (i : IdOf) → IsLegal name h → IsHere name h p d → next_point p d ≡ Some q → (d.id ≡ i → ⊥) → ((e : DeltaOf) → Mem e h → e.from.version < p.at.version → e.id ≡ i → ⊥) → (e : DeltaOf) → Mem e h → e.from.version < q.at.version → e.id ≡ i → ⊥
 fresh_on name h p q d i l f n other old e m v same =
     let l' : IsLegalFrom name [] (f.before ++ d ∷ f.behind) = subst (λ z. IsLegalFrom name [] z) (sym f.whole) l in
-    let back : IsLegalFrom name f.before (d ∷ f.behind) = legal_behind name [] f.before (d ∷ f.behind) l' in
+    let back : IsLegalFrom name f.before (d ∷ f.behind) = legal_after name [] f.before (d ∷ f.behind) l' in
     let led = replay_more (start name) p q f.before d f.leads n in
     go l' back led (mem_split e f.before (d ∷ f.behind) (subst (λ z. Mem e z) (sym f.whole) m))
   where

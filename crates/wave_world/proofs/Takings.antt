@@ -8,7 +8,7 @@ use Rattle.wave_base.proofs.Same.{same_version-refl}
 use Rattle.wavelet_op.specs.Deltas.{DeltaOf}
 use Rattle.delta_history.specs.Legal.{standing, may_write, IsNext, IsLegalFrom, IsLegal}
 use Rattle.delta_history.specs.Points.{Point, start, acts_of, next_point, replay}
-use Rattle.delta_history.proofs.Chains.{legal_behind, starts_at, goes_from}
+use Rattle.delta_history.proofs.Chains.{legal_after, starts_at, goes_from}
 use Rattle.delta_history.proofs.Points.{and_then_is}
 use Rattle.follower_rules.specs.Replicas.{ReplicaOf, may_follow, grown, absorb_to, absorb_at, absorb}
 use Rattle.wave_world.specs.Worlds.{Mem, IsBegin, world_of}
@@ -27,7 +27,7 @@ delta_is_taken name events k f d e m v =
 absorbs : (name : Key) (h : List DeltaOf) (r : ReplicaOf) (p : Point) (d : DeltaOf) → IsLegal name h → IsBegin r.deltas h → Mem d h → replay (start name) r.deltas ≡ Some p → d.from.version ≡ p.at.version → (g : ReplicaOf) × (absorb name r d ≡ Some g)
 absorbs name h r p d l b m e v =
     let rest = find_at name h p d r.deltas b.0 l b.1 e m v in
-    let l' : IsLegalFrom name r.deltas (d ∷ rest.0) = subst (λ z. IsLegalFrom name r.deltas z) rest.1 (legal_behind name [] r.deltas b.0 (subst (λ z. IsLegalFrom name [] z) (sym b.1) l)) in
+    let l' : IsLegalFrom name r.deltas (d ∷ rest.0) = subst (λ z. IsLegalFrom name r.deltas z) rest.1 (legal_after name [] r.deltas b.0 (subst (λ z. IsLegalFrom name [] z) (sym b.1) l)) in
     let next : IsNext name r.deltas d = l'.0 in
     let same : next.here ≡ p = same_Some (sym next.is_head ∙ e) in
     let q : Point = next.after in

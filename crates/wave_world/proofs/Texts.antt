@@ -220,14 +220,14 @@ BothText p = AreText p.0 × AreText p.1
 abbrev IsTextOutcome : Outcome → Type 0
 IsTextOutcome r = (p : Both) → r ≡ Ok p → BothText p
 
-behind_front : (f g : List Action) (r : Outcome) → AreText f → AreText g → IsTextOutcome r → IsTextOutcome (front f g r)
-behind_front f g r t s rest p is =
+after_front : (f g : List Action) (r : Outcome) → AreText f → AreText g → IsTextOutcome r → IsTextOutcome (front f g r)
+after_front f g r t s rest p is =
     let w = fronted f g r p is in
     let q = rest w.value w.had in
     subst BothText w.gives (append_text f w.value.0 t q.0, append_text g w.value.1 s q.1)
 
-behind_test : (k : ℕ) (b : Bool) (r : Outcome) → IsTextOutcome r → IsTextOutcome (cond b r (Err k))
-behind_test k b r rest p is = rest p (passed_ok k b r p is).rest
+after_test : (k : ℕ) (b : Bool) (r : Outcome) → IsTextOutcome r → IsTextOutcome (cond b r (Err k))
+after_test k b r rest p is = rest p (passed_ok k b r p is).rest
 
 kept_all : AreText (keep_all ∷ [])
 kept_all = ((texts_none, tt), tt)
@@ -236,12 +236,12 @@ deleted_all : (x : Item) → AreTextsIn x.notes → AreText (delete_all x ∷ []
 deleted_all x t = (texts_all_names x.notes t, tt)
 
 later_row : (d : ℕ) (x : Item) (r : Outcome) → AreTextsIn x.notes → IsTextOutcome r → IsTextOutcome (later_inserts d x r)
-later_row zero x r t rest = behind_front (Ins x ∷ []) (keep_all ∷ []) r (t, tt) kept_all rest
-later_row (suc d) x r t rest = behind_front [] (delete_all x ∷ []) r tt (deleted_all x t) rest
+later_row zero x r t rest = after_front (Ins x ∷ []) (keep_all ∷ []) r (t, tt) kept_all rest
+later_row (suc d) x r t rest = after_front [] (delete_all x ∷ []) r tt (deleted_all x t) rest
 
 earlier_row : (b : ℕ) (y : Item) (r : Outcome) → AreTextsIn y.notes → IsTextOutcome r → IsTextOutcome (earlier_inserts b y r)
-earlier_row zero y r t rest = behind_front (keep_all ∷ []) (Ins y ∷ []) r kept_all (t, tt) rest
-earlier_row (suc b) y r t rest = behind_front (delete_all y ∷ []) [] r (deleted_all y t) tt rest
+earlier_row zero y r t rest = after_front (keep_all ∷ []) (Ins y ∷ []) r kept_all (t, tt) rest
+earlier_row (suc b) y r t rest = after_front (delete_all y ∷ []) [] r (deleted_all y t) tt rest
 
 text_from : (k b : ℕ) (ls : List Action) (d : ℕ) (es : List Action) → AreText ls → AreText es → IsTextOutcome (transform_from k b ls d es)
 text_from k b (Ins x ∷ ls) d es t s = later_row d x _ t.0 (text_from k b ls d es t.1 s)
@@ -250,18 +250,18 @@ text_from k b [] d (Ins y ∷ es) t s = earlier_row b y _ s.0 (text_from k b [] 
 text_from k b (Keep u a ∷ ls) d (Ins y ∷ es) t s = earlier_row b y _ s.0 (text_from k b (Keep u a ∷ ls) d es t s.1)
 text_from k b (Del c n ∷ ls) d (Ins y ∷ es) t s = earlier_row b y _ s.0 (text_from k b (Del c n ∷ ls) d es t s.1)
 text_from k b (Keep u a ∷ ls) d (Keep w o ∷ es) t s =
-    behind_test k (cross u w && attributes_cross a o) _
-    (behind_front (Keep (over u w) (attributes_over a o) ∷ []) (Keep (under w u) (attributes_under o a) ∷ []) (transform_from (suc k) b ls d es)
+    after_test k (cross u w && attributes_cross a o) _
+    (after_front (Keep (over u w) (attributes_over a o) ∷ []) (Keep (under w u) (attributes_under o a) ∷ []) (transform_from (suc k) b ls d es)
     ((texts_over u w (t.0).0 (s.0).0, change_over a o (t.0).1 (s.0).1), tt)
     ((texts_under w u (s.0).0, change_under o a (s.0).1 (t.0).1), tt)
     (text_from (suc k) b ls d es t.1 s.1))
 text_from k b (Keep u a ∷ ls) d (Del c n ∷ es) t s =
-    behind_test k (can_follow c n u a) _
-    (behind_front [] (Del (put_content a c) (names_after n u) ∷ []) (transform_from (suc k) b ls (level c d) es) tt (texts_after n u s.0 (t.0).0, tt) (text_from (suc k) b ls (level c d) es t.1 s.1))
+    after_test k (can_follow c n u a) _
+    (after_front [] (Del (put_content a c) (names_after n u) ∷ []) (transform_from (suc k) b ls (level c d) es) tt (texts_after n u s.0 (t.0).0, tt) (text_from (suc k) b ls (level c d) es t.1 s.1))
 text_from k b (Del c n ∷ ls) d (Keep w o ∷ es) t s =
-    behind_test k (can_follow c n w o) _
-    (behind_front (Del (put_content o c) (names_after n w) ∷ []) [] (transform_from (suc k) (level c b) ls d es) (texts_after n w t.0 (s.0).0, tt) tt (text_from (suc k) (level c b) ls d es t.1 s.1))
-text_from k b (Del c n ∷ ls) d (Del p m ∷ es) t s = behind_test k (delete_alike c n p m) _ (text_from (suc k) (level c b) ls (level p d) es t.1 s.1)
+    after_test k (can_follow c n w o) _
+    (after_front (Del (put_content o c) (names_after n w) ∷ []) [] (transform_from (suc k) (level c b) ls d es) (texts_after n w t.0 (s.0).0, tt) tt (text_from (suc k) (level c b) ls d es t.1 s.1))
+text_from k b (Del c n ∷ ls) d (Del p m ∷ es) t s = after_test k (delete_alike c n p m) _ (text_from (suc k) (level c b) ls (level p d) es t.1 s.1)
 text_from k b [] d (Keep w o ∷ es) t s = λ p is. no_ok is
 text_from k b [] d (Del c m ∷ es) t s = λ p is. no_ok is
 text_from k b (Keep u a ∷ ls) d [] t s = λ p is. no_ok is
@@ -275,26 +275,26 @@ transform_text l e p t s is = text_from 0 0 l 0 e t s p is
 abbrev IsTextComposed : Composed → Type 0
 IsTextComposed r = (c : List Action) → r ≡ Ok c → AreText c
 
-behind_ahead : (acts : List Action) (n : ℕ) (r : Composed) → AreText acts → IsTextComposed r → IsTextComposed (ahead acts n r)
-behind_ahead acts n (Ok more) t rest c is = subst AreText (same_Ok is) (append_text acts more t (rest more refl))
-behind_ahead acts n (Err place) t rest c is = no_ok is
+after_ahead : (acts : List Action) (n : ℕ) (r : Composed) → AreText acts → IsTextComposed r → IsTextComposed (ahead acts n r)
+after_ahead acts n (Ok more) t rest c is = subst AreText (same_Ok is) (append_text acts more t (rest more refl))
+after_ahead acts n (Err place) t rest c is = no_ok is
 
-behind_fit : (b : Bool) (r : Composed) → IsTextComposed r → IsTextComposed (cond b r (Err 0))
-behind_fit b r rest c is = rest c (passed_ok 0 b r c is).rest
+after_fit : (b : Bool) (r : Composed) → IsTextComposed r → IsTextComposed (cond b r (Err 0))
+after_fit b r rest c is = rest c (passed_ok 0 b r c is).rest
 
 composed_text : (f s : List Action) → AreText f → AreText s → IsTextComposed (compose f s)
-composed_text (Del c n ∷ f) s t r = behind_ahead (Del c n ∷ []) 0 (compose f s) (t.0, tt) (composed_text f s t.1 r)
-composed_text [] (Ins y ∷ s) t r = behind_ahead (Ins y ∷ []) 0 (compose [] s) (r.0, tt) (composed_text [] s t r.1)
-composed_text (Ins x ∷ f) (Ins y ∷ s) t r = behind_ahead (Ins y ∷ []) 0 (compose (Ins x ∷ f) s) (r.0, tt) (composed_text (Ins x ∷ f) s t r.1)
-composed_text (Keep w o ∷ f) (Ins y ∷ s) t r = behind_ahead (Ins y ∷ []) 0 (compose (Keep w o ∷ f) s) (r.0, tt) (composed_text (Keep w o ∷ f) s t r.1)
-composed_text (Ins x ∷ f) (Keep u a ∷ s) t r = behind_fit (keeps u a x) _ (behind_ahead (Ins (kept u a x) ∷ []) 1 (compose f s) (texts_put u x.notes (r.0).0 t.0, tt) (composed_text f s t.1 r.1))
-composed_text (Ins x ∷ f) (Del c n ∷ s) t r = behind_fit (fits c n x) _ (behind_ahead [] 1 (compose f s) tt (composed_text f s t.1 r.1))
+composed_text (Del c n ∷ f) s t r = after_ahead (Del c n ∷ []) 0 (compose f s) (t.0, tt) (composed_text f s t.1 r)
+composed_text [] (Ins y ∷ s) t r = after_ahead (Ins y ∷ []) 0 (compose [] s) (r.0, tt) (composed_text [] s t r.1)
+composed_text (Ins x ∷ f) (Ins y ∷ s) t r = after_ahead (Ins y ∷ []) 0 (compose (Ins x ∷ f) s) (r.0, tt) (composed_text (Ins x ∷ f) s t r.1)
+composed_text (Keep w o ∷ f) (Ins y ∷ s) t r = after_ahead (Ins y ∷ []) 0 (compose (Keep w o ∷ f) s) (r.0, tt) (composed_text (Keep w o ∷ f) s t r.1)
+composed_text (Ins x ∷ f) (Keep u a ∷ s) t r = after_fit (keeps u a x) _ (after_ahead (Ins (kept u a x) ∷ []) 1 (compose f s) (texts_put u x.notes (r.0).0 t.0, tt) (composed_text f s t.1 r.1))
+composed_text (Ins x ∷ f) (Del c n ∷ s) t r = after_fit (fits c n x) _ (after_ahead [] 1 (compose f s) tt (composed_text f s t.1 r.1))
 composed_text (Keep w o ∷ f) (Keep u a ∷ s) t r =
-    behind_fit (follows w u && attributes_follow o a) _
-    (behind_ahead (Keep (then w u) (attributes_then o a) ∷ []) 1 (compose f s) ((texts_joined Then w u (t.0).0 (r.0).0, change_then o a (t.0).1 (r.0).1), tt) (composed_text f s t.1 r.1))
+    after_fit (follows w u && attributes_follow o a) _
+    (after_ahead (Keep (then w u) (attributes_then o a) ∷ []) 1 (compose f s) ((texts_joined Then w u (t.0).0 (r.0).0, change_then o a (t.0).1 (r.0).1), tt) (composed_text f s t.1 r.1))
 composed_text (Keep w o ∷ f) (Del c n ∷ s) t r =
-    behind_fit (can_precede c n w o) _
-    (behind_ahead (Del (put_content (attributes_back o) c) (names_before n w) ∷ []) 1 (compose f s) (texts_before n w r.0 (t.0).0, tt) (composed_text f s t.1 r.1))
+    after_fit (can_precede c n w o) _
+    (after_ahead (Del (put_content (attributes_back o) c) (names_before n w) ∷ []) 1 (compose f s) (texts_before n w r.0 (t.0).0, tt) (composed_text f s t.1 r.1))
 composed_text [] [] t r = λ c is. subst AreText (same_Ok is) tt
 composed_text [] (Keep u a ∷ s) t r = λ c is. no_ok is
 composed_text [] (Del k n ∷ s) t r = λ c is. no_ok is

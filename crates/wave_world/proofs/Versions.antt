@@ -11,8 +11,8 @@ use Rattle.delta_history.specs.Laws.{IsKept}
 use Rattle.delta_history.specs.Legal.{IsLegalFrom, IsLegal}
 use Rattle.delta_history.specs.Passing.{IsPassed}
 use Rattle.delta_history.specs.Points.{Point, start, acts_of, next_point, replay, point_at}
-use Rattle.delta_history.proofs.Chains.{legal_behind, starts_at}
-use Rattle.delta_history.proofs.Points.{behind_point, replay_append, rises}
+use Rattle.delta_history.proofs.Chains.{legal_after, starts_at}
+use Rattle.delta_history.proofs.Points.{after_point, replay_append, rises}
 use Rattle.delta_history.proofs.Versions.{point_is, pass_is}
 use Rattle.follower_rules.specs.Followers.{ClientOf, Flight, FollowerOf}
 use Rattle.wave_world.specs.Worlds.{Mem, World, world_of}
@@ -33,9 +33,9 @@ ack_of name h i at to l k =
     let p = and_then_some (replay (start name) k.before) (λ q. replay q (k.delta ∷ [])) k.after (sym (replay_append (start name) k.before (k.delta ∷ [])) ∙ k.leads) in
     let n = and_then_some (next_point p.0 k.delta) (λ q. Some q) k.after p.2 in
     let l' : IsLegalFrom name [] (k.before ++ k.delta ∷ k.behind) = subst (λ z. IsLegalFrom name [] z) (sym k.whole) l in
-    let next = (legal_behind name [] k.before (k.delta ∷ k.behind) l').0 in
+    let next = (legal_after name [] k.before (k.delta ∷ k.behind) l').0 in
     let v : k.delta.from.version ≡ p.0.at.version = ap (λ (z : VersionAt). z.version) (starts_at name k.before k.delta p.0 p.1 next) in
-    let a = behind_point p.0 n.0 k.delta n.1 in
+    let a = after_point p.0 n.0 k.delta n.1 in
     let same : n.0.at.version ≡ k.after.at.version = ap (λ (z : Point). z.at.version) (same_Some n.2) in
     let version : k.after.at.version ≡ at + length k.delta.ops = omega (arith, a.version, v, same, k.is_at) in
     let there : point_at name h k.after.at.version ≡ Some k.after = point_is name h k.after l (record { before = k.before ++ k.delta ∷ []; behind = k.behind; whole = append_assoc k.before (k.delta ∷ []) k.behind ∙ k.whole; leads = k.leads }) in

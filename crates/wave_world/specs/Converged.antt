@@ -1,5 +1,5 @@
 -- What holds after every list of events.
---     IsAckOf name h i at to      an acknowledgement names the delta of h with that id, its version and the hashed version behind it
+--     IsAckOf name h i at to      an acknowledgement names the delta of h with that id, its version and the hashed version after it
 --     IsValidAt name h s          a submission is valid at its base, whose hashed version is the history's
 --     IsSentAs name h ss d        a delta is a pooled submission, passed from its base to where the delta starts
 --     IsInFlight name h ss k v g  a flight is a pooled submission of the client, passed from its base to version v, and no delta below v

@@ -6,8 +6,8 @@
 --     World, first_world      as it starts: empty histories, no follower and nothing pooled
 --     Event                   what may happen; a message is named by its place in the pool
 --     has_client k ss         a pooled submission is of the client
---     happens name w e        the world behind an event
---     world_after name es w   the world behind events
+--     happens name w e        the world after an event
+--     world_after name es w   the world after events
 use Rattle.std.specs.Prelude.{◌≡◌, ◌⊎◌, ℕ, Bool, true, false, cond, not, ◌&&◌, ◌||◌, List, [], ◌∷◌, ◌++◌, length, slice_get, is_none, Option, Some, None, option_and_then}
 use Rattle.std.specs.Option.{option_map}
 use Rattle.std.specs.Result.{result_ok}

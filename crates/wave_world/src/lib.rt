@@ -5,7 +5,7 @@ ghost use Rattle.wave_world.specs.Converged.{WorldConverges, OnlyGrows, DeltaIsT
 ghost use Rattle.wave_world.specs.Square.{ActionSquare, Square};
 
 /// Two operations that are valid at one document have a transform. Both ways round lead to one document, balanced where the
-/// first was, and both results are structured. So it is of lists of actions, spelled or not.
+/// first was, and both results are structured. The same holds of lists of actions, spelled or not.
 pub fn square_holds()
     ensures operations { Square }
     ensures actions { ActionSquare }

@@ -62,7 +62,7 @@ mutations : IsCodec mutation_at (λ p. string p.0 ++ canonical p.1) (λ p. (is_i
 unfolding mutation_at
 mutations = pairs names normals
 
--- what is read behind a tag
+-- what is read after a tag
 abbrev Behind : ℕ → List ℕ → WaveletOp × List ℕ → Type 0
 Behind tag bytes r = Takes (tag ∷ bytes) (op_bytes r.0) r.1 × IsOp r.0
 

@@ -1,4 +1,4 @@
--- Deltas read from left to right: what stands at the front of bytes, and the bytes behind it; None where nothing of the kind does.
+-- Deltas read from left to right: what stands at the front of bytes, and the bytes after it; None where nothing of the kind does.
 --     passing test r            what was read, where it passes a test
 --     count_at                  a number of at most max_count
 --     address_at, document_at   texts in their grammar

@@ -1,4 +1,4 @@
-// Numbers, texts and names at the front of bytes, and the bytes behind them.
+// Numbers, texts and names at the front of bytes, and the bytes after them.
 ghost use Rattle.std.specs.Prelude.{◌≤◌, IfOk};
 ghost use Rattle.std.specs.Int.{w32, w64};
 ghost use Rattle.doc_items.specs.Limits.{max_count};

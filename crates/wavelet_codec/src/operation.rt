@@ -1,4 +1,4 @@
-// Operations on wavelets at the front of bytes, and the bytes behind them.
+// Operations on wavelets at the front of bytes, and the bytes after them.
 ghost use Rattle.std.specs.Prelude.{◌≡◌, [], length, IfOk};
 ghost use Rattle.doc_op.specs.Actions.{actions};
 ghost use Rattle.doc_op.specs.Normal.{normal_form};

@@ -108,7 +108,7 @@ fn write_id(id: &DeltaId, out: &mut Vec<u8>) -> Result<(), Memory>
     write_number(id.number, out)
 }
 
-/// Appends the bytes of a delta, which are fewer than 4,294,967,296. After want of memory a part of them may stand behind what
+/// Appends the bytes of a delta, which are fewer than 4,294,967,296. After want of memory a part of them may stand after what
 /// was there.
 #[tactic(auto, unfolding(crate::specs::Spelling::delta_bytes))]
 pub fn write_applied(_alloc: Global, delta: &AppliedDelta, out: &mut Vec<u8>) -> Result<(), Memory>

@@ -1,6 +1,6 @@
 -- Where a submission was made.
---     state_at_base        so it is behind the first k deltas of a history
---     at_end               it is the one at the head behind all of them
+--     state_at_base        so it is after the first k deltas of a history
+--     at_end               it is the one at the head after all of them
 --     valid_all            the deltas of a legal history are valid in turn
 --     opened, based        what is left to test once the id is new, and once the author may write
 --     not_found, found     no delta ends at a version; one does
@@ -28,15 +28,15 @@ use Rattle.delta_history.specs.Verdicts.{kept, same_hash, judge_kept, judge_head
 use Rattle.delta_history.proofs.Chains.{some_ops, starts_at, goes_from}
 use Rattle.delta_history.proofs.Finding.{legal_end}
 use Rattle.delta_history.proofs.Keeping.{kept_there}
-use Rattle.delta_history.proofs.Points.{behind_point, replay_more, rises, run_some}
+use Rattle.delta_history.proofs.Points.{after_point, replay_more, rises, run_some}
 use Rattle.delta_history.proofs.Versions.{cut_is}
 use Rattle.delta_history.specs.Points.{run_all}
-use Rattle.state_cache.specs.States.{state_behind}
+use Rattle.state_cache.specs.States.{state_after}
 use Rattle.wavelet_container.specs.Decisions.{judged, MayWrite, IsBase}
 
 -- ---- states
 
-pub state_at_base : (h : HistoryOf) (k : ℕ) (p : Point) → replay (start h.name) (take k h.deltas) ≡ Some p → state_behind h.deltas k ≡ Some p.state
+pub state_at_base : (h : HistoryOf) (k : ℕ) (p : Point) → replay (start h.name) (take k h.deltas) ≡ Some p → state_after h.deltas k ≡ Some p.state
 state_at_base h k p e = run_some (start h.name) p (take k h.deltas) e
 
 pub valid_all : (name : List ℕ) (ds : List DeltaOf) → IsLegal name ds → IsSome (run_all empty_state ds)
@@ -45,10 +45,10 @@ valid_all name ds l = subst IsSome (sym (run_some (start name) _ ds (legal_end n
 pub valid_here : (name : List ℕ) (ds es : List DeltaOf) → es ≡ ds → IsLegal name ds → IsSome (run_all empty_state es)
 valid_here name ds es e l = subst (λ z. IsSome (run_all empty_state z)) (sym e) (valid_all name ds l)
 
-pub at_end : (h g : HistoryOf) (k : ℕ) (ds : List DeltaOf) (s t : State) → h ≡ g → ds ≡ h.deltas → IsLegal h.name h.deltas → k ≡ length ds → t ≡ (head_of h).state → s ≡ t → state_behind g.deltas k ≡ Some s
+pub at_end : (h g : HistoryOf) (k : ℕ) (ds : List DeltaOf) (s t : State) → h ≡ g → ds ≡ h.deltas → IsLegal h.name h.deltas → k ≡ length ds → t ≡ (head_of h).state → s ≡ t → state_after g.deltas k ≡ Some s
 at_end h g k ds s t same is l long head e =
     let here : take k h.deltas ≡ h.deltas = take_all k h.deltas (let n = ap length is in omega (arith, n, long)) in
-    ap (λ (z : HistoryOf). state_behind z.deltas k) (sym same) ∙ ap (run_all empty_state) here ∙ run_some (start h.name) (head_of h) h.deltas (legal_end h.name h.deltas l) ∙ ap Some (sym (e ∙ head))
+    ap (λ (z : HistoryOf). state_after z.deltas k) (sym same) ∙ ap (run_all empty_state) here ∙ run_some (start h.name) (head_of h) h.deltas (legal_end h.name h.deltas l) ∙ ap Some (sym (e ∙ head))
 
 -- ---- the first tests
 
@@ -113,7 +113,7 @@ started_from name b (d ∷ before) since p q l e r =
     let z = goes_from name b d p e n in
     let m = and_then_some (next_point p d) (λ y. replay y before) q r in
     let same : n.after ≡ m.0 = same_Some (sym z ∙ m.1) in
-    let a = behind_point p m.0 d m.1 in
+    let a = after_point p m.0 d m.1 in
     let up : (m.0).at.version ≤ q.at.version = rises m.0 q before m.2 in
     let some = some_ops name b d n in
     let from : d.from.version ≡ p.at.version = ap (λ (y : VersionAt). y.version) (starts_at name b d p e n) in

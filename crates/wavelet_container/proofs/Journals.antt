@@ -5,7 +5,7 @@
 --     within_none         where nothing is left over the file stands for the history
 --     moved_same          nothing was done
 --     moved_repair        a repair, whether it succeeded or not
---     moved_append        a record was put behind the others, or it was tried
+--     moved_append        a record was put after the others, or it was tried
 --     moved_on            one call after another
 --     every_image         where no repair is pending every image stands for the history
 use Rattle.std.proofs.Common.{◌≡◌, ◌⊎◌, inl, inr, ⊎_elim, ℕ, ◌≤◌, false, List, [], ◌∷◌, ◌++◌, Option, Some, refl, sym, ap, subst, ◌∙◌, arith, append-nil, le_refl}
@@ -49,7 +49,7 @@ spelled_more (e ∷ ds) d s is = (s.0, spelled_more ds d s.1 is)
 pub records_more : (ds : List DeltaOf) (d : DeltaOf) → records_of (ds ++ d ∷ []) ≡ records_of ds ++ delta_bytes d ∷ []
 records_more ds d = map-append delta_bytes ds (d ∷ [])
 
--- a delta that may be behind the others
+-- a delta that may be after the others
 pub record IsComing (h : HistoryOf) (d : DeltaOf) : Type 0 where
   pub is : IsDelta d
   pub next : IsNext h.name h.deltas d

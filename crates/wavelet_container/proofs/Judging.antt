@@ -31,7 +31,7 @@ use Rattle.delta_history.specs.Pushes.{IsAsked}
 use Rattle.delta_history.specs.Verdicts.{accepted, is_within, judge_ops, judge_pass, judge_bounds, judge_next}
 use Rattle.delta_history.proofs.Chains.{goes_on}
 use Rattle.delta_history.proofs.Finding.{legal_end}
-use Rattle.delta_history.proofs.Points.{behind_point, replay_append, and_then_is, pass_through}
+use Rattle.delta_history.proofs.Points.{after_point, replay_append, and_then_is, pass_through}
 use Rattle.delta_history.proofs.Pushes.{ready}
 use Rattle.wavelet_container.specs.Decisions.{judged, IsBase, IsInvalidAt, IsNear, IsRefusal, IsSubmitted, IsValidBelow, has_room, refusal}
 use Rattle.wavelet_container.specs.Passing.{CanPass, Passes}
@@ -161,7 +161,7 @@ valid_near h s t k d n next (inr at) =
     let head : n.made.base ≡ head_of h = same_Some (sym n.made.leads ∙ ap (replay (start h.name)) (take_all k h.deltas at) ∙ legal_end h.name h.deltas n.legal) in
     let here : next.here ≡ head_of h = same_Some (sym next.is_head ∙ legal_end h.name h.deltas n.legal) in
     let acts : meanings s.ops ≡ acts_of d = same_Some (sym (ap (λ z. pass (meanings s.ops) (all_acts z)) (drop_all k h.deltas at)) ∙ n.passed.is) in
-    let g = behind_point next.here next.after d next.goes in
+    let g = after_point next.here next.after d next.goes in
     subst IsSome (sym ((λ i. run ((head ∙ sym here) i).state (acts i)) ∙ g.goes)) refl
 
 lt_or_le : (a b : ℕ) → (a < b) ⊎ (b ≤ a)

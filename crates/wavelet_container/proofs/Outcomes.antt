@@ -1,6 +1,6 @@
 -- What a submission is answered, and how its history grows.
 --     told               the verdict before the submission becomes a delta
---     acknowledged       the delta is behind the others
+--     acknowledged       the delta is after the others
 --     turned_down        it can't be next
 --     near_moved         in the same state of a history, but for the room
 use Rattle.std.proofs.Common.{◌≡◌, ℕ, [], ◌∷◌, ◌++◌, Option, Some, None, refl, sym, ap, subst, ◌∙◌, unwrap_or}
@@ -13,7 +13,7 @@ use Rattle.delta_history.specs.Histories.{HistoryOf, head_of, IsSameHistory, IsG
 use Rattle.delta_history.specs.Legal.{IsNext, IsLegal}
 use Rattle.delta_history.specs.Points.{start, end_of}
 use Rattle.delta_history.specs.Verdicts.{Judged}
-use Rattle.delta_history.proofs.Chains.{legal_behind}
+use Rattle.delta_history.proofs.Chains.{legal_after}
 use Rattle.delta_history.proofs.Points.{replay_more}
 use Rattle.wavelet_container.specs.Decisions.{judged, IsBase, IsNear, IsRefusal}
 use Rattle.wavelet_container.specs.Stores.{IsGrownBy, IsAnswered}
@@ -31,7 +31,7 @@ told g h s t v e same = answered_by g h s t v (v, None) e refl same
 pub next_of : (g h : HistoryOf) (d : DeltaOf) → IsGrown g d h → IsLegal h.name h.deltas → IsNext g.name g.deltas d
 next_of g h d grown legal =
     let l : IsLegal g.name (g.deltas ++ d ∷ []) = subst (λ n. IsLegal n (g.deltas ++ d ∷ [])) grown.name (subst (λ ds. IsLegal h.name ds) grown.deltas legal) in
-    (legal_behind g.name [] g.deltas (d ∷ []) l).0
+    (legal_after g.name [] g.deltas (d ∷ []) l).0
 
 head_after : (g h : HistoryOf) (d : DeltaOf) → IsGrown g d h → (n : IsNext g.name g.deltas d) → head_of h ≡ n.after
 head_after g h d grown n =

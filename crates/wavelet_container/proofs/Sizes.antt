@@ -24,7 +24,7 @@ use Rattle.wavelet_op.proofs.Partial.{and_then_some}
 use Rattle.wavelet_op.proofs.Squares.{document_there, document_elsewhere}
 use Rattle.wavelet_op.proofs.Structures.{is_structured-holds}
 use Rattle.delta_history.specs.Points.{Point, acts_of, next_point, replay}
-use Rattle.delta_history.proofs.Points.{behind_point}
+use Rattle.delta_history.proofs.Points.{after_point}
 use Rattle.wavelet_container.specs.Passing.{AreSmall}
 
 -- ---- one document
@@ -99,7 +99,7 @@ run_sized s t (a ∷ more) n small e =
 
 pub next_sized : (p q : Point) (d : DeltaOf) → AreSmall p.state p.count → next_point p d ≡ Some q → AreSmall q.state q.count
 next_sized p q d small e =
-    let b = behind_point p q d e in
+    let b = after_point p q d e in
     subst (λ z. AreSmall z q.count) (sym b.same) (subst (λ z. AreSmall b.state z) (sym b.count) (run_sized p.state b.state (acts_of d) p.count small b.goes))
 
 pub replay_sized : (p q : Point) (ds : List DeltaOf) → AreSmall p.state p.count → replay p ds ≡ Some q → AreSmall q.state q.count
@@ -112,7 +112,7 @@ pub counts_rise : (p q : Point) (ds : List DeltaOf) → replay p ds ≡ Some q �
 counts_rise p q [] e = subst (λ (z : Point). p.count ≤ z.count) (same_Some e) (le_refl _)
 counts_rise p q (d ∷ ds) e =
     let m = and_then_some (next_point p d) (λ z. replay z ds) q e in
-    let b = behind_point p m.0 d m.1 in
+    let b = after_point p m.0 d m.1 in
     let h : (m.0).count ≤ q.count = counts_rise m.0 q ds m.2 in
     omega (arith, b.count, h)
 

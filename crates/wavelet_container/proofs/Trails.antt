@@ -14,27 +14,27 @@ use Rattle.wavelet_op.specs.States.{State, empty_state, run}
 use Rattle.wavelet_op.specs.declared.op.WaveletOp.{WaveletOp}
 use Rattle.delta_history.specs.Points.{run_all}
 use Rattle.delta_history.specs.Histories.{HistoryOf, IsGrown, IsSameHistory}
-use Rattle.state_cache.specs.States.{state_behind, IsBegun}
+use Rattle.state_cache.specs.States.{state_after, IsBegun}
 use Rattle.state_cache.proofs.Runs.{split, stretch_leads, stretch_valid}
 use Rattle.wavelet_container.specs.Trails.{LeadsBack, AllLeadBack, IsTrail, IsKeptBack, place_of}
 use Rattle.wavelet_container.specs.declared.trail.Trail.{Trail}
 
-behind_front : (ds more : List DeltaOf) (n : ℕ) → n ≤ length ds → state_behind (ds ++ more) n ≡ state_behind ds n
-behind_front ds more n h = ap (run_all empty_state) (take-append-le n ds more h)
+after_front : (ds more : List DeltaOf) (n : ℕ) → n ≤ length ds → state_after (ds ++ more) n ≡ state_after ds n
+after_front ds more n h = ap (run_all empty_state) (take-append-le n ds more h)
 
 -- ---- more deltas
 
 all_grown : (ds more : List DeltaOf) (n : ℕ) (bs : List (List WaveletOp)) → n + length bs ≤ length ds → AllLeadBack ds n bs → AllLeadBack (ds ++ more) n bs
 all_grown ds more n [] h a = tt
 all_grown ds more n (b ∷ bs) h a = (
-  λ s e. a.0 s (sym (behind_front ds more (n + 1) (omega (arith, h))) ∙ e) ∙ sym (behind_front ds more n (omega (arith, h))),
+  λ s e. a.0 s (sym (after_front ds more (n + 1) (omega (arith, h))) ∙ e) ∙ sym (after_front ds more n (omega (arith, h))),
   all_grown ds more (n + 1) bs (omega (arith, h)) a.1,
 )
 
 pub trail_grown : (ds more : List DeltaOf) (t : Trail) → IsTrail ds t → IsTrail (ds ++ more) t
 trail_grown ds more t i = record {
   inside = omega (arith, i.inside, length-append ds more);
-  leads = behind_front ds more (place_of t) i.inside ∙ i.leads;
+  leads = after_front ds more (place_of t) i.inside ∙ i.leads;
   backs = all_grown ds more t.first t.backs.items i.inside i.backs;
 }
 
@@ -59,16 +59,16 @@ one_at [] n d e = no_value e
 one_at (x ∷ ds) zero d e = ap (λ y. y ∷ []) (same_Some e)
 one_at (x ∷ ds) (suc n) d e = one_at ds n d e
 
-one_leads : (ds : List DeltaOf) (n : ℕ) (d : DeltaOf) (s t : State) → take 1 (drop n ds) ≡ d ∷ [] → state_behind ds n ≡ Some s → run s (meanings d.ops) ≡ Some t → state_behind ds (n + 1) ≡ Some t
+one_leads : (ds : List DeltaOf) (n : ℕ) (d : DeltaOf) (s t : State) → take 1 (drop n ds) ≡ d ∷ [] → state_after ds n ≡ Some s → run s (meanings d.ops) ≡ Some t → state_after ds (n + 1) ≡ Some t
 one_leads ds n d s t one behind goes = stretch_leads ds n 1 s t behind (ap (run_all s) one ∙ ap (option_and_then (λ u. run_all u [])) goes)
 
-pub can_go : (ds : List DeltaOf) (n : ℕ) (d : DeltaOf) (s : State) → IsSome (run_all empty_state ds) → take 1 (drop n ds) ≡ d ∷ [] → state_behind ds n ≡ Some s → run s (meanings d.ops) ≡ None → ⊥
+pub can_go : (ds : List DeltaOf) (n : ℕ) (d : DeltaOf) (s : State) → IsSome (run_all empty_state ds) → take 1 (drop n ds) ≡ d ∷ [] → state_after ds n ≡ Some s → run s (meanings d.ops) ≡ None → ⊥
 can_go ds n d s valid one behind none =
     let some = subst (λ l. IsSome (run_all s l)) one (stretch_valid ds n 1 s valid behind) in
     true≢false (sym some ∙ ap (λ o. is_some (option_and_then (λ u. run_all u []) o)) none)
 
-back_leads : (ds : List DeltaOf) (n : ℕ) (s t : State) (b : List WaveletOp) → state_behind ds n ≡ Some s → state_behind ds (n + 1) ≡ Some t → run t (meanings b) ≡ Some s → LeadsBack ds n b
-back_leads ds n s t b here there back = λ u e. subst (λ v. run v (meanings b) ≡ state_behind ds n) (same_Some (sym there ∙ e)) (back ∙ sym here)
+back_leads : (ds : List DeltaOf) (n : ℕ) (s t : State) (b : List WaveletOp) → state_after ds n ≡ Some s → state_after ds (n + 1) ≡ Some t → run t (meanings b) ≡ Some s → LeadsBack ds n b
+back_leads ds n s t b here there back = λ u e. subst (λ v. run v (meanings b) ≡ state_after ds n) (same_Some (sym there ∙ e)) (back ∙ sym here)
 
 pub went_forward : (ds : List DeltaOf) (d : DeltaOf) (t m u : Trail) (b : List WaveletOp) → IsTrail ds t → place_of t < length ds → take 1 (drop (place_of t) ds) ≡ d ∷ [] → run t.state (meanings d.ops) ≡ Some m.state → run m.state (meanings b) ≡ Some t.state
     → m.first ≡ t.first → m.backs ≡ t.backs → u.state ≡ m.state → IsKeptBack (place_of t) b m u → IsTrail ds u × (place_of u ≡ place_of t + 1)
@@ -82,7 +82,7 @@ went_forward ds d t m u b i before one goes back first backs state kept =
     let place : place_of u ≡ place_of t + 1 = omega (arith, begins, long) in (
       record {
         inside = omega (arith, place, before);
-        leads = ap (state_behind ds) place ∙ there ∙ ap (λ s. Some s) (sym state);
+        leads = ap (state_after ds) place ∙ there ∙ ap (λ s. Some s) (sym state);
         backs = subst (λ n. AllLeadBack ds n u.backs.items) (sym begins) (subst (λ l. AllLeadBack ds t.first l) (sym items) (all_pushed ds t.first t.backs.items b i.backs (back_leads ds (place_of t) t.state m.state b i.leads there back)));
       },
       place,
@@ -92,7 +92,7 @@ went_forward ds d t m u b i before one goes back first backs state kept =
     let place : place_of u ≡ place_of t + 1 = let f = barred.first in omega (arith, f, long) in (
       record {
         inside = omega (arith, place, before);
-        leads = ap (state_behind ds) place ∙ there ∙ ap (λ s. Some s) (sym state);
+        leads = ap (state_after ds) place ∙ there ∙ ap (λ s. Some s) (sym state);
         backs = subst (AllLeadBack ds u.first) (sym barred.backs) tt;
       },
       place,
@@ -101,11 +101,11 @@ went_forward ds d t m u b i before one goes back first backs state kept =
 
 -- ---- back
 
-last_run : (ds : List DeltaOf) (t : Trail) (bs : List (List WaveletOp)) (b : List WaveletOp) → IsTrail ds t → t.backs.items ≡ bs ++ b ∷ [] → run t.state (meanings b) ≡ state_behind ds (t.first + length bs)
+last_run : (ds : List DeltaOf) (t : Trail) (bs : List (List WaveletOp)) (b : List WaveletOp) → IsTrail ds t → t.backs.items ≡ bs ++ b ∷ [] → run t.state (meanings b) ≡ state_after ds (t.first + length bs)
 last_run ds t bs b i is =
     let long : length t.backs.items ≡ length bs + 1 = ap length is ∙ length-append bs (b ∷ []) in
     let place : t.first + length bs + 1 ≡ place_of t = omega (arith, long) in
-    all_last ds t.first bs b (subst (AllLeadBack ds t.first) is i.backs) t.state (ap (state_behind ds) place ∙ i.leads)
+    all_last ds t.first bs b (subst (AllLeadBack ds t.first) is i.backs) t.state (ap (state_after ds) place ∙ i.leads)
 
 pub can_go_back : (ds : List DeltaOf) (t : Trail) (bs : List (List WaveletOp)) (b : List WaveletOp) → IsSome (run_all empty_state ds) → IsTrail ds t → t.backs.items ≡ bs ++ b ∷ [] → run t.state (meanings b) ≡ None → ⊥
 can_go_back ds t bs b valid i is none =
@@ -120,7 +120,7 @@ went_back ds t u b i is first goes =
     let here : t.first + length u.backs.items ≡ place_of u = omega (arith, first) in (
       record {
         inside = let n = i.inside in omega (arith, n, place);
-        leads = ap (state_behind ds) (sym here) ∙ sym (last_run ds t u.backs.items b i is) ∙ goes;
+        leads = ap (state_after ds) (sym here) ∙ sym (last_run ds t u.backs.items b i is) ∙ goes;
         backs = subst (λ n. AllLeadBack ds n u.backs.items) (sym first) (all_front ds t.first u.backs.items b (subst (AllLeadBack ds t.first) is i.backs));
       },
       place,
@@ -131,7 +131,7 @@ same_trail ds t u state first backs i =
     let place : place_of u ≡ place_of t = λ j. first j + length (backs j).items in
     record {
       inside = subst (λ n. n ≤ length ds) (sym place) i.inside;
-      leads = ap (state_behind ds) place ∙ i.leads ∙ ap (λ s. Some s) (sym state);
+      leads = ap (state_after ds) place ∙ i.leads ∙ ap (λ s. Some s) (sym state);
       backs = subst (λ n. AllLeadBack ds n u.backs.items) (sym first) (subst (λ v. AllLeadBack ds t.first v.items) (sym backs) i.backs);
     }
 

@@ -23,7 +23,7 @@ use Rattle.wavelet_op.proofs.Partial.{and_then_some}
 use Rattle.delta_history.specs.Points.{Point, acts_of, next_point, replay}
 use Rattle.delta_history.specs.Passing.{all_acts}
 use Rattle.delta_history.specs.Verdicts.{op_of, ops_of}
-use Rattle.delta_history.proofs.Points.{and_then_is, behind_point}
+use Rattle.delta_history.proofs.Points.{and_then_is, after_point}
 use Rattle.wavelet_container.specs.Passing.{CanCross, CanPass, IsPast, Passes}
 use Rattle.wavelet_container.proofs.Sizes.{next_sized, counts_rise}
 
@@ -39,7 +39,7 @@ record IsFirst (acts : List Act) (d : DeltaOf) (ds : List DeltaOf) (c : CanPass 
 first : (acts : List Act) (d : DeltaOf) (ds : List DeltaOf) (c : CanPass acts (d ∷ ds)) → IsFirst acts d ds c
 first acts d ds c =
     let m = and_then_some (next_point c.base d) (λ z. replay z ds) c.end c.leads in
-    let b = behind_point c.base m.0 d m.1 in
+    let b = after_point c.base m.0 d m.1 in
     record { middle = m.0; step = m.1; rest = m.2; behind = b.state; goes = b.goes; is = b.same; count = b.count }
 
 pub can_cross : (acts : List Act) (d : DeltaOf) (ds : List DeltaOf) → CanPass acts (d ∷ ds) → CanCross acts (acts_of d)

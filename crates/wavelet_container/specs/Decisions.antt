@@ -1,6 +1,6 @@
 -- The verdict on a submission, in two steps: what is told of it before it becomes a delta, and what its delta tells.
 --     judged h s t          the verdict, and the delta by which the history grows
---     IsBase h s k          the submission's id is new and its author may write, and it was made behind the first k deltas: what is
+--     IsBase h s k          the submission's id is new and its author may write, and it was made after the first k deltas: what is
 --                           left to test is its operations
 --     has_room h os         the bounds of versions and of items hold with the operations
 --     refusal at p as u     what is told where no delta can follow: that the acts aren't valid at the base, or else that there is no
@@ -26,7 +26,7 @@ use Rattle.wavelet_state.specs.Snapshots.{max_inserted}
 use Rattle.delta_history.specs.Legal.{has_id, standing, may_write, IsLegal}
 use Rattle.delta_history.specs.Points.{Point, start, replay}
 use Rattle.delta_history.specs.Verdicts.{kept, Judged, judge, judge_ops}
-use Rattle.state_cache.specs.States.{state_behind}
+use Rattle.state_cache.specs.States.{state_after}
 use Rattle.wavelet_container.specs.Passing.{Passes}
 use Rattle.wavelet_container.specs.declared.decision.Decision.{Decision}
 use Rattle.wavelet_container.specs.declared.decision.Decision.TheVariants.{Told, Near}
@@ -72,18 +72,18 @@ abbrev pub refusal : VersionAt → State → List Act → Option State → Verdi
 refusal head base acts None = Invalid (first_invalid base acts)
 refusal head base acts (Some after) = Full head
 
--- at the base behind the first k deltas
+-- at the base after the first k deltas
 abbrev pub IsRefusal : HistoryOf → Submission → ℕ → Verdict → Type 0
 IsRefusal h s k v = (base : Point) → replay (start h.name) (take k h.deltas) ≡ Some base → v ≡ refusal (head_of h).at base.state (meanings s.ops) (run base.state (meanings s.ops))
 
--- what is found at the state behind the first k deltas: None where the acts are valid there
+-- what is found at the state after the first k deltas: None where the acts are valid there
 abbrev pub IsInvalidAt : HistoryOf → ℕ → List Act → Option ℕ → Type 0
-IsInvalidAt h k acts None = (s : State) → state_behind h.deltas k ≡ Some s → IsSome (run s acts)
-IsInvalidAt h k acts (Some i) = (s : State) → state_behind h.deltas k ≡ Some s → (i ≡ first_invalid s acts) × (run s acts ≡ None)
+IsInvalidAt h k acts None = (s : State) → state_after h.deltas k ≡ Some s → IsSome (run s acts)
+IsInvalidAt h k acts (Some i) = (s : State) → state_after h.deltas k ≡ Some s → (i ≡ first_invalid s acts) × (run s acts ≡ None)
 
 -- below the head the operations are valid at their base
 abbrev pub IsValidBelow : HistoryOf → Submission → ℕ → Type 0
-IsValidBelow h s k = k < length h.deltas → (u : State) → state_behind h.deltas k ≡ Some u → IsSome (run u (meanings s.ops))
+IsValidBelow h s k = k < length h.deltas → (u : State) → state_after h.deltas k ≡ Some u → IsSome (run u (meanings s.ops))
 
 pub record IsSubmitted (h : HistoryOf) (s : Submission) (t : ℕ) (ops : List WaveletOp) (d : DeltaOf) : Type 0 where
   pub id : d.id ≡ s.id

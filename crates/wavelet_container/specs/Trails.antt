@@ -11,11 +11,11 @@ use Rattle.wavelet_op.specs.Acts.{Act, meanings}
 use Rattle.wavelet_op.specs.Deltas.{DeltaOf}
 use Rattle.wavelet_op.specs.States.{State, run, first_invalid}
 use Rattle.wavelet_op.specs.declared.op.WaveletOp.{WaveletOp}
-use Rattle.state_cache.specs.States.{state_behind}
+use Rattle.state_cache.specs.States.{state_after}
 use Rattle.wavelet_container.specs.declared.trail.Trail.{Trail}
 
 abbrev pub LeadsBack : List DeltaOf → ℕ → List WaveletOp → Type 0
-LeadsBack ds n b = (s : State) → state_behind ds (n + 1) ≡ Some s → run s (meanings b) ≡ state_behind ds n
+LeadsBack ds n b = (s : State) → state_after ds (n + 1) ≡ Some s → run s (meanings b) ≡ state_after ds n
 
 abbrev pub AllLeadBack : List DeltaOf → ℕ → List (List WaveletOp) → Type 0
 AllLeadBack ds n [] = Unit {0}
@@ -26,7 +26,7 @@ place_of t = t.first + length t.backs.items
 
 pub record IsTrail (ds : List DeltaOf) (t : Trail) : Type 0 where
   pub inside : place_of t ≤ length ds
-  pub leads : state_behind ds (place_of t) ≡ Some t.state
+  pub leads : state_after ds (place_of t) ≡ Some t.state
   pub backs : AllLeadBack ds t.first t.backs.items
 
 abbrev pub IsReached : List DeltaOf → ℕ → Option Trail → Type 0

@@ -7,7 +7,7 @@ ghost use Rattle.delta_history.specs.Histories.{IsSameHistory, IsGrown};
 ghost use Rattle.delta_history.specs.Legal.{IsLegal};
 ghost use Rattle.delta_history.specs.Pushes.{IsReady, IsRefused};
 ghost use Rattle.delta_history.specs.Points.{run_all};
-ghost use Rattle.state_cache.specs.States.{state_behind, IsBegun, IsCacheOf};
+ghost use Rattle.state_cache.specs.States.{state_after, IsBegun, IsCacheOf};
 ghost use Rattle.wavelet_container.specs.Decisions.{IsInvalidAt};
 ghost use Rattle.wavelet_container.specs.Trails.{IsTrail, IsReached, place_of};
 
@@ -73,10 +73,10 @@ impl CachedHistory {
         &self.history
     }
 
-    /// The state behind the first `place` deltas. The error is want of memory.
-    pub fn state_behind(&mut self, alloc: Global, place: usize) -> Result<WaveletState, Memory>
+    /// The state after the first `place` deltas. The error is want of memory.
+    pub fn state_after(&mut self, alloc: Global, place: usize) -> Result<WaveletState, Memory>
         requires { place ≤ length self.old.deltas }
-        ensures value { IfOk result (λ s. state_behind self.old.deltas place ≡ Some s) }
+        ensures value { IfOk result (λ s. state_after self.old.deltas place ≡ Some s) }
         ensures same { self.new ≡ self.old }
     {
         if place == self.history.deltas().len() {
@@ -109,13 +109,13 @@ impl CachedHistory {
         match self.reached(alloc, place)? {
             Some(trail) => Ok(trail),
             None => {
-                let state = self.state_behind(alloc, place)?;
+                let state = self.state_after(alloc, place)?;
                 Ok(Trail::at(alloc, state, place))
             }
         }
     }
 
-    /// The index of the first operation that isn't valid behind the first `place` deltas; None where all are. The error is want of
+    /// The index of the first operation that isn't valid after the first `place` deltas; None where all are. The error is want of
     /// memory.
     pub fn invalid_at(
         &mut self,
@@ -136,7 +136,7 @@ impl CachedHistory {
 }
 
 impl CachedHistory {
-    /// The delta is behind the others, with the clauses of `History::push_applied`.
+    /// The delta is after the others, with the clauses of `History::push_applied`.
     pub fn push_applied(&mut self, alloc: Global, delta: AppliedDelta) -> Result<(), HistoryFault>
         ensures ok { OnOk result (IsGrown self.old delta self.new) }
         ensures refused { IfErr result (IsRefused self.old delta) }
@@ -158,7 +158,7 @@ impl CachedHistory {
         self.history.prepare(alloc, delta)
     }
 
-    /// The prepared delta is behind the others, with the conditions of `History::commit`.
+    /// The prepared delta is after the others, with the conditions of `History::commit`.
     pub fn commit(&mut self, prepared: Prepared)
         requires ready { IsReady self.old prepared.delta prepared.after }
         requires room { 0 < self.old.spare }
@@ -178,7 +178,7 @@ fn begun(alloc: Global, cache: Option<StateCache>) -> Result<StateCache, Memory>
     }
 }
 
-// The state behind the first `place` deltas, by the cache, which is that of all deltas then.
+// The state after the first `place` deltas, by the cache, which is that of all deltas then.
 fn look_up(
     alloc: Global,
     history: &History,
@@ -187,7 +187,7 @@ fn look_up(
 ) -> Result<WaveletState, Memory>
     requires begins { IsBegun history.now.deltas cache.old }
     requires inside { place ≤ length history.now.deltas }
-    ensures value { IfOk result (λ s. state_behind history.now.deltas place ≡ Some s) }
+    ensures value { IfOk result (λ s. state_after history.now.deltas place ≡ Some s) }
     ensures begins { IsBegun history.now.deltas cache.new }
 {
     let deltas = history.deltas();
@@ -195,7 +195,7 @@ fn look_up(
     state_counted::<Brand>(alloc, cache, deltas, place, Blank::new(1))
 }
 
-// So it is, with its steps in the ledger of this blank.
+// The state after the first `place` deltas, with its steps in the ledger of this blank.
 fn state_counted<L: Ledger>(
     alloc: Global,
     cache: &StateCache,
@@ -209,7 +209,7 @@ fn state_counted<L: Ledger>(
     requires valid { IsSome (run_all empty_state deltas.now) }
     requires cached { IsCacheOf deltas.now cache.now }
     requires inside { place ≤ length deltas.now }
-    ensures { IfOk result (λ s. state_behind deltas.now place ≡ Some s) }
+    ensures { IfOk result (λ s. state_after deltas.now place ≡ Some s) }
 {
     let mut steps = Steps::new(blank);
     cache.state_at::<L>(alloc, deltas, place as u64, &mut steps)

@@ -19,7 +19,7 @@ use wavelet_state::MAX_INSERTED;
 pub(crate) enum Decision {
     /// The verdict.
     Told(Verdict),
-    /// It was made behind so many deltas, and becomes this delta, unless that can't be the next one.
+    /// It was made after so many deltas, and becomes this delta, unless that can't be the next one.
     Near(usize, AppliedDelta),
 }
 
@@ -42,7 +42,7 @@ impl CachedHistory {
         }
     }
 
-    // So it is, where its operations were made behind so many deltas.
+    // The decision on a submission whose operations were made after so many deltas.
     fn decide_from(
         &mut self,
         alloc: Global,
@@ -55,13 +55,13 @@ impl CachedHistory {
         ensures same { self.new ≡ self.old }
     {
         if place < self.history().deltas().len() {
-            return self.decide_behind(alloc, submission, time, place);
+            return self.decide_below(alloc, submission, time, place);
         }
         self.decide_valid(alloc, submission, time, place)
     }
 
-    // So it is, below the head.
-    fn decide_behind(
+    // The decision on a submission that was made below the head.
+    fn decide_below(
         &mut self,
         alloc: Global,
         submission: &Submission,
@@ -78,7 +78,7 @@ impl CachedHistory {
         }
     }
 
-    // So it is, at the head, or below it where the operations are valid at the base.
+    // The decision on a submission that was made at the head, or below it with operations that are valid at its base.
     fn decide_valid(
         &mut self,
         alloc: Global,
@@ -149,7 +149,7 @@ fn inserted(ops: &Ops) -> u64
     sum
 }
 
-// Whether the bounds of versions and of items hold with the operations behind the head.
+// Whether the bounds of versions and of items hold with the operations after the head.
 fn has_room(history: &History, ops: &Ops) -> bool
     ensures { result ≡ has_room history.now ops.now }
 {

@@ -17,7 +17,7 @@ use wavelet_op::{AppliedDelta, Ops, Role, Submission, Verdict, WaveletOp};
 pub(crate) enum Tested {
     /// The verdict.
     Told(Verdict),
-    /// Its operations were made behind this many deltas.
+    /// Its operations were made after this many deltas.
     Base(usize),
 }
 

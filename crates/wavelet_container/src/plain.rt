@@ -31,7 +31,7 @@ impl CachedHistory {
         }
     }
 
-    // So it is, where it becomes this delta. The time is only spoken of.
+    // The verdict on a submission that becomes this delta, which is then after the others. The time is only spoken of.
     fn push(
         &mut self,
         alloc: Global,

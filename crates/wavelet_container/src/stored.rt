@@ -64,7 +64,7 @@ fn append<K: Disk>(alloc: Global, journal: &mut Journal<K>, bytes: &[u8]) -> Res
     }
 }
 
-// The delta is on the disk, by the bytes that were hashed, and then behind the others.
+// The delta is on the disk, by the bytes that were hashed, and then after the others.
 fn store<K: Disk>(
     alloc: Global,
     wavelet: &mut CachedHistory,

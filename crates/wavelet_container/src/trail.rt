@@ -4,7 +4,7 @@ ghost use Rattle.wavelet_op.specs.Acts.{meanings, AreNormal};
 ghost use Rattle.wavelet_op.specs.Deltas.{DeltaOf};
 ghost use Rattle.wavelet_op.specs.States.{empty_state, run};
 ghost use Rattle.delta_history.specs.Points.{run_all};
-ghost use Rattle.state_cache.specs.States.{state_behind};
+ghost use Rattle.state_cache.specs.States.{state_after};
 ghost use Rattle.wavelet_container.specs.Trails.{IsTrail, IsReached, IsKeptBack, IsTriedAt, place_of};
 ghost use Rattle.std.specs.Prelude.{Some};
 
@@ -47,7 +47,7 @@ pub(crate) struct Tried {
 impl Trail {
     /// The state after so many deltas, none of which can be taken back.
     pub fn at(alloc: Global, state: WaveletState, place: usize) -> Trail
-        ensures { (ds : List DeltaOf) → place ≤ length ds → state_behind ds place ≡ Some state → IsTrail ds result × (place_of result ≡ place) }
+        ensures { (ds : List DeltaOf) → place ≤ length ds → state_after ds place ≡ Some state → IsTrail ds result × (place_of result ≡ place) }
     {
         Trail {
             state,

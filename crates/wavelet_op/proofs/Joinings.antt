@@ -76,18 +76,18 @@ front_of : {A E : Type 0} (a : A) (r : Result (List A) E) (p : List A) → act_f
 front_of a (Ok q) p is = (q, refl, cc)
 front_of a (Err k) p is = absurd (cc)
 
--- behind two neighbours, where it is so behind whatever is held next
-behind_join : (a b : Act) (more fewer : List Act) → IsStructuredAct a → IsStructuredAct b → ((c : Act) (r : List Act) → IsStructuredAct c → compact_by bounded_join c more ≡ Ok r → All IsStructuredAct r) →
+-- after two neighbours, where it is so after whatever is held next
+after_join : (a b : Act) (more fewer : List Act) → IsStructuredAct a → IsStructuredAct b → ((c : Act) (r : List Act) → IsStructuredAct c → compact_by bounded_join c more ≡ Ok r → All IsStructuredAct r) →
     (o : Option (Result Act Unfit)) → bounded_join a b ≡ o → go_on a b (λ c. compact_by bounded_join c more) o ≡ Ok fewer → All IsStructuredAct fewer
-behind_join a b more fewer s v rest None e g = let x = front_of a (compact_by bounded_join b more) fewer g in subst (All IsStructuredAct) x.2 (All-cons IsStructuredAct a x.0 s (rest b x.0 v x.1))
-behind_join a b more fewer s v rest (Some (Ok c)) e g = rest c fewer (join_structured a b c s v e) g
-behind_join a b more fewer s v rest (Some (Err k)) e g = absurd (cc)
+after_join a b more fewer s v rest None e g = let x = front_of a (compact_by bounded_join b more) fewer g in subst (All IsStructuredAct) x.2 (All-cons IsStructuredAct a x.0 s (rest b x.0 v x.1))
+after_join a b more fewer s v rest (Some (Ok c)) e g = rest c fewer (join_structured a b c s v e) g
+after_join a b more fewer s v rest (Some (Err k)) e g = absurd (cc)
 
 compacted : (a : Act) (more fewer : List Act) → IsStructuredAct a → All IsStructuredAct more → compact_by bounded_join a more ≡ Ok fewer → All IsStructuredAct fewer
 compacted a [] fewer s t h = let e : (a ∷ []) ≡ fewer = cc in subst (All IsStructuredAct) e (All-cons IsStructuredAct a [] s (All-nil IsStructuredAct))
 compacted a (b ∷ more) fewer s t h =
     let u = split_first IsStructuredAct b more t in
-    behind_join a b more fewer s u.0 (λ c r v g. compacted c more r v u.1 g) (bounded_join a b) refl h
+    after_join a b more fewer s u.0 (λ c r v g. compacted c more r v u.1 g) (bounded_join a b) refl h
 
 pub compact_structured : (acts fewer : List Act) → All IsStructuredAct acts → bounded_compact acts ≡ Ok fewer → All IsStructuredAct fewer
 compact_structured [] fewer t h = let e : [] ≡ fewer = cc in subst (All IsStructuredAct) e t

@@ -1,5 +1,5 @@
 -- Acts in a row with fewer of them: neighbouring mutations of one document become one, from the left.
---     Unfit                   two neighbours are over too many items together; or the second doesn't apply behind the first,
+--     Unfit                   two neighbours are over too many items together; or the second doesn't apply after the first,
 --                             past so many items
 --     mutation d r            the mutation of a document that composition gives
 --     join a b                one mutation for two of one document, or why there is none; None for other acts

@@ -1,6 +1,6 @@
 -- The transform of lists, from that of two: each later one passes in order through all earlier ones, as the later ones before it
 -- left them.
---     and_next, at_index      a second step behind a result; a refusal with the index at which it is met
+--     and_next, at_index      a second step after a result; a refusal with the index at which it is met
 --     earlier_front, later_front      one more in front of the results
 --     pass_one step l es      one later through the earlier ones: its result, and theirs
 --     grid_by step k ls es    the later ones, of which the first has the index k, through the earlier ones; or the index of the

@@ -17,7 +17,7 @@ pub enum WaveletFault {
     /// The later operation of this index, as it is when it meets an earlier one, can't be valid at one state with it.
     #[error("operation {0} can't be valid together with an earlier one")]
     Conflict(u32),
-    /// Of two neighbouring operations on one document the second can't apply behind the first: so many items are passed before the
+    /// Of two neighbouring operations on one document the second can't apply after the first: so many items are passed before the
     /// first at which they don't agree.
     #[error("an operation that doesn't apply behind the other, past {0} items")]
     DontFit(u64),

@@ -3,7 +3,7 @@ use wave_base::HashedVersion;
 /// What becomes of a submission.
 #[derive(Clone, Copy, Debug, PartialEq, Eq)]
 pub enum Verdict {
-    /// It is in the history, as the delta at the version `at`, behind which the history is at `to`.
+    /// It is in the history, as the delta at the version `at`, after which the history is at `to`.
     Ack { at: u64, to: HashedVersion },
     /// Its author is no participant.
     NotParticipant,

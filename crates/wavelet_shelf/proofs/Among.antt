@@ -1,6 +1,6 @@
 -- Names among others.
---     more, last       a name is among them still, and the one behind them is
---     split, neither   one that is among them with one behind: it is that, or was; one that isn't, is neither
+--     more, last       a name is among them still, and the one after them is
+--     split, neither   one that is among them with one after it: it is that, or was; one that isn't, is neither
 --     ascend_apart     the next of names that ascend isn't among those before it
 --     before_next      what is among names that ascend, and below one of them, is among those before that
 use Rattle.std.proofs.Common.{Less, ◌≡◌, ◌≢◌, ◌⊎◌, inl, inr, ⊎_elim, ℕ, zero, suc, ◌<◌, Bool, true, false, ◌||◌, List, [], ◌∷◌, ◌++◌, length, take, get_or, slice_get, Some, None, IfSome, refl, sym, ap, subst, ◌∙◌, true≢false, arith}

@@ -2,7 +2,7 @@
 --     set_each, set_map          another value at a place of a list
 --     found_in, hosted_in, all_in     what is found, what is hosted and what is so of the entries of a shard
 --     put_in_part, not_in_part   an entry before the others of its shard, and of another one
---     absent_before              its name isn't among those behind it
+--     absent_before              its name isn't among those after it
 --     IsSpreading                the containers that were taken are in the parts of their shards
 --     is_part                    a part with those of its shard
 --     alike_as, alike_another    a folder is like itself, and another of it is like it

@@ -1,6 +1,6 @@
 -- Disks that are put back.
 --     nothing_back, one_more       none was; one more was
---     IsPutting, putting           those behind the containers that are left were; one more was
+--     IsPutting, putting           those after the containers that are left were; one more was
 --     apart_in                     where no two names have one file, no two entries have
 --     back_of, stored_of           what stands in the folder then for a name
 --     no_file                      a file that is no name's is no entry's

@@ -1,6 +1,6 @@
 -- Counts of entries, added.
 --     sum_set, sum_has                 another value of a name that is there; what it had is in the sum
---     sum_put, sum_append              a new entry; one behind the others
+--     sum_put, sum_append              a new entry; one after the others
 --     sum_later, sum_rose              where one count didn't fall, or rose, neither did the cut-off sum, or it rose
 use Rattle.std.proofs.Common.{◌≡◌, ℕ, zero, suc, ◌+◌, ◌≤◌, min, Bool, true, false, cond, List, [], ◌∷◌, ◌++◌, length, insert, Some, None, ap, arith}
 use Rattle.std.specs.Map.{lookup, set_value}

@@ -2,14 +2,14 @@
 --     Hosted                      a history that has a delta
 --     names_of hs                 the names
 --     deltas_in hs n              the deltas of the name: none where it isn't there
---     grown_in hs n d             the delta behind those of the name; a new name takes its place in byte order
+--     grown_in hs n d             the delta after those of the name; a new name takes its place in byte order
 --     with_added hs n o           so, where there is a delta
 --     judged_in hs n s t          the verdict on a submission to the name at the time t, and the delta by which its history grows
 --     after_submission hs n s t   the histories after it
 --     copy_in hs n                the history of the name: None where it isn't there
 --     IsCopyOf o p                a history of the same name and with the same deltas, or none in both
 --     HaveDeltas hs               each of them has a delta
---     GrowsAlone                  the law: the delta is behind those of its name, and the other names, their deltas and the order stay
+--     GrowsAlone                  the law: the delta is after those of its name, and the other names, their deltas and the order stay
 use Rattle.std.specs.Prelude.{◌≡◌, ◌≢◌, ℕ, cond, List, [], ◌∷◌, ◌++◌, map, Option, Some, None}
 use Rattle.std.specs.Cmp.Lexicographic.{slice_cmp}
 use Rattle.std.specs.Ordering.{nat_cmp}

@@ -1,9 +1,9 @@
--- Acts on both parts of a state, and on one behind the other.
+-- Acts on both parts of a state, and on one after the other.
 --     role_law, document_law      an act on roles, and on a document, as an act on a state
 --     get-trimmed, document-trimmed, trimmed-edit, trimmed-trim, trimmed_is     the documents that aren't empty
 --     edit_act                    an edit is the act on the state that is seen
---     runs, refused_now, refused_then     one act, and those behind it
---     trim_through, taken_back    an edit, what happens behind it, and the end
+--     runs, refused_now, refused_then     one act, and those after it
+--     trim_through, taken_back    an edit, what happens after it, and the end
 use Rattle.std.proofs.Common.{◌≡◌, ℕ, suc, ◌+◌, Bool, true, false, cond, List, [], ◌∷◌, refl, sym, ap, subst, ◌∙◌, arith, Option, None, Some, unwrap_or, Result, Ok, Err, IfErr, IfSome, IsSome, is_some, length, ◌≤◌}
 use Rattle.std.specs.Option.{option_map, option_map_or, option_and_then}
 use Rattle.std.specs.FinMap.{get, empty, get-empty}
@@ -109,7 +109,7 @@ document-trim m d q = document-set m d (kept (document m d)) q ∙ trim_at m d q
 pub trimmed-trim : (m n : Map (List Item)) (d : Key) → n ≡ set_key m d (kept (document m d)) → trimmed n ≡ trimmed m
 trimmed-trim m n d e = ap trimmed e ∙ alike _ _ (λ q. get-trimmed (set_key m d (kept (document m d))) q ∙ ap kept (document-trim m d q) ∙ sym (get-trimmed m q))
 
--- ---- an edit, and what comes behind it
+-- ---- an edit, and what comes after it
 
 pub edit_act : (cs : List Component) (d : Key) (r : Map Role) (m n : Map (List Item)) → IsEdit cs d m n → apply_act (seen r m) (Mutates d (actions cs)) ≡ Some (seen r n)
 edit_act cs d r m n e =

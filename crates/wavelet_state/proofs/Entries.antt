@@ -69,7 +69,7 @@ module _ {X : Type 0} where
       ap (λ o. match_ordering o ((e.0, e.1) ∷ x ∷ done) ((x.0, e.1) ∷ done) (x ∷ tree.insert_entry (slice_cmp nat_cmp) done e.0 e.1)) (behind e.0 x.0 (at_entry (λ k. slice_cmp nat_cmp x.0 k ≡ Less) done rest e s.0))
       ∙ ap (λ l. x ∷ l) (last_of done rest e s.1)
 
-  -- an entry that comes behind those copied is copied
+  -- an entry that comes after those copied is copied
   pub insert_next : (all done next left rest : List (Key × X)) (k : Key) (v : X) → IsStrictlySortedBy (slice_cmp nat_cmp) (keys_of all) → done ++ left ≡ all → left ≡ (k, v) ∷ rest
       → next ≡ tree.insert_entry (slice_cmp nat_cmp) done k v → next ++ rest ≡ all
   insert_next all done next left rest k v s d f e =

@@ -1,7 +1,7 @@
 -- Documents at one key and at all.
---     get-set                    a look-up behind a change
---     document-set               a document behind a change
---     balanced_set, balanced_removed, balanced_none    whether each is balanced, behind a change
+--     get-set                    a look-up after a change
+--     document-set               a document after a change
+--     balanced_set, balanced_removed, balanced_none    whether each is balanced, after a change
 use Rattle.std.proofs.Common.{◌≡◌, ◌≢◌, ◌+◌, ◌≤◌, Bool, true, false, cond, List, [], ◌∷◌, refl, sym, ap, subst, ◌∙◌, Option, None, Some, unwrap_or, true≢false, IfSome, IsSome, is_some, IfOk, Bor, Result, Ok, Err, OnOk, OnErr, ℕ, length, ◌==◌, suc, arith}
 use Rattle.std.specs.Option.{option_map, option_copied}
 use Rattle.std.specs.Ordering.{nat_cmp}

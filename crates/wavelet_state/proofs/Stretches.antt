@@ -1,4 +1,4 @@
--- An edit keeps what stands before the first and behind the last of its replacements, so the stretch between, put back,
+-- An edit keeps what stands before the first and after the last of its replacements, so the stretch between, put back,
 -- restores the document.
 --     edited        what an edit makes of a document, as three parts
 --     measures      where the stretch lies

@@ -4,7 +4,7 @@ use Rattle.conversation.specs.Search.{AreWithin}
 use Rattle.conversation.specs.Trees.{step, tree, behind}
 use Rattle.conversation.specs.declared.reading.Reading.{Reading}
 use Rattle.conversation.proofs.Ends.{found_step, low_step, within_step, ends, same_end}
-use Rattle.conversation.proofs.Readings.{inside_grows, passed_grows, tree_next, behind_next}
+use Rattle.conversation.proofs.Readings.{inside_grows, passed_grows, tree_next, after_next}
 use Rattle.conversation.proofs.Searching.{slice_drop, step_balanced}
 use Rattle.conversation.proofs.search.end_behind.Goals as goal
 
@@ -37,7 +37,7 @@ loop-behind-preserved g c =
     let same_passed = ap (λ (x : Reading). x.passed) c.pass.ensures in
     let place : (c.args.from + c.loop-behind.behind) + 1 ≡ c.args.from + (c.loop-behind.behind + 1) = omega arith in
     record {
-      reading = c.pass.ensures ∙ ap (λ x. step x item) c.loop-behind.invariant.reading ∙ sym (behind_next c.args.begun rest c.loop-behind.behind item here);
+      reading = c.pass.ensures ∙ ap (λ x. step x item) c.loop-behind.invariant.reading ∙ sym (after_next c.args.begun rest c.loop-behind.behind item here);
       within = subst (AreWithin c.args.begun.inside) (sym (tree_next c.args.begun rest c.loop-behind.behind item here))
           (within_step (behind c.args.begun done) item c.args.begun.inside (tree c.args.begun done) low c.loop-behind.invariant.within);
       low = subst (λ (x : Reading). c.args.begun.inside ≤ x.inside) (sym c.pass.ensures) (low_step r item c.args.begun.inside c.loop-behind.invariant.low (sym c.is_end.ensures ∙ c.if-is_end.false));

@@ -4,7 +4,7 @@ use Rattle.conversation.specs.Search.{is_wanted}
 use Rattle.conversation.specs.Trees.{start, step, shown, tree, behind}
 use Rattle.conversation.specs.declared.reading.Reading.{Reading}
 use Rattle.conversation.proofs.Growing.{has_append}
-use Rattle.conversation.proofs.Readings.{inside_grows, passed_grows, tree_next, behind_next}
+use Rattle.conversation.proofs.Readings.{inside_grows, passed_grows, tree_next, after_next}
 use Rattle.conversation.proofs.Searching.{inside_list, step_balanced, one_shown}
 use Rattle.conversation.proofs.search.find.Goals as goal
 
@@ -51,7 +51,7 @@ loop-place-preserved g c =
     let same_inside = ap (λ (x : Reading). x.inside) c.pass.ensures in
     let same_passed = ap (λ (x : Reading). x.passed) c.pass.ensures in
     record {
-      reading = c.pass.ensures ∙ ap (λ x. step x item) c.loop-place.invariant.reading ∙ sym (behind_next start items c.loop-place.place item here);
+      reading = c.pass.ensures ∙ ap (λ x. step x item) c.loop-place.invariant.reading ∙ sym (after_next start items c.loop-place.place item here);
       none = ap (has test) (tree_next start items c.loop-place.place item here) ∙ has_append test (tree start front) (shown (behind start front) item) c.loop-place.invariant.none
           ∙ ap (λ x. has test (shown x item)) (sym c.loop-place.invariant.reading) ∙ sym c.begins-is_here.ensures ∙ c.if-is_here.false;
       balanced = step_balanced r c.pass.new.self items c.loop-place.place item here c.pass.ensures c.loop-place.invariant.balanced;

@@ -1,7 +1,7 @@
 use Rattle.std.proofs.Common.{◌≡◌, ◌≤◌, ◌+◌, ◌++◌, sym, ap, ◌∙◌, arith, take, append-nil}
 use Rattle.conversation.specs.Trees.{start, step, shown, tree, behind}
 use Rattle.conversation.specs.declared.reading.Reading.{Reading}
-use Rattle.conversation.proofs.Readings.{inside_grows, passed_grows, tree_next, behind_next}
+use Rattle.conversation.proofs.Readings.{inside_grows, passed_grows, tree_next, after_next}
 use Rattle.conversation.proofs.Rooting.{outside_step, root_step}
 use Rattle.conversation.proofs.Searching.{inside_list, step_balanced}
 use Rattle.conversation.proofs.search.find_root.Goals as goal
@@ -47,7 +47,7 @@ loop-place-preserved g c =
     let passed = passed_grows r item in
     let outside = outside_step r item c.loop-place.invariant.outside (sym same_found ∙ c.if-reading.false) in
     record {
-      reading = c.pass.ensures ∙ ap (λ x. step x item) c.loop-place.invariant.reading ∙ sym (behind_next start items c.loop-place.place item here);
+      reading = c.pass.ensures ∙ ap (λ x. step x item) c.loop-place.invariant.reading ∙ sym (after_next start items c.loop-place.place item here);
       none = c.if-reading.false;
       outside = same_inside ∙ outside.inside;
       empty = tree_next start items c.loop-place.place item here ∙ ap (λ z. z ++ shown (behind start front) item) c.loop-place.invariant.empty

@@ -1,7 +1,7 @@
 use Rattle.std.proofs.Common.{rules, ◌≡◌, ◌≤◌, ◌<◌, ◌++◌, [], length, slice_set, arith}
 use Rattle.pipe_machine.specs.Runs.{seats_in}
 use Rattle.pipe_machine.specs.Seats.{begun, seat_in}
-use Rattle.pipe_machine.proofs.Running.{get_front, get_behind, set_front, set_behind}
+use Rattle.pipe_machine.proofs.Running.{get_front, get_after, set_front, set_after}
 use Rattle.pipe_machine.proofs.deliver.+deliver_at.Goals as goal
 
 pub returns-then-place-count-clause-changed : goal.returns-then-place-count-clause-changed
@@ -21,4 +21,4 @@ returns-else-place-count-clause-changed g t c =
     let zs = seats_in c.deliver_at.new.runs in
     let i = c.args.place in
     let behind : length xs ≤ i = omega (arith, c.if-place-count.false, c.len-count.ensures) in
-    search (rules, set_behind xs ys i (seat_in i (xs ++ zs)) behind, get_behind xs zs i (begun []) behind)
+    search (rules, set_after xs ys i (seat_in i (xs ++ zs)) behind, get_after xs zs i (begun []) behind)

@@ -7,7 +7,7 @@ use Rattle.pipe_machine.specs.Machine.{reply_of, replied}
 use Rattle.pipe_machine.specs.declared.seats.Seat.{Seat}
 use Rattle.pipe_machine.specs.Runs.{seats_in}
 use Rattle.pipe_machine.specs.Seats.{begun, seat_in}
-use Rattle.pipe_machine.proofs.Running.{get_front, get_behind, get_set, set_front, set_behind}
+use Rattle.pipe_machine.proofs.Running.{get_front, get_after, get_set, set_front, set_after}
 use Rattle.pipe_machine.proofs.Serving.{any_default}
 use Rattle.pipe_machine.proofs.reply.+reply_among.Goals as goal
 
@@ -30,7 +30,7 @@ returns-else-place-count-clause-changed g t c =
     let i = c.args.place in
     let behind : length xs ≤ i = omega (arith, c.if-place-count.false, c.len-count.ensures) in
     let v : Seat = record { name = (seat_in i (xs ++ ys)).name; session = (seat_in i (xs ++ zs)).session } in
-    search (rules, set_behind xs ys i v behind, get_behind xs zs i (begun []) behind, get_behind xs ys i (begun []) behind)
+    search (rules, set_after xs ys i v behind, get_after xs zs i (begun []) behind, get_after xs ys i (begun []) behind)
 
 pub returns-then-place-count-clause-reply : goal.returns-then-place-count-clause-reply
 returns-then-place-count-clause-reply g t c =
@@ -71,9 +71,9 @@ returns-else-place-count-clause-reply g t c =
     let many : c.len-count.result ≡ length xs = omega (arith, c.len-count.ensures) in
     let whole : seats_in c.args.runs.now ≡ xs ++ ys = search rules in
     let after : (seat_in (i - c.len-count.result) zs).session ≡ (seat_in i (xs ++ zs)).session = ap (λ (z : Seat). z.session)
-    (ap (λ (n : ℕ). seat_in (i - n) zs) many ∙ sym (get_behind xs zs i (begun []) behind)) in
+    (ap (λ (n : ℕ). seat_in (i - n) zs) many ∙ sym (get_after xs zs i (begun []) behind)) in
     let before : (seat_in (i - c.len-count.result) ys).session ≡ (seat_in i (seats_in c.args.runs.now)).session = ap (λ (z : Seat). z.session)
-    (ap (λ (n : ℕ). seat_in (i - n) ys) many ∙ sym (get_behind xs ys i (begun []) behind) ∙ ap (seat_in i) (sym whole)) in
+    (ap (λ (n : ℕ). seat_in (i - n) ys) many ∙ sym (get_after xs ys i (begun []) behind) ∙ ap (seat_in i) (sym whole)) in
     subst (λ (p : Session × Session). IfOk c.reply_among.result (λ r. reply_of (hosted_of c.reply_among.new.shelf) (p.0, reply_message r) ≡ replied (hosted_of c.args.shelf.now) p.1 c.args.message c.args.time))
     (λ k. (after k, before k)) c.reply_among.ensures.reply
 
@@ -86,5 +86,5 @@ returns-else-place-count-clause-ended g t c =
     let many : c.len-count.result ≡ length xs = omega (arith, c.len-count.ensures) in
     let whole : seats_in c.args.runs.now ≡ xs ++ ys = search rules in
     let before : (seat_in (i - c.len-count.result) ys).session ≡ (seat_in i (seats_in c.args.runs.now)).session = ap (λ (z : Seat). z.session)
-    (ap (λ (n : ℕ). seat_in (i - n) ys) many ∙ sym (get_behind xs ys i (begun []) behind) ∙ ap (seat_in i) (sym whole)) in
+    (ap (λ (n : ℕ). seat_in (i - n) ys) many ∙ sym (get_after xs ys i (begun []) behind) ∙ ap (seat_in i) (sym whole)) in
     subst (λ (s : Session). IsEnded c.args.shelf.now c.reply_among.new.shelf (replied (hosted_of c.args.shelf.now) s c.args.message c.args.time).hosted c.reply_among.result) before c.reply_among.ensures.ended

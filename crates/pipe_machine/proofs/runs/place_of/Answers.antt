@@ -2,7 +2,7 @@ use Rattle.std.proofs.Common.{◌≡◌, ◌<◌, ◌≤◌, ◌+◌, ◌-◌, �
 use Rattle.std.proofs.lemmas.Option.{slice_get_read}
 use Rattle.pipe_machine.specs.Runs.{seats_in}
 use Rattle.pipe_machine.specs.Seats.{begun, place_in}
-use Rattle.pipe_machine.proofs.Searching.{before_place, behind_place, place_within}
+use Rattle.pipe_machine.proofs.Searching.{before_place, after_place, place_within}
 use Rattle.pipe_machine.proofs.Serving.{any_default}
 use Rattle.pipe_machine.proofs.runs.place_of.Goals as goal
 
@@ -30,4 +30,4 @@ loop-low-preserved c =
     let inside : middle < length ss = omega (arith, c.loop-low-test.true, c.loop-low.invariant.bound) in
     let seat = c.seat_at.result.now in
     let got : slice_get ss middle ≡ Some seat = slice_get_read ss (length ss) middle seat refl inside (c.seat_at.ensures ∙ any_default ss middle (begun []) seat inside) in
-    record { low = c.loop-low.invariant.low; high = behind_place c.args.name.now ss middle seat got (sym c.is_before.ensures ∙ c.if-is_before.false); bound = omega (arith, inside) }
+    record { low = c.loop-low.invariant.low; high = after_place c.args.name.now ss middle seat got (sym c.is_before.ensures ∙ c.if-is_before.false); bound = omega (arith, inside) }

@@ -1,6 +1,6 @@
 use Rattle.std.proofs.Common.{◌∙◌, refl, sym, ap, arith, Some}
 use Rattle.std.proofs.lemmas.List.{length-map}
-use Rattle.state_cache.specs.States.{state_behind}
+use Rattle.state_cache.specs.States.{state_after}
 use Rattle.robot_host.specs.Robots.{robot_by}
 use Rattle.robot_host.proofs.AllTurns.{none_below, next_turn, last_turn, all_through, same_addresses, same_lengths}
 use Rattle.robot_host.proofs.progress.turn_all.Goals as goal
@@ -11,7 +11,7 @@ loop-robot-init g c = record {
   addresses = refl;
   seats = refl;
   counts = refl;
-  reached = ap (state_behind c.args.history.now.deltas) c.new-walk.ensures.place ∙ sym (ap Some c.new-walk.ensures.state);
+  reached = ap (state_after c.args.history.now.deltas) c.new-walk.ensures.place ∙ sym (ap Some c.new-walk.ensures.state);
 }
 
 pub returns-in_err-turn_robot-clause-turns : goal.returns-in_err-turn_robot-clause-turns

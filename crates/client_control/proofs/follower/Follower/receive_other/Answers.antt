@@ -11,7 +11,7 @@ use Rattle.client_control.specs.declared.flight.InFlight.{InFlight}
 use Rattle.client_control.specs.Parts.{Parts, parts, with_ops, IsKept}
 use Rattle.client_control.specs.Steps.{IsOver}
 use Rattle.client_control.proofs.Matches.{some_of}
-use Rattle.client_control.proofs.Receipts.{parts_behind, IsMovedOn, other_room, other_kept}
+use Rattle.client_control.proofs.Receipts.{parts_after, IsMovedOn, other_room, other_kept}
 use Rattle.client_control.proofs.follower.Follower.receive_other.Goals as goal
 
 pub inserted_all-self-inside-requires : goal.inserted_all-self-inside-requires
@@ -37,5 +37,5 @@ invariant_of-self c =
     let count = c.inserted_all-self-inside.ensures ∙ ap (λ (z : List (List WaveletOp)). inserted_all (map meanings (option_to_list o.flight ++ z))) c.as_slice.ensures.value in
     let screen = subst (λ (z : Option State). IsMovedOn z o.left c.moved.result) c.take.ensures.value c.moved.ensures in
     let flight = c.flown.ensures ∙ ap (λ (z : Option InFlight). with_ops z o.flight) c.take-in-Ok.ensures.value in
-    subst (λ (z : Option InFlight). IsKept (parts_behind p s t z o.queue.items) c.inserted_all-self-inside.result c.moved.result) (sym flight)
+    subst (λ (z : Option InFlight). IsKept (parts_after p s t z o.queue.items) c.inserted_all-self-inside.result c.moved.result) (sym flight)
     (other_kept p d s t o i.held c.inserted_all-self-inside.result i.shown c.moved.result c.self.invariant c.in-Some.ensures goes over count screen)

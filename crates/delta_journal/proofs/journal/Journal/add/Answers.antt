@@ -6,7 +6,7 @@ use Rattle.delta_journal.specs.Shape.{Staged}
 use Rattle.delta_journal.specs.Stage.{record_in}
 use Rattle.delta_journal.specs.Journal.{IsJournal, WhereHeld}
 use Rattle.delta_journal.proofs.Puts.{put_moments, put_opened, put_stays}
-use Rattle.delta_journal.proofs.Stages.{headed_file, headed_place, on_err, opened-push, place_behind, record_stands}
+use Rattle.delta_journal.proofs.Stages.{headed_file, headed_place, on_err, opened-push, place_after, record_stands}
 use Rattle.delta_journal.proofs.journal.Journal.add.Goals as goal
 
 pub returns-in_err-write_through-2-clause-any_moment : goal.returns-in_err-write_through-2-clause-any_moment
@@ -49,7 +49,7 @@ returns-clause-ok g c name records held =
     record {
       told = held.told;
       header = held.header;
-      place = ap (λ (n : ℕ). old.place + n) (c.len-size.ensures ∙ c.args.block.ok.0) ∙ place_behind name records c.args.block.items old.place place c.requires.block;
+      place = ap (λ (n : ℕ). old.place + n) (c.len-size.ensures ∙ c.args.block.ok.0) ∙ place_after name records c.args.block.items old.place place c.requires.block;
       empty = tt;
       block = tt;
       file = subst (λ (f : List ℕ). Kept (g.K.Disk.view c.write_through-2.new.disk) (Closed f)) (opened-push name records (record_in c.args.block.items)) behind;

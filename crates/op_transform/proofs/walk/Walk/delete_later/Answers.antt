@@ -1,6 +1,6 @@
 use Rattle.std.proofs.Common.{refl, arith}
 use Rattle.op_transform.proofs.Arms.{later_deleted, later_refused}
-use Rattle.op_transform.proofs.Rooms.{behind_within}
+use Rattle.op_transform.proofs.Rooms.{after_within}
 use Rattle.op_transform.proofs.walk.Walk.delete_later.Goals as goal
 
 pub returns-then-not-branch-clause-passed : goal.returns-then-not-branch-clause-passed
@@ -12,5 +12,5 @@ returns-clause-passed c = later_deleted _ _ _ _ _ _ _ _ _ _ _ c.requires.same c.
 pub returns-clause-room : goal.returns-clause-room
 returns-clause-room c =
     let room = c.requires.room.0 in
-    let w = behind_within _ _ _ _ _ _ _ c.args.self.now.place c.args.self.now.length c.args.y.count c.if-not-branch.false c.in_ok-delete.ensures c.requires.same room.0 in
+    let w = after_within _ _ _ _ _ _ _ c.args.self.now.place c.args.self.now.length c.args.y.count c.if-not-branch.false c.in_ok-delete.ensures c.requires.same room.0 in
     ((w, (omega (arith, room.1.0), omega (arith, room.1.1), omega (arith, room.1.2)), omega (arith, room.2)), refl)

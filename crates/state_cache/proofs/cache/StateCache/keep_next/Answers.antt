@@ -1,5 +1,5 @@
 use Rattle.std.proofs.Common.{rules, ◌≡◌, ◌+◌, ◌*◌, ◌-◌, ◌++◌, ◌∷◌, [], sym, ap, subst, ◌∙◌, arith, length}
-use Rattle.state_cache.specs.States.{AreKept, state_behind}
+use Rattle.state_cache.specs.States.{AreKept, state_after}
 use Rattle.state_cache.proofs.Runs.{stretch_valid, stretch_leads}
 use Rattle.state_cache.proofs.Caches.{looked_up, kept_more}
 use Rattle.state_cache.proofs.cache.StateCache.keep_next.Goals as goal
@@ -18,4 +18,4 @@ returns-clause-kept c =
     let long : c.len-last.result ≡ length c.args.self.now = c.len-last.ensures ∙ c.self.inside.states.ok.0 ∙ ap length c.self.view_is in
     let place : length c.args.self.now * 64 ≡ last * 64 + (last * 64 + 64 - last * 64) = omega (arith, long, c.requires.some) in
     let all : c.push.new.self.items ≡ c.args.self.now ++ c.apply_all.new.state ∷ [] = c.in_ok-push.ensures.items ∙ ap (λ z. z ++ c.apply_all.new.state ∷ []) c.self.view_is in
-    subst (AreKept c.args.deltas.now) (sym all) (kept_more c.args.deltas.now c.args.self.now c.apply_all.new.state c.requires.kept (ap (state_behind c.args.deltas.now) place ∙ to))
+    subst (AreKept c.args.deltas.now) (sym all) (kept_more c.args.deltas.now c.args.self.now c.apply_all.new.state c.requires.kept (ap (state_after c.args.deltas.now) place ∙ to))

@@ -5,10 +5,10 @@ use Rattle.wave_base.proofs.address.Address.domain.Goals as goal
 
 pub returns-clause-part : goal.returns-clause-part
 unfolding domain_of
-returns-clause-part c = c.text_behind.ensures ∙ ap (behind at_sign) (c.as_str.ensures.value ∙ c.self.view_is)
+returns-clause-part c = c.text_after.ensures ∙ ap (behind at_sign) (c.as_str.ensures.value ∙ c.self.view_is)
 
 pub returns-clause-good : goal.returns-clause-good
 unfolding domain_of
 returns-clause-good c =
-    let part : c.text_behind.result.now ≡ domain_of c.args.self.now = c.text_behind.ensures ∙ ap (behind at_sign) (c.as_str.ensures.value ∙ c.self.view_is) in
+    let part : c.text_after.result.now ≡ domain_of c.args.self.now = c.text_after.ensures ∙ ap (behind at_sign) (c.as_str.ensures.value ∙ c.self.view_is) in
     ap is_domain part ∙ domain_of-good c.args.self.now (ap is_address (sym c.self.view_is) ∙ c.self.invariant)

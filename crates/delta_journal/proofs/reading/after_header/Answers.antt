@@ -4,7 +4,7 @@ use Rattle.std.proofs.lemmas.Bool.{eq-eqb}
 use mathlib.Core.Bool.{not}
 use lib.Pointwise.{pointwise}
 use lib.Dec.{eqb}
-use Rattle.delta_journal.proofs.reading.behind_header.Goals as goal
+use Rattle.delta_journal.proofs.reading.after_header.Goals as goal
 
 same_bytes : (l : List ℕ) → pointwise eqb l l ≡ true
 same_bytes [] = refl

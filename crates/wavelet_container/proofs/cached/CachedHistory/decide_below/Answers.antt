@@ -2,7 +2,7 @@ use Rattle.std.proofs.Common.{subst, Option, ℕ}
 use Rattle.wavelet_op.specs.Acts.{meanings}
 use Rattle.wavelet_container.specs.Decisions.{IsInvalidAt}
 use Rattle.wavelet_container.proofs.Judging.{invalid_told}
-use Rattle.wavelet_container.proofs.cached.CachedHistory.decide_behind.Goals as goal
+use Rattle.wavelet_container.proofs.cached.CachedHistory.decide_below.Goals as goal
 
 pub returns-in-Some-clause-decided : goal.returns-in-Some-clause-decided
 returns-in-Some-clause-decided c =

@@ -1,6 +1,6 @@
 use Rattle.std.proofs.lemmas.Result.{IfOk-weaker}
 use Rattle.wavelet_container.proofs.Bases.{at_end}
-use Rattle.wavelet_container.proofs.cached.CachedHistory.state_behind.Goals as goal
+use Rattle.wavelet_container.proofs.cached.CachedHistory.state_after.Goals as goal
 
 pub returns-then-place-deltas-clause-value : goal.returns-then-place-deltas-clause-value
 returns-then-place-deltas-clause-value c =
