@@ -15,10 +15,9 @@ from two_servers import open_copy, start
 from two_sessions import free_port
 from wave_client import Copy, Session
 
-ROUNDS = int(sys.argv[1]) if len(sys.argv) > 1 else 100
-PROGRAM = sys.argv[2] if len(sys.argv) > 2 else str(HOME / "crates/wave/out/wave")
 DOMAINS = ("a.com", "b.com", "c.com")
 SUBMISSIONS, MORE = 400, 5000
+ROUNDS, PROGRAM = 100, str(HOME / "crates/wave/out/wave")
 
 
 def name_of(domain):
@@ -157,4 +156,6 @@ def main():
 
 
 if __name__ == "__main__":
+    ROUNDS = int(sys.argv[1]) if len(sys.argv) > 1 else ROUNDS
+    PROGRAM = sys.argv[2] if len(sys.argv) > 2 else PROGRAM
     main()

@@ -51,7 +51,7 @@ def main():
     hers.edit("b+1", 0, "Hello")
     hers.settle()
     his = open_copy(bob, WAVELET)
-    print(f"bob@b.com sees {his.text('b+1')!r} and types behind it, at his own server")
+    print(f"bob@b.com sees {his.text('b+1')!r} and types after it, at his own server")
     his.edit("b+1", len(his.text("b+1")), ", Alice!")
     his.settle()
     while hers.version < his.version:

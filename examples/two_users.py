@@ -3,7 +3,7 @@
 
 PROGRAM is crates/wave/out/wave unless it is given (`rt run` in crates/wave builds it). Alice begins a wavelet and adds bob, both edit
 one document, bob replies in a thread, alice makes him a reader, and he is refused. Then the program is started again on the same
-folder, and what they wrote is there. Each line sent is printed behind `>`, and each answer behind `<`, as it comes.
+folder, and what they wrote is there. Each line sent is printed after `>`, and each answer after `<`, as it comes.
 """
 
 import json

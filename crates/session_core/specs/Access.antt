@@ -1,6 +1,7 @@
 -- Who may see what of the copies of wavelets at one moment.
 --     Shown                     the copies as a session sees them: the history of a name, the names hosted here, whether a copy noted a
 --                               drop, and the verdict known for a submission
+--     shown_by copies c         the copies of a value, by what its type tells of them: clauses write `shown_by C.Copies copies`
 --     with_hosts c ns           the same copies, of which these names alone are looked at as hosted
 --     is_member h u             the address is a participant at the head of the history
 --     in_state s d keys         one of the addresses is of the domain
@@ -20,6 +21,7 @@ use Rattle.wavelet_op.specs.States.{role_of}
 use Rattle.wavelet_op.specs.declared.verdict.Verdict.{Verdict}
 use Rattle.wavelet_state.specs.Snapshots.{SnapshotOf}
 use Rattle.delta_history.specs.Histories.{HistoryOf, head_of}
+use Rattle.delta_history.specs.declared.copies.Copies as copies_of
 use Rattle.message_json.specs.declared.message.Message.{Message}
 use Rattle.message_json.specs.declared.message.Message.TheVariants.{Hello, OpenWavelet, Submit, CloseWavelet, Welcome, Opened, Snapshot, Unopened, Ack, Refused, Queued, Update, Closed, Bad, Peer, Have, Relay, Applied, Relayed, Dropped}
 use Rattle.session_core.specs.declared.session.Party.{Party}
@@ -33,6 +35,9 @@ pub record Shown : Type 0 where
 
 abbrev pub shown : (Key → Option HistoryOf) → List Key → (Key → Bool) → (Key → IdOf → Option Verdict) → Shown
 shown copy hosts drops outcome = record { copy = copy; hosts = hosts; drops = drops; outcome = outcome }
+
+abbrev pub shown_by : {S : Type 0} → copies_of.Ghosts S → S → Shown
+shown_by told c = shown (told.copies c) (told.hosts c) (told.drops c) (told.outcomes c)
 
 abbrev pub with_hosts : Shown → List Key → Shown
 with_hosts c ns = record c { hosts = ns }

@@ -4,7 +4,7 @@ ghost use Rattle.std.specs.Option.{option_copied};
 ghost use Rattle.delta_history.specs.Histories.{head_of, hash_found};
 ghost use Rattle.wavelet_state.specs.Snapshots.{is_snapshot};
 ghost use Rattle.session_core.specs.Rules.{has_user, has_peer, max_peer};
-ghost use Rattle.session_core.specs.Access.{shown, is_member, seen_by, MaySee};
+ghost use Rattle.session_core.specs.Access.{shown_by, is_member, seen_by, MaySee};
 ghost use Rattle.session_core.specs.Answers.{verdict_message, told_verdict, is_waiting, with_waiting, answered, sent_at, with_sent, snapshot_of, is_sendable, attached_head, attached_hash, attached_seen, seen_for, attached, HasLongHead, told_at, had_hash, had_copy, had};
 ghost use Rattle.session_core.specs.News.{reply_message};
 ghost use Rattle.wavelet_json.specs.declared.reason.UnopenedReason.TheVariants.{TooLarge};
@@ -204,7 +204,7 @@ pub(crate) fn may_see<C: Copies>(
 
 // The history that may be shown to a user.
 fn seen_by<'a, C: Copies>(copies: &'a C, name: &WaveletName, user: &Address) -> Option<&'a History>
-    ensures { option_copied result ≡ seen_by (shown (C.copies copies.entry.now) (C.hosts copies.entry.now) (C.drops copies.entry.now) (C.outcomes copies.entry.now)) name.now user.now }
+    ensures { option_copied result ≡ seen_by (shown_by C.Copies copies.entry.now) name.now user.now }
 {
     let history = copies.copy_of(name)?;
     if may_see(copies, name, history, user) {
@@ -219,7 +219,8 @@ fn snapshot_of(
     name: &WaveletName,
     history: &History,
 ) -> Result<Option<Snapshot>, Memory>
-    ensures { IfOk result (λ s. s ≡ cond (is_snapshot (head_of history.now).count (head_of history.now).state) (Some (snapshot_of name.now history.now)) None) }
+    ensures { IfOk result (λ s. s
+        ≡ cond (is_snapshot (head_of history.now).count (head_of history.now).state) (Some (snapshot_of name.now history.now)) None) }
 {
     let name = name.copy(alloc)?;
     let state = history.state().copy(alloc)?;
@@ -293,7 +294,8 @@ impl Session {
         from: &HashedVersion,
         history: &History,
     ) -> Result<Message, Memory>
-        ensures ok { IfOk result (λ m. (self.new, m) ≡ attached_hash self.old name.now from.now (head_of history.now).at (hash_found history.now from.now.version)) }
+        ensures ok { IfOk result (λ m. (self.new, m)
+            ≡ attached_hash self.old name.now from.now (head_of history.now).at (hash_found history.now from.now.version)) }
         ensures same { OnErr result (self.new ≡ self.old) }
     {
         let Some(hash) = history.hash_at(from.version) else {
@@ -318,7 +320,8 @@ impl Session {
         from: Option<&HashedVersion>,
         history: &History,
     ) -> Result<Reply, Memory>
-        ensures ok { IfOk result (λ r. (self.new, reply_message r) ≡ attached_seen self.old name.now (option_copied from.entry) (Some history.now)) }
+        ensures ok { IfOk result (λ r. (self.new, reply_message r)
+            ≡ attached_seen self.old name.now (option_copied from.entry) (Some history.now)) }
         ensures fits { is_snapshot (head_of history.now).count (head_of history.now).state ≡ true }
         ensures same { OnErr result (self.new ≡ self.old) }
     {
@@ -331,7 +334,7 @@ impl Session {
 
     // The history that may be shown to whoever it is.
     fn seen_history<'a, C: Copies>(&self, copies: &'a C, name: &WaveletName) -> Option<&'a History>
-        ensures { option_copied result ≡ seen_for (shown (C.copies copies.entry.now) (C.hosts copies.entry.now) (C.drops copies.entry.now) (C.outcomes copies.entry.now)) self.now.party name.now }
+        ensures { option_copied result ≡ seen_for (shown_by C.Copies copies.entry.now) self.now.party name.now }
     {
         match &self.party {
             Party::Nobody => None,
@@ -353,9 +356,11 @@ impl Session {
         from: Option<&HashedVersion>,
     ) -> Result<Reply, Memory>
         requires { has_user self.old ≡ true }
-        ensures ok { IfOk result (λ r. (self.new, reply_message r) ≡ attached (shown (C.copies copies.now) (C.hosts copies.now) (C.drops copies.now) (C.outcomes copies.now)) self.old name.now (option_copied from.entry)) }
-        ensures access { IfOk result (λ r. MaySee (shown (C.copies copies.now) (C.hosts copies.now) (C.drops copies.now) (C.outcomes copies.now)) self.old.party (reply_message r)) }
-        ensures large { IfOk result (λ r. (reply_message r ≡ Message.Unopened name.now TooLarge) ↔ ((option_copied from.entry ≡ None) × HasLongHead (shown (C.copies copies.now) (C.hosts copies.now) (C.drops copies.now) (C.outcomes copies.now)) self.old.party name.now)) }
+        ensures ok { IfOk result (λ r. (self.new, reply_message r)
+            ≡ attached (shown_by C.Copies copies.now) self.old name.now (option_copied from.entry)) }
+        ensures access { IfOk result (λ r. MaySee (shown_by C.Copies copies.now) self.old.party (reply_message r)) }
+        ensures large { IfOk result (λ r. (reply_message r ≡ Message.Unopened name.now TooLarge)
+            ↔ ((option_copied from.entry ≡ None) × HasLongHead (shown_by C.Copies copies.now) self.old.party name.now)) }
         ensures same { OnErr result (self.new ≡ self.old) }
     {
         match self.seen_history(copies, name) {
@@ -376,7 +381,7 @@ impl Session {
         from: &HashedVersion,
     ) -> Result<(), Memory>
         requires { has_peer self.old ≡ true }
-        ensures ok { OnOk result (self.new ≡ had (shown (C.copies copies.now) (C.hosts copies.now) (C.drops copies.now) (C.outcomes copies.now)) self.old name.now from.now) }
+        ensures ok { OnOk result (self.new ≡ had (shown_by C.Copies copies.now) self.old name.now from.now) }
         ensures same { OnErr result (self.new ≡ self.old) }
     {
         let Some(history) = copies.copy_of(name) else {

@@ -4,9 +4,9 @@ ghost use Rattle.std.specs.List.{list_any, All, AllByRecursion};
 ghost use Rattle.std.specs.Option.{option_copied};
 ghost use Rattle.delta_history.specs.Histories.{head_of};
 ghost use Rattle.delta_history.specs.Places.{started_below, IsRisingFrom};
-ghost use Rattle.session_core.specs.Access.{Shown, shown, with_hosts, has_domain, is_of_domain, seen_from, MaySee};
+ghost use Rattle.session_core.specs.Access.{Shown, shown_by, with_hosts, has_domain, is_of_domain, seen_from, MaySee};
 ghost use Rattle.session_core.specs.Current.{IsWholeTo, are_sent};
-ghost use Rattle.session_core.specs.News.{messages_of, deltas_of, IsPlaced};
+ghost use Rattle.session_core.specs.News.{messages_of, deltas_of, ArePlaced, StayPlaced};
 ghost use Rattle.wavelet_json.specs.declared.reason.ClosedReason.TheVariants.{Access};
 ghost use Rattle.session_core.specs.Deliveries.{since, updates, applieds, outcome_sent, outcomes_sent, still_waiting, opening_sent, openings_sent, opening_kept, openings_kept, fated, host_news, host_told, telling_of, after_host, hosts_sent, hosts_told, delivered, after_delivery};
 
@@ -63,8 +63,10 @@ fn push_update<'a>(
     delta: &'a AppliedDelta,
     out: &mut Vec<News<'a>>,
 ) -> Result<(), Memory>
-    ensures sent { OnOk result (messages_of out.new.items ≡ messages_of out.old.items ++ Message.Update name.entry.now delta.entry.now ∷ []) }
-    ensures placed { OnOk result ((c : Shown) → slice_get (deltas_of (c.copy name.entry.now)) place ≡ Some delta.entry.now → All (IsPlaced c) out.old.items → All (IsPlaced c) out.new.items) }
+    ensures sent { OnOk result (messages_of out.new.items
+        ≡ messages_of out.old.items ++ Message.Update name.entry.now delta.entry.now ∷ []) }
+    ensures placed { OnOk result ((c : Shown) → slice_get (deltas_of (c.copy name.entry.now)) place ≡ Some delta.entry.now
+        → StayPlaced c out.old.items out.new.items) }
 {
     out.push(News::Update { name, place, delta })?;
     Ok(())
@@ -77,8 +79,9 @@ fn push_updates<'a>(
     first: usize,
     out: &mut Vec<News<'a>>,
 ) -> Result<(), Memory>
-    ensures sent { OnOk result (messages_of out.new.items ≡ messages_of out.old.items ++ updates name.entry.now (drop first history.entry.now.deltas)) }
-    ensures placed { OnOk result ((c : Shown) → c.copy name.entry.now ≡ Some history.entry.now → All (IsPlaced c) out.old.items → All (IsPlaced c) out.new.items) }
+    ensures sent { OnOk result (messages_of out.new.items
+        ≡ messages_of out.old.items ++ updates name.entry.now (drop first history.entry.now.deltas)) }
+    ensures placed { OnOk result ((c : Shown) → c.copy name.entry.now ≡ Some history.entry.now → StayPlaced c out.old.items out.new.items) }
 {
     let deltas = history.deltas();
     for place in first..deltas.len() {
@@ -93,8 +96,10 @@ fn push_applied<'a>(
     delta: &'a AppliedDelta,
     out: &mut Vec<News<'a>>,
 ) -> Result<(), Memory>
-    ensures sent { OnOk result (messages_of out.new.items ≡ messages_of out.old.items ++ Message.Applied name.entry.now delta.entry.now ∷ []) }
-    ensures placed { OnOk result ((c : Shown) → slice_get (deltas_of (c.copy name.entry.now)) place ≡ Some delta.entry.now → All (IsPlaced c) out.old.items → All (IsPlaced c) out.new.items) }
+    ensures sent { OnOk result (messages_of out.new.items
+        ≡ messages_of out.old.items ++ Message.Applied name.entry.now delta.entry.now ∷ []) }
+    ensures placed { OnOk result ((c : Shown) → slice_get (deltas_of (c.copy name.entry.now)) place ≡ Some delta.entry.now
+        → StayPlaced c out.old.items out.new.items) }
 {
     out.push(News::Applied { name, place, delta })?;
     Ok(())
@@ -107,8 +112,9 @@ fn push_applieds<'a>(
     first: usize,
     out: &mut Vec<News<'a>>,
 ) -> Result<(), Memory>
-    ensures sent { OnOk result (messages_of out.new.items ≡ messages_of out.old.items ++ applieds name.entry.now (drop first history.entry.now.deltas)) }
-    ensures placed { OnOk result ((c : Shown) → c.copy name.entry.now ≡ Some history.entry.now → All (IsPlaced c) out.old.items → All (IsPlaced c) out.new.items) }
+    ensures sent { OnOk result (messages_of out.new.items
+        ≡ messages_of out.old.items ++ applieds name.entry.now (drop first history.entry.now.deltas)) }
+    ensures placed { OnOk result ((c : Shown) → c.copy name.entry.now ≡ Some history.entry.now → StayPlaced c out.old.items out.new.items) }
 {
     let deltas = history.deltas();
     for place in first..deltas.len() {
@@ -125,8 +131,9 @@ fn push_outcome<'a, C: Copies>(
     waiting: &Waiting,
     out: &mut Vec<News<'a>>,
 ) -> Result<(), Memory>
-    ensures sent { OnOk result (messages_of out.new.items ≡ messages_of out.old.items ++ outcome_sent waiting.now (C.outcomes copies.now waiting.now.name waiting.now.id)) }
-    ensures placed { OnOk result (All (IsPlaced (shown (C.copies copies.now) (C.hosts copies.now) (C.drops copies.now) (C.outcomes copies.now))) out.old.items → All (IsPlaced (shown (C.copies copies.now) (C.hosts copies.now) (C.drops copies.now) (C.outcomes copies.now))) out.new.items) }
+    ensures sent { OnOk result (messages_of out.new.items
+        ≡ messages_of out.old.items ++ outcome_sent waiting.now (C.outcomes copies.now waiting.now.name waiting.now.id)) }
+    ensures placed { OnOk result (StayPlaced (shown_by C.Copies copies.now) out.old.items out.new.items) }
 {
     match copies.outcome(&waiting.name, &waiting.id) {
         Some(verdict) => {
@@ -144,8 +151,9 @@ fn push_outcomes<'a, C: Copies>(
     list: &[Waiting],
     out: &mut Vec<News<'a>>,
 ) -> Result<(), Memory>
-    ensures sent { OnOk result (messages_of out.new.items ≡ messages_of out.old.items ++ outcomes_sent (shown (C.copies copies.now) (C.hosts copies.now) (C.drops copies.now) (C.outcomes copies.now)) list.now) }
-    ensures placed { OnOk result (All (IsPlaced (shown (C.copies copies.now) (C.hosts copies.now) (C.drops copies.now) (C.outcomes copies.now))) out.old.items → All (IsPlaced (shown (C.copies copies.now) (C.hosts copies.now) (C.drops copies.now) (C.outcomes copies.now))) out.new.items) }
+    ensures sent { OnOk result (messages_of out.new.items
+        ≡ messages_of out.old.items ++ outcomes_sent (shown_by C.Copies copies.now) list.now) }
+    ensures placed { OnOk result (StayPlaced (shown_by C.Copies copies.now) out.old.items out.new.items) }
 {
     for waiting in list {
         push_outcome(alloc, copies, waiting, out)?;
@@ -163,7 +171,7 @@ fn known<C: Copies>(copies: &C, waiting: &Waiting) -> Option<Verdict>
 impl Waitings {
     // Those that have no outcome yet wait on.
     fn settle<C: Copies>(&mut self, copies: &C)
-        ensures { self.new ≡ still_waiting (shown (C.copies copies.now) (C.hosts copies.now) (C.drops copies.now) (C.outcomes copies.now)) self.old }
+        ensures { self.new ≡ still_waiting (shown_by C.Copies copies.now) self.old }
     {
         let mut place = 0usize;
         while place < self.len() {
@@ -179,7 +187,7 @@ impl Waitings {
 
 fn push_closed<'a>(alloc: Global, name: &WaveletName, out: &mut Vec<News<'a>>) -> Result<(), Memory>
     ensures sent { OnOk result (messages_of out.new.items ≡ messages_of out.old.items ++ Message.Closed name.now Access ∷ []) }
-    ensures placed { OnOk result ((c : Shown) → All (IsPlaced c) out.old.items → All (IsPlaced c) out.new.items) }
+    ensures placed { OnOk result ((c : Shown) → StayPlaced c out.old.items out.new.items) }
 {
     let name = name.copy(alloc)?;
     let reason = ClosedReason::Access;
@@ -195,9 +203,11 @@ fn push_opening<'a, C: Copies>(
     opening: &Opening,
     out: &mut Vec<News<'a>>,
 ) -> Result<(), Memory>
-    ensures sent { OnOk result (messages_of out.new.items ≡ messages_of out.old.items ++ opening_sent (shown (C.copies copies.entry.now) (C.hosts copies.entry.now) (C.drops copies.entry.now) (C.outcomes copies.entry.now)) user.now opening.now (C.copies copies.entry.now opening.now.name)) }
-    ensures placed { OnOk result (All (IsPlaced (shown (C.copies copies.entry.now) (C.hosts copies.entry.now) (C.drops copies.entry.now) (C.outcomes copies.entry.now))) out.old.items → All (IsPlaced (shown (C.copies copies.entry.now) (C.hosts copies.entry.now) (C.drops copies.entry.now) (C.outcomes copies.entry.now))) out.new.items) }
-    ensures whole { OnOk result (IsWholeTo (shown (C.copies copies.entry.now) (C.hosts copies.entry.now) (C.drops copies.entry.now) (C.outcomes copies.entry.now)) user.now opening.now) }
+    ensures sent { OnOk result (messages_of out.new.items
+        ≡ messages_of out.old.items
+        ++ opening_sent (shown_by C.Copies copies.entry.now) user.now opening.now (C.copies copies.entry.now opening.now.name)) }
+    ensures placed { OnOk result (StayPlaced (shown_by C.Copies copies.entry.now) out.old.items out.new.items) }
+    ensures whole { OnOk result (IsWholeTo (shown_by C.Copies copies.entry.now) user.now opening.now) }
 {
     let Some(history) = copies.copy_of(&opening.name) else {
         return Ok(());
@@ -221,9 +231,10 @@ fn push_openings<'a, C: Copies>(
     list: &[Opening],
     out: &mut Vec<News<'a>>,
 ) -> Result<(), Memory>
-    ensures sent { OnOk result (messages_of out.new.items ≡ messages_of out.old.items ++ openings_sent (shown (C.copies copies.entry.now) (C.hosts copies.entry.now) (C.drops copies.entry.now) (C.outcomes copies.entry.now)) user.now list.now) }
-    ensures placed { OnOk result (All (IsPlaced (shown (C.copies copies.entry.now) (C.hosts copies.entry.now) (C.drops copies.entry.now) (C.outcomes copies.entry.now))) out.old.items → All (IsPlaced (shown (C.copies copies.entry.now) (C.hosts copies.entry.now) (C.drops copies.entry.now) (C.outcomes copies.entry.now))) out.new.items) }
-    ensures whole { OnOk result (AllByRecursion (IsWholeTo (shown (C.copies copies.entry.now) (C.hosts copies.entry.now) (C.drops copies.entry.now) (C.outcomes copies.entry.now)) user.now) list.now) }
+    ensures sent { OnOk result (messages_of out.new.items
+        ≡ messages_of out.old.items ++ openings_sent (shown_by C.Copies copies.entry.now) user.now list.now) }
+    ensures placed { OnOk result (StayPlaced (shown_by C.Copies copies.entry.now) out.old.items out.new.items) }
+    ensures whole { OnOk result (AllByRecursion (IsWholeTo (shown_by C.Copies copies.entry.now) user.now) list.now) }
 {
     for opening in list {
         push_opening(alloc, copies, user, opening, out)?;
@@ -243,7 +254,8 @@ pub(crate) enum Fate {
 }
 
 fn fate_of<C: Copies>(copies: &C, user: &Address, opening: &Opening) -> Fate
-    ensures { fated opening.now result ≡ opening_kept (shown (C.copies copies.now) (C.hosts copies.now) (C.drops copies.now) (C.outcomes copies.now)) user.now opening.now (C.copies copies.now opening.now.name) }
+    ensures { fated opening.now result
+        ≡ opening_kept (shown_by C.Copies copies.now) user.now opening.now (C.copies copies.now opening.now.name) }
 {
     let Some(history) = copies.copy_of(&opening.name) else {
         return Fate::Stays;
@@ -258,7 +270,7 @@ fn fate_of<C: Copies>(copies: &C, user: &Address, opening: &Opening) -> Fate
 impl Openings {
     // Those that end are taken out, and the others sent up to the head.
     fn settle<C: Copies>(&mut self, copies: &C, user: &Address)
-        ensures { self.new ≡ openings_kept (shown (C.copies copies.now) (C.hosts copies.now) (C.drops copies.now) (C.outcomes copies.now)) user.now self.old }
+        ensures { self.new ≡ openings_kept (shown_by C.Copies copies.now) user.now self.old }
     {
         let mut place = 0usize;
         while place < self.as_slice().len() {
@@ -308,7 +320,7 @@ fn seen_from<'a, C: Copies>(
     name: &WaveletName,
     domain: &Domain,
 ) -> Result<Option<&'a History>, Memory>
-    ensures value { IfOk result (λ o. option_copied o ≡ seen_from (shown (C.copies copies.entry.now) (C.hosts copies.entry.now) (C.drops copies.entry.now) (C.outcomes copies.entry.now)) name.now domain.now) }
+    ensures value { IfOk result (λ o. option_copied o ≡ seen_from (shown_by C.Copies copies.entry.now) name.now domain.now) }
     ensures there { IfOk result (λ o. IfSome (option_copied o) (λ h. C.copies copies.entry.now name.now ≡ Some h)) }
 {
     let Some(history) = copies.copy_of(name) else {
@@ -329,9 +341,12 @@ fn push_host<'a>(
     tellings: &mut Tellings,
     out: &mut Vec<News<'a>>,
 ) -> Result<(), Memory>
-    ensures sent { OnOk result (messages_of out.new.items ≡ messages_of out.old.items ++ host_news name.entry.now (telling_of name.entry.now tellings.old) (option_copied seen.entry)) }
-    ensures placed { OnOk result ((c : Shown) → IfSome (option_copied seen.entry) (λ h. c.copy name.entry.now ≡ Some h) → All (IsPlaced c) out.old.items → All (IsPlaced c) out.new.items) }
-    ensures told { OnOk result (tellings.new ≡ host_told name.entry.now tellings.old (telling_of name.entry.now tellings.old) (option_copied seen.entry)) }
+    ensures sent { OnOk result (messages_of out.new.items
+        ≡ messages_of out.old.items ++ host_news name.entry.now (telling_of name.entry.now tellings.old) (option_copied seen.entry)) }
+    ensures placed { OnOk result ((c : Shown) → IfSome (option_copied seen.entry) (λ h. c.copy name.entry.now ≡ Some h)
+        → StayPlaced c out.old.items out.new.items) }
+    ensures told { OnOk result (tellings.new
+        ≡ host_told name.entry.now tellings.old (telling_of name.entry.now tellings.old) (option_copied seen.entry)) }
 {
     let (sent, told) = tellings.get(name);
     match seen {
@@ -369,9 +384,13 @@ fn push_hosted<'a, C: Copies>(
     tellings: &mut Tellings,
     out: &mut Vec<News<'a>>,
 ) -> Result<(), Memory>
-    ensures sent { OnOk result (messages_of out.new.items ≡ messages_of out.old.items ++ host_news name.entry.now (telling_of name.entry.now tellings.old) (seen_from (shown (C.copies copies.entry.now) (C.hosts copies.entry.now) (C.drops copies.entry.now) (C.outcomes copies.entry.now)) name.entry.now domain.now)) }
-    ensures placed { OnOk result (All (IsPlaced (shown (C.copies copies.entry.now) (C.hosts copies.entry.now) (C.drops copies.entry.now) (C.outcomes copies.entry.now))) out.old.items → All (IsPlaced (shown (C.copies copies.entry.now) (C.hosts copies.entry.now) (C.drops copies.entry.now) (C.outcomes copies.entry.now))) out.new.items) }
-    ensures told { OnOk result (tellings.new ≡ after_host (shown (C.copies copies.entry.now) (C.hosts copies.entry.now) (C.drops copies.entry.now) (C.outcomes copies.entry.now)) domain.now tellings.old name.entry.now) }
+    ensures sent { OnOk result (messages_of out.new.items
+        ≡ messages_of out.old.items
+        ++ host_news name.entry.now (telling_of name.entry.now tellings.old)
+        (seen_from (shown_by C.Copies copies.entry.now) name.entry.now domain.now)) }
+    ensures placed { OnOk result (StayPlaced (shown_by C.Copies copies.entry.now) out.old.items out.new.items) }
+    ensures told { OnOk result (tellings.new
+        ≡ after_host (shown_by C.Copies copies.entry.now) domain.now tellings.old name.entry.now) }
 {
     let seen = seen_from(alloc, copies, name, domain)?;
     push_host(alloc, name, seen, tellings, out)
@@ -386,9 +405,12 @@ fn push_each<'a, C: Copies>(
     tellings: &mut Tellings,
     out: &mut Vec<News<'a>>,
 ) -> Result<(), Memory>
-    ensures sent { OnOk result (messages_of out.new.items ≡ messages_of out.old.items ++ hosts_sent (shown (C.copies copies.entry.now) (C.hosts copies.entry.now) (C.drops copies.entry.now) (C.outcomes copies.entry.now)) domain.now tellings.old (map (λ n. n.now) names.now)) }
-    ensures placed { OnOk result (All (IsPlaced (shown (C.copies copies.entry.now) (C.hosts copies.entry.now) (C.drops copies.entry.now) (C.outcomes copies.entry.now))) out.old.items → All (IsPlaced (shown (C.copies copies.entry.now) (C.hosts copies.entry.now) (C.drops copies.entry.now) (C.outcomes copies.entry.now))) out.new.items) }
-    ensures told { OnOk result (tellings.new ≡ hosts_told (shown (C.copies copies.entry.now) (C.hosts copies.entry.now) (C.drops copies.entry.now) (C.outcomes copies.entry.now)) domain.now tellings.old (map (λ n. n.now) names.now)) }
+    ensures sent { OnOk result (messages_of out.new.items
+        ≡ messages_of out.old.items
+        ++ hosts_sent (shown_by C.Copies copies.entry.now) domain.now tellings.old (map (λ n. n.now) names.now)) }
+    ensures placed { OnOk result (StayPlaced (shown_by C.Copies copies.entry.now) out.old.items out.new.items) }
+    ensures told { OnOk result (tellings.new
+        ≡ hosts_told (shown_by C.Copies copies.entry.now) domain.now tellings.old (map (λ n. n.now) names.now)) }
 {
     for name in names {
         push_hosted(alloc, copies, domain, name, tellings, out)?;
@@ -404,9 +426,11 @@ fn push_named<'a, C: Copies>(
     names: &[&'a WaveletName],
     tellings: &mut Tellings,
 ) -> Result<Vec<News<'a>>, Memory>
-    ensures sent { IfOk result (λ out. messages_of out.items ≡ hosts_sent (shown (C.copies copies.entry.now) (C.hosts copies.entry.now) (C.drops copies.entry.now) (C.outcomes copies.entry.now)) domain.now tellings.old (map (λ n. n.now) names.now)) }
-    ensures placed { IfOk result (λ out. All (IsPlaced (shown (C.copies copies.entry.now) (C.hosts copies.entry.now) (C.drops copies.entry.now) (C.outcomes copies.entry.now))) out.items) }
-    ensures told { OnOk result (tellings.new ≡ hosts_told (shown (C.copies copies.entry.now) (C.hosts copies.entry.now) (C.drops copies.entry.now) (C.outcomes copies.entry.now)) domain.now tellings.old (map (λ n. n.now) names.now)) }
+    ensures sent { IfOk result (λ out. messages_of out.items
+        ≡ hosts_sent (shown_by C.Copies copies.entry.now) domain.now tellings.old (map (λ n. n.now) names.now)) }
+    ensures placed { IfOk result (λ out. ArePlaced (shown_by C.Copies copies.entry.now) out.items) }
+    ensures told { OnOk result (tellings.new
+        ≡ hosts_told (shown_by C.Copies copies.entry.now) domain.now tellings.old (map (λ n. n.now) names.now)) }
 {
     let mut out = Vec::new(alloc);
     push_each(alloc, copies, domain, names, tellings, &mut out)?;
@@ -419,9 +443,11 @@ fn push_hosts<'a, C: Copies>(
     domain: &Domain,
     tellings: &mut Tellings,
 ) -> Result<Vec<News<'a>>, Memory>
-    ensures sent { IfOk result (λ out. messages_of out.items ≡ hosts_sent (shown (C.copies copies.entry.now) (C.hosts copies.entry.now) (C.drops copies.entry.now) (C.outcomes copies.entry.now)) domain.now tellings.old (C.hosts copies.entry.now)) }
-    ensures placed { IfOk result (λ out. All (IsPlaced (shown (C.copies copies.entry.now) (C.hosts copies.entry.now) (C.drops copies.entry.now) (C.outcomes copies.entry.now))) out.items) }
-    ensures told { OnOk result (tellings.new ≡ hosts_told (shown (C.copies copies.entry.now) (C.hosts copies.entry.now) (C.drops copies.entry.now) (C.outcomes copies.entry.now)) domain.now tellings.old (C.hosts copies.entry.now)) }
+    ensures sent { IfOk result (λ out. messages_of out.items
+        ≡ hosts_sent (shown_by C.Copies copies.entry.now) domain.now tellings.old (C.hosts copies.entry.now)) }
+    ensures placed { IfOk result (λ out. ArePlaced (shown_by C.Copies copies.entry.now) out.items) }
+    ensures told { OnOk result (tellings.new
+        ≡ hosts_told (shown_by C.Copies copies.entry.now) domain.now tellings.old (C.hosts copies.entry.now)) }
 {
     let names = hosted_names(alloc, copies)?;
     push_named(alloc, copies, domain, names.as_slice(), tellings)
@@ -436,9 +462,11 @@ fn user_news<'a, C: Copies>(
     waiting: &[Waiting],
     openings: &[Opening],
 ) -> Result<Vec<News<'a>>, Memory>
-    ensures sent { IfOk result (λ out. messages_of out.items ≡ outcomes_sent (shown (C.copies copies.entry.now) (C.hosts copies.entry.now) (C.drops copies.entry.now) (C.outcomes copies.entry.now)) waiting.now ++ openings_sent (shown (C.copies copies.entry.now) (C.hosts copies.entry.now) (C.drops copies.entry.now) (C.outcomes copies.entry.now)) user.now openings.now) }
-    ensures placed { IfOk result (λ out. All (IsPlaced (shown (C.copies copies.entry.now) (C.hosts copies.entry.now) (C.drops copies.entry.now) (C.outcomes copies.entry.now))) out.items) }
-    ensures whole { OnOk result (AllByRecursion (IsWholeTo (shown (C.copies copies.entry.now) (C.hosts copies.entry.now) (C.drops copies.entry.now) (C.outcomes copies.entry.now)) user.now) openings.now) }
+    ensures sent { IfOk result (λ out. messages_of out.items
+        ≡ outcomes_sent (shown_by C.Copies copies.entry.now) waiting.now
+        ++ openings_sent (shown_by C.Copies copies.entry.now) user.now openings.now) }
+    ensures placed { IfOk result (λ out. ArePlaced (shown_by C.Copies copies.entry.now) out.items) }
+    ensures whole { OnOk result (AllByRecursion (IsWholeTo (shown_by C.Copies copies.entry.now) user.now) openings.now) }
 {
     let mut out = Vec::new(alloc);
     push_outcomes(alloc, copies, waiting, &mut out)?;
@@ -459,11 +487,12 @@ impl Session {
         alloc: Global,
         copies: &'a C,
     ) -> Result<Vec<News<'a>>, Memory>
-        ensures sent { IfOk result (λ out. messages_of out.items ≡ delivered (shown (C.copies copies.entry.now) (C.hosts copies.entry.now) (C.drops copies.entry.now) (C.outcomes copies.entry.now)) self.old) }
-        ensures after { OnOk result (self.new ≡ after_delivery (shown (C.copies copies.entry.now) (C.hosts copies.entry.now) (C.drops copies.entry.now) (C.outcomes copies.entry.now)) self.old) }
-        ensures access { IfOk result (λ out. All (MaySee (shown (C.copies copies.entry.now) (C.hosts copies.entry.now) (C.drops copies.entry.now) (C.outcomes copies.entry.now)) self.old.party) (messages_of out.items)) }
-        ensures placed { IfOk result (λ out. All (IsPlaced (shown (C.copies copies.entry.now) (C.hosts copies.entry.now) (C.drops copies.entry.now) (C.outcomes copies.entry.now))) out.items) }
-        ensures current { OnOk result (are_sent (shown (C.copies copies.entry.now) (C.hosts copies.entry.now) (C.drops copies.entry.now) (C.outcomes copies.entry.now)) self.new ≡ true) }
+        ensures sent { IfOk result (λ out. messages_of out.items ≡ delivered (shown_by C.Copies copies.entry.now) self.old) }
+        ensures after { OnOk result (self.new ≡ after_delivery (shown_by C.Copies copies.entry.now) self.old) }
+        ensures access { IfOk result (λ out. All (MaySee (shown_by C.Copies copies.entry.now) self.old.party)
+            (messages_of out.items)) }
+        ensures placed { IfOk result (λ out. ArePlaced (shown_by C.Copies copies.entry.now) out.items) }
+        ensures current { OnOk result (are_sent (shown_by C.Copies copies.entry.now) self.new ≡ true) }
         ensures same { OnErr result (self.new ≡ self.old) }
     {
         match &self.party {
@@ -489,8 +518,8 @@ impl Session {
         }
     }
 
-    /// What the copies give a peer's session of these hosted names, looked at in their order and no others, as `deliver` gives it of all; what
-    /// they give any other session. After want of memory the session is as it was.
+    /// What the copies give a peer's session of these hosted names, looked at in their order and no others, as `deliver` gives it of
+    /// all; what they give any other session. After want of memory the session is as it was.
     pub fn deliver_named<'a, C: Copies>(
         &mut self,
         alloc: Global,
@@ -498,11 +527,11 @@ impl Session {
         names: &[&'a WaveletName],
     ) -> Result<Vec<News<'a>>, Memory>
         ensures sent { IfOk result (λ out. messages_of out.items
-            ≡ delivered (with_hosts (shown (C.copies copies.entry.now) (C.hosts copies.entry.now) (C.drops copies.entry.now) (C.outcomes copies.entry.now)) (map (λ n. n.now) names.now)) self.old) }
+            ≡ delivered (with_hosts (shown_by C.Copies copies.entry.now) (map (λ n. n.now) names.now)) self.old) }
         ensures after { OnOk result (self.new
-            ≡ after_delivery (with_hosts (shown (C.copies copies.entry.now) (C.hosts copies.entry.now) (C.drops copies.entry.now) (C.outcomes copies.entry.now)) (map (λ n. n.now) names.now)) self.old) }
-        ensures placed { IfOk result (λ out. All (IsPlaced (shown (C.copies copies.entry.now) (C.hosts copies.entry.now) (C.drops copies.entry.now) (C.outcomes copies.entry.now))) out.items) }
-        ensures current { OnOk result (are_sent (shown (C.copies copies.entry.now) (C.hosts copies.entry.now) (C.drops copies.entry.now) (C.outcomes copies.entry.now)) self.new ≡ true) }
+            ≡ after_delivery (with_hosts (shown_by C.Copies copies.entry.now) (map (λ n. n.now) names.now)) self.old) }
+        ensures placed { IfOk result (λ out. ArePlaced (shown_by C.Copies copies.entry.now) out.items) }
+        ensures current { OnOk result (are_sent (shown_by C.Copies copies.entry.now) self.new ≡ true) }
         ensures same { OnErr result (self.new ≡ self.old) }
     {
         let Party::Domain(domain) = &self.party else {
