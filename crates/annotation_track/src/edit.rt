@@ -28,7 +28,8 @@ pub(crate) fn start(list: &mut Vec<Change>, change: Change)
     requires ascending { IsAscending list.old.items }
     requires room { vec_len list.old < vec_capacity list.old }
     ensures ascending { IsAscending list.new.items }
-    ensures started { change_set list.new.items ≡ finite.insert (change_set list.old.items) (encode_utf8_all change.key) (key_change change) }
+    ensures started { change_set list.new.items
+        ≡ finite.insert (change_set list.old.items) (encode_utf8_all change.key) (key_change change) }
     ensures room { vec_capacity list.old ≤ vec_capacity list.new }
     ensures len { vec_len list.new ≤ vec_len list.old + 1 }
 {

@@ -56,7 +56,8 @@ fn step<'a>(
     one: &mut Vec<Span>,
     two: &mut Vec<Span>,
 ) -> Result<bool, Memory>
-    ensures goes { IfOk result (λ more. (first second : List Span) → IsMeeting first second (left l.old) (left r.old) one.old.items two.old.items
+    ensures goes { IfOk result
+        (λ more. (first second : List Span) → IsMeeting first second (left l.old) (left r.old) one.old.items two.old.items
         → Goes more first second l.new r.new one.new.items two.new.items) }
     ensures fewer { IfOk result (λ more. IsTrue more → total (left l.new) < total (left l.old)) }
 {

@@ -7,7 +7,8 @@ use Rattle.doc_items.specs.Maps.{Key}
 use Rattle.doc_items.specs.Changes.{KeyChange, ChangeSet}
 
 abbrev pub key_change_code : Coded KeyChange
-key_change_code = code_by (Option Key × Option Key) (coded× (coded_option (coded_list coded_ℕ)) (coded_option (coded_list coded_ℕ))) (λ c. (c.old, c.new)) (λ p. record { old = p.0; new = p.1 }) (λ _. refl)
+key_change_code = code_by (Option Key × Option Key) (coded× (coded_option (coded_list coded_ℕ)) (coded_option (coded_list coded_ℕ)))
+    (λ c. (c.old, c.new)) (λ p. record { old = p.0; new = p.1 }) (λ _. refl)
 
 abbrev pub change_set_code : Coded ChangeSet
 change_set_code = code (coded_list coded_ℕ) key_change_code

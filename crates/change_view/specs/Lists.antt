@@ -69,7 +69,8 @@ abbrev pub pairs : List Entry → List Entry → List Meeting
 pairs [] [] = []
 pairs [] (f ∷ fs) = alone_second f ∷ pairs [] fs
 pairs (e ∷ es) [] = alone e ∷ pairs es []
-pairs (e ∷ es) (f ∷ fs) = by_order (slice_cmp nat_cmp e.0 f.0) (alone e ∷ pairs es (f ∷ fs)) (met e f ∷ pairs es fs) (alone_second f ∷ pairs (e ∷ es) fs)
+pairs (e ∷ es) (f ∷ fs) = by_order (slice_cmp nat_cmp e.0 f.0) (alone e ∷ pairs es (f ∷ fs)) (met e f ∷ pairs es fs)
+    (alone_second f ∷ pairs (e ∷ es) fs)
 
 abbrev pub made : (Option KeyChange → Option KeyChange → Option KeyChange) → List Meeting → List Entry
 made f [] = []

@@ -50,7 +50,8 @@ abbrev pub key_of : Key → Key
 key_of t = cond (has_space t) (before space t) t
 
 abbrev pub note_of : Key → Option Edit
-note_of t = split (λ d more. split (λ f rest. split (λ n words. option_map (λ s. Note s (key_of words) (value_of words)) (stretch_at d f n)) rest) more) t
+note_of t = split (λ d more. split
+    (λ f rest. split (λ n words. option_map (λ s. Note s (key_of words) (value_of words)) (stretch_at d f n)) rest) more) t
 
 -- ---- conversations
 
@@ -58,7 +59,8 @@ abbrev pub reply_of : Key → Option Edit
 reply_of t = split (λ b more. split (λ thread new. single (λ n. Some (Reply b thread n)) new) more) t
 
 abbrev pub inline_of : Key → Option Edit
-inline_of t = split (λ d more. split (λ p rest. split (λ thread new. single (λ n. option_map (λ s. Inline s thread n) (spot_at d p)) new) rest) more) t
+inline_of t = split (λ d more. split
+    (λ p rest. split (λ thread new. single (λ n. option_map (λ s. Inline s thread n) (spot_at d p)) new) rest) more) t
 
 abbrev pub thread_named : Key → Key
 thread_named t = cond (same_text t (codes "-")) [] t
@@ -72,10 +74,15 @@ delete_of t = single (λ b. Some (Delete b)) t
 -- ---- by the first word
 
 abbrev pub talk_of : Key → Key → Option Edit
-talk_of w t = cond (same_text w (codes "reply")) (reply_of t) (cond (same_text w (codes "inline")) (inline_of t) (cond (same_text w (codes "next")) (next_of t) (cond (same_text w (codes "delete")) (delete_of t) None)))
+talk_of w t = cond (same_text w (codes "reply")) (reply_of t)
+    (cond (same_text w (codes "inline")) (inline_of t)
+    (cond (same_text w (codes "next")) (next_of t) (cond (same_text w (codes "delete")) (delete_of t) None)))
 
 abbrev pub document_of : Key → Key → Option Edit
-document_of w t = cond (same_text w (codes "type")) (type_of t) (cond (same_text w (codes "erase")) (erase_of t) (cond (same_text w (codes "note")) (note_of t) (cond (same_text w (codes "element")) (element_of t) (talk_of w t))))
+document_of w t = cond (same_text w (codes "type")) (type_of t)
+    (cond (same_text w (codes "erase")) (erase_of t)
+    (cond (same_text w (codes "note")) (note_of t) (cond (same_text w (codes "element")) (element_of t) (talk_of w t))))
 
 abbrev pub edit_of : Key → Key → Option Edit
-edit_of w t = cond (same_text w (codes "add")) (add_of t) (cond (same_text w (codes "remove")) (remove_of t) (cond (same_text w (codes "role")) (role_of t) (document_of w t)))
+edit_of w t = cond (same_text w (codes "add")) (add_of t)
+    (cond (same_text w (codes "remove")) (remove_of t) (cond (same_text w (codes "role")) (role_of t) (document_of w t)))

@@ -13,7 +13,8 @@ use Rattle.client_commands.specs.declared.command.Command.{Command}
 use Rattle.client_commands.specs.declared.command.Command.TheVariants as command
 
 abbrev pub lone_of : Key → Option Command
-lone_of t = cond (same_text t (codes "undo")) (Some command.Undo) (cond (same_text t (codes "show")) (Some command.Show) (cond (same_text t (codes "sync")) (Some command.Sync)
+lone_of t = cond (same_text t (codes "undo")) (Some command.Undo)
+    (cond (same_text t (codes "show")) (Some command.Show) (cond (same_text t (codes "sync")) (Some command.Sync)
     (cond (same_text t (codes "drop")) (Some command.Drop) (cond (same_text t (codes "quit")) (Some command.Quit) None))))
 
 abbrev pub create_of : Key → Option Command
@@ -23,7 +24,8 @@ abbrev pub open_of : Key → Option Command
 open_of t = option_map command.Open (checked (is_wavelet_name t) t)
 
 abbrev pub worded_of : Key → Key → Option Command
-worded_of w t = cond (same_text w (codes "create")) (create_of t) (cond (same_text w (codes "open")) (open_of t) (option_map command.Edit (edit_of w t)))
+worded_of w t = cond (same_text w (codes "create")) (create_of t)
+    (cond (same_text w (codes "open")) (open_of t) (option_map command.Edit (edit_of w t)))
 
 abbrev pub text_of : Key → Option Command
 text_of t = cond (has_space t) (worded_of (before space t) (behind space t)) (lone_of t)

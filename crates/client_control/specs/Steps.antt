@@ -52,8 +52,10 @@ pub record IsRebased (entries : List (List WaveletOp)) (ops : List WaveletOp) (p
   pub normal : All AreNormal p.entries.items
 
 pub record IsOver (g : Option InFlight) (q : List (List WaveletOp)) (ops : List WaveletOp) (p : Passed) : Type 0 where
-  pub is : over (option_map flight_of g) (map meanings q) (meanings ops) ≡ Some ((option_map flight_of (with_ops g p.flight), map meanings p.queue.items), meanings p.left)
-  pub flying : map meanings (option_to_list p.flight ++ p.queue.items) ≡ flying (option_map flight_of (with_ops g p.flight)) ++ map meanings p.queue.items
+  pub is : over (option_map flight_of g) (map meanings q) (meanings ops)
+      ≡ Some ((option_map flight_of (with_ops g p.flight), map meanings p.queue.items), meanings p.left)
+  pub flying : map meanings (option_to_list p.flight ++ p.queue.items) ≡ flying (option_map flight_of (with_ops g p.flight))
+      ++ map meanings p.queue.items
   pub flight_normal : IsNormalFlight (with_ops g p.flight)
   pub queue_normal : All AreNormal p.queue.items
 
@@ -78,5 +80,6 @@ IsComparison g d (Clash mine theirs) = (is_own d (meanings g.ops) ≡ false) × 
 
 abbrev pub IsMeeting : FollowerOf → DeltaOf → Meeting → Type 0
 IsMeeting f d Other = receive_flight f d f.flight ≡ receive_other f d
-IsMeeting f d Own = (receive_flight f d f.flight ≡ advance f d (Some ((None, f.queue), []))) × ((x : Flight) × (f.flight ≡ Some x) × (acts_of d ≡ x.acts))
+IsMeeting f d Own = (receive_flight f d f.flight ≡ advance f d (Some ((None, f.queue), [])))
+    × ((x : Flight) × (f.flight ≡ Some x) × (acts_of d ≡ x.acts))
 IsMeeting f d (Clash mine theirs) = receive_flight f d f.flight ≡ (OtherFlight mine theirs, f)

@@ -66,7 +66,8 @@ impl Model for Follower {
 
     ghost Value = { Parts };
 
-    ghost coded = { Prim.hlevel (codes, op_row.the_row.coded, submission_row.the_row.coded, state_row.the_row.coded, flight_row.the_row.coded) };
+    ghost coded = { Prim.hlevel
+        (codes, op_row.the_row.coded, submission_row.the_row.coded, state_row.the_row.coded, flight_row.the_row.coded) };
 
     ghost view = { λ f. parts f.name f.author f.client f.at f.count f.state f.flight f.queue.items f.next };
 

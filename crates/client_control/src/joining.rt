@@ -90,7 +90,8 @@ fn join_some(
     requires some { 0 < length ops.now }
     requires normal { AreNormal ops.now }
     requires few { length more.now < 1000 }
-    ensures { IfOk result (λ o. MatchOption o (result_ok (join_on (meanings ops.now) (meanings more.now)) ≡ None) (λ v. IsJoining ops.now more.now v.items)) }
+    ensures { IfOk result (λ o. MatchOption o (result_ok (join_on (meanings ops.now) (meanings more.now)) ≡ None)
+        (λ v. IsJoining ops.now more.now v.items)) }
 {
     let (last, front) = match ops.split_last() {
         Some(parts) => parts,
@@ -181,7 +182,8 @@ fn gather_on(alloc: Global, ops: Ops, rest: &[Ops]) -> Result<Joint, Memory>
 /// The first entry with as many of the others as fit; None where it alone doesn't.
 #[tactic(auto, using(crate::proofs::Joinings::gathering_is, crate::proofs::Joinings::gathered_none))]
 pub(crate) fn gather(alloc: Global, first: &Ops, rest: &[Ops]) -> Result<Option<Joint>, Memory>
-    ensures { IfOk result (λ o. MatchOption o (gather (meanings first.now) (map meanings rest.now) ≡ None) (λ g. IsGathered first.now rest.now g)) }
+    ensures { IfOk result (λ o. MatchOption o (gather (meanings first.now) (map meanings rest.now) ≡ None)
+        (λ g. IsGathered first.now rest.now g)) }
 {
     let Some(ops) = first_alone(alloc, first)? else {
         return Ok(None);

@@ -30,7 +30,8 @@ pub(crate) struct Passed {
 fn past(alloc: Global, later: &Ops, earlier: &Ops) -> Result<Option<OpsPair>, Memory>
     requires later { AreStructuredActs (meanings later.now) }
     requires earlier { AreStructuredActs (meanings earlier.now) }
-    ensures { IfOk result (λ o. MatchOption o (past (meanings later.now) (meanings earlier.now) ≡ None) (λ p. IsPair later.now earlier.now p)) }
+    ensures { IfOk result (λ o. MatchOption o (past (meanings later.now) (meanings earlier.now) ≡ None)
+        (λ p. IsPair later.now earlier.now p)) }
 {
     match transform_delta(alloc, later, earlier) {
         Ok(pair) => Ok(Some(pair)),
@@ -54,7 +55,8 @@ fn put(list: &mut Vec<Ops>, ops: Ops) -> Result<(), Memory>
 pub fn rebase(alloc: Global, entries: &[Ops], ops: Ops) -> Result<Option<Rebased>, Memory>
     requires entries { AreStructured entries.now }
     requires ops { AreStructuredActs (meanings ops) }
-    ensures { IfOk result (λ o. MatchOption o (rebase (map meanings entries.now) (meanings ops) ≡ None) (λ p. IsRebased entries.now ops p)) }
+    ensures { IfOk result (λ o. MatchOption o (rebase (map meanings entries.now) (meanings ops) ≡ None)
+        (λ p. IsRebased entries.now ops p)) }
 {
     let mut done = Vec::with_capacity(alloc, entries.len())?;
     let mut left = ops;
@@ -75,7 +77,8 @@ pub fn rebase(alloc: Global, entries: &[Ops], ops: Ops) -> Result<Option<Rebased
 fn queue_over(alloc: Global, queue: &[Ops], ops: &Ops) -> Result<Option<Passed>, Memory>
     requires queue { AreStructured queue.now }
     requires ops { AreStructuredActs (meanings ops.now) }
-    ensures { IfOk result (λ o. MatchOption o (over None (map meanings queue.now) (meanings ops.now) ≡ None) (λ p. IsOver None queue.now ops.now p)) }
+    ensures { IfOk result (λ o. MatchOption o (over None (map meanings queue.now) (meanings ops.now) ≡ None)
+        (λ p. IsOver None queue.now ops.now p)) }
 {
     let first = ops.copy(alloc)?;
     let Some(rest) = rebase(alloc, queue, first)? else {
@@ -98,7 +101,8 @@ pub(crate) fn pass_over(
     requires flight { AreStructured (ops_flying flight.now) }
     requires queue { AreStructured queue.now }
     requires ops { AreStructuredActs (meanings ops.now) }
-    ensures { IfOk result (λ o. MatchOption o (over (option_map flight_of flight.now) (map meanings queue.now) (meanings ops.now) ≡ None) (λ p. IsOver flight.now queue.now ops.now p)) }
+    ensures { IfOk result (λ o. MatchOption o (over (option_map flight_of flight.now) (map meanings queue.now) (meanings ops.now) ≡ None)
+        (λ p. IsOver flight.now queue.now ops.now p)) }
 {
     let Some(flight) = flight else {
         return queue_over(alloc, queue, ops);

@@ -62,7 +62,8 @@ impl Follower {
 
     // The answer to a delta at the follower's hashed version.
     fn receive_here(&mut self, alloc: Global, delta: &AppliedDelta) -> Result<Received, Memory>
-        ensures ok { IfOk result (λ answer. (answer, follower_of self.new) ≡ receive_flight (follower_of self.old) delta.now (follower_of self.old).flight) }
+        ensures ok { IfOk result (λ answer. (answer, follower_of self.new)
+            ≡ receive_flight (follower_of self.old) delta.now (follower_of self.old).flight) }
         ensures same { OnErr result (self.new ≡ self.old) }
     {
         let spelled = bytes(alloc, delta)?;
@@ -115,7 +116,8 @@ impl Follower {
     ) -> Result<Received, Memory>
         requires bytes { spelled.now ≡ delta_bytes delta.now }
         requires own { MatchOption self.old.flight ⊥ (λ g. acts_of delta.now ≡ meanings g.ops) }
-        ensures ok { IfOk result (λ answer. (answer, follower_of self.new) ≡ advance (follower_of self.old) delta.now (Some ((None, (follower_of self.old).queue), []))) }
+        ensures ok { IfOk result (λ answer. (answer, follower_of self.new)
+            ≡ advance (follower_of self.old) delta.now (Some ((None, (follower_of self.old).queue), []))) }
         ensures same { OnErr result (self.new ≡ self.old) }
     {
         let Some(step) = step_after(self.at, self.count, delta, spelled) else {
@@ -139,7 +141,9 @@ impl Follower {
 
     // What is pending past the delta; None where there is no transform, as where the delta isn't valid.
     fn pass(&self, alloc: Global, delta: &AppliedDelta) -> Result<Option<Passed>, Memory>
-        ensures { IfOk result (λ o. MatchOption o (receive_other (follower_of self.now) delta.now ≡ advance (follower_of self.now) delta.now None) (λ p. IsOver self.now.flight self.now.queue delta.now.ops p)) }
+        ensures { IfOk result (λ o. MatchOption o
+            (receive_other (follower_of self.now) delta.now ≡ advance (follower_of self.now) delta.now None)
+            (λ p. IsOver self.now.flight self.now.queue delta.now.ops p)) }
     {
         if !delta.ops.is_structured() {
             return Ok(None);

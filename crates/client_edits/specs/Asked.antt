@@ -36,11 +36,13 @@ use Rattle.client_edits.specs.declared.built.Built.TheVariants.{Ops, Refused}
 -- ---- documents
 
 abbrev pub IsTyped : List Item → Spot → Key → Built → Type 0
-IsTyped items p t (Ops ops) = CanInsert items p.place (length (chars t)) × (meanings ops ≡ Mutates p.document (typing items p.place (chars t)) ∷ [])
+IsTyped items p t (Ops ops) = CanInsert items p.place (length (chars t))
+    × (meanings ops ≡ Mutates p.document (typing items p.place (chars t)) ∷ [])
 IsTyped items p t (Refused n) = IsRefusedBuild (λ e. IsInsertingRefused e items p.place (length (chars t))) n
 
 abbrev pub IsPlaced : List Item → Spot → Key → Map Key → Built → Type 0
-IsPlaced items p kind m (Ops ops) = CanInsert items p.place 2 × (meanings ops ≡ Mutates p.document (adding_element items p.place (chars kind) m) ∷ [])
+IsPlaced items p kind m (Ops ops) = CanInsert items p.place 2
+    × (meanings ops ≡ Mutates p.document (adding_element items p.place (chars kind) m) ∷ [])
 IsPlaced items p kind m (Refused n) = IsRefusedBuild (λ e. IsInsertingRefused e items p.place 2) n
 
 abbrev pub IsErased : List Item → Stretch → Built → Type 0
@@ -48,7 +50,8 @@ IsErased items r (Ops ops) = CanErase items r.from r.count × (meanings ops ≡ 
 IsErased items r (Refused n) = IsRefusedBuild (λ e. IsErasingRefused e items r.from r.count) n
 
 abbrev pub IsNoted : List Item → Stretch → Key → Option Key → Built → Type 0
-IsNoted items r k v (Ops ops) = CanAnnotate items r.from r.count × (meanings ops ≡ Mutates r.document (annotating items r.from r.count k v) ∷ [])
+IsNoted items r k v (Ops ops) = CanAnnotate items r.from r.count
+    × (meanings ops ≡ Mutates r.document (annotating items r.from r.count k v) ∷ [])
 IsNoted items r k v (Refused n) = IsRefusedBuild (λ e. IsAnnotatingRefused e items r.from r.count) n
 
 -- ---- conversations
@@ -70,7 +73,8 @@ IsReplied items b t n (Ops ops) = IsOnManifest (IsReply items false b t n) ops
 IsReplied items b t n (Refused k) = IsRefusedTalk (IsReplyRefused items b t n) k
 
 abbrev pub IsContinued : List Item → Key → Key → Built → Type 0
-IsContinued items t n (Ops ops) = IsOnManifest (λ cs. IsTreeEdit cs items (continued t n (thread_tree items)) × (is_taken n (thread_tree items) ≡ false)) ops
+IsContinued items t n (Ops ops) = IsOnManifest
+    (λ cs. IsTreeEdit cs items (continued t n (thread_tree items)) × (is_taken n (thread_tree items) ≡ false)) ops
 IsContinued items t n (Refused k) = IsRefusedTalk (IsNextRefused items t n) k
 
 abbrev pub IsDeleted : List Item → Key → Built → Type 0
@@ -87,7 +91,9 @@ anchor_attributes t = set_key empty (codes "id") (Some t)
 
 -- at the state x, after the first act
 abbrev pub IsAnchored : State → Spot → Key → Act → Built → Type 0
-IsAnchored x p t first (Ops ops) = CanInsert (document_of x p.document) p.place 2 × (meanings ops ≡ first ∷ Mutates p.document (adding_element (document_of x p.document) p.place (chars anchor_kind) (anchor_attributes t)) ∷ [])
+IsAnchored x p t first (Ops ops) = CanInsert (document_of x p.document) p.place 2
+    × (meanings ops ≡ first ∷ Mutates p.document
+    (adding_element (document_of x p.document) p.place (chars anchor_kind) (anchor_attributes t)) ∷ [])
 IsAnchored x p t first (Refused k) = IsRefusedBuild (λ e. IsInsertingRefused e (document_of x p.document) p.place 2) k
 
 abbrev pub IsAnchoredAfter : State → Spot → Key → Act → Built → Type 0

@@ -42,7 +42,8 @@ abbrev pub RefusalIsFollowed : Type 0
 RefusalIsFollowed = (s : SeatOf) (i : IdOf) (t : Said) → IsFollowed s → IsFollowed (refuse_seat s i t).0
 
 abbrev pub SnapshotIsFollowed : Type 0
-SnapshotIsFollowed = (s : SeatOf) (x : SnapshotOf) → IsPlace (point_of x) → IsWhole x.state → IsFollowed s → IsFollowed (snapshot_seat s x).0
+SnapshotIsFollowed = (s : SeatOf) (x : SnapshotOf) → IsPlace (point_of x) → IsWhole x.state → IsFollowed s
+    → IsFollowed (snapshot_seat s x).0
 
 -- a delta that has the flight's id has its acts: another one isn't taken
 abbrev pub UpdateIsFollowed : Type 0

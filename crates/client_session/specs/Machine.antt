@@ -160,7 +160,14 @@ abbrev pub submitted : MachineOf → MachineOf × Handed
 submitted m = on_current submit_seat (handed [] said.Nothing) m
 
 abbrev pub with_sent : Bool → Acts → Handed → Acts
-with_sent tells a h = record { send = a.send ++ h.send; said = a.said; unsent = cond tells h.unsent said.Nothing; waits = a.waits; ends = a.ends }
+with_sent tells a h = record {
+  send = a.send
+      ++ h.send;
+  said = a.said;
+  unsent = cond tells h.unsent said.Nothing;
+  waits = a.waits;
+  ends = a.ends;
+}
 
 abbrev pub finished_with : Bool → Acts → MachineOf × Handed → Acted
 finished_with tells a r = (r.0, with_sent tells a r.1)
@@ -210,7 +217,8 @@ told_by user s (message.Opened name version) = (answered s, quiet)
 told_by user s (message.Snapshot x) = snapshot_seat s x
 told_by user s (message.Unopened name r) = unopen_seat s r
 told_by user s (message.Ack name client number place to) = ack_seat s
-told_by user s (message.Refused name client number v) = refuse_known (nat_le client max_count && nat_le number max_count) s (record { author = user; client = client; number = number }) (verdict_said v)
+told_by user s (message.Refused name client number v) = refuse_known (nat_le client max_count && nat_le number max_count) s
+    (record { author = user; client = client; number = number }) (verdict_said v)
 told_by user s (message.Update name d) = update_seat s d
 told_by user s (message.Closed name r) = close_seat s r
 told_by user s x = (s, quiet)

@@ -57,10 +57,24 @@ pub record SeatOf : Type 0 where
   pub waits : Bool
 
 abbrev pub seat_of : Seat → SeatOf
-seat_of s = record { follower = follower_of s.follower; chain = noted (follower_of s.follower) (chain_of s.chain) s.note; created = s.created; asked = s.asked; waits = s.waits }
+seat_of s = record {
+  follower = follower_of s.follower;
+  chain = noted (follower_of s.follower)
+      (chain_of s.chain) s.note;
+  created = s.created;
+  asked = s.asked;
+  waits = s.waits;
+}
 
 abbrev pub new_seat : Key → ClientOf → Bool → SeatOf
-new_seat name k created = record { follower = new_follower name k; chain = fresh_chain (new_follower name k); created = created; asked = None; waits = false }
+new_seat name k created = record {
+  follower = new_follower name k;
+  chain = fresh_chain
+      (new_follower name k);
+  created = created;
+  asked = None;
+  waits = false;
+}
 
 abbrev pub with_follower : SeatOf → FollowerOf → ChainOf → SeatOf
 with_follower s f c = record { follower = f; chain = c; created = s.created; asked = s.asked; waits = s.waits }

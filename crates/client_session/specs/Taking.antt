@@ -132,7 +132,8 @@ IsLeft r n = (f : FollowerOf) (c : ChainOf) → noted f c n ≡ chain_after fals
 
 -- to be noted where a follower advances by the delta
 abbrev pub IsNoteOf : FollowerOf → DeltaOf → Note → Type 0
-IsNoteOf g d n = AreStructuredActs (acts_of d) → (f : FollowerOf) (c : ChainOf) → noted f c n ≡ chain_after (flies g d.id) c f (rebase (pending g) (acts_of d))
+IsNoteOf g d n = AreStructuredActs (acts_of d) → (f : FollowerOf) (c : ChainOf) → noted f c n
+    ≡ chain_after (flies g d.id) c f (rebase (pending g) (acts_of d))
 
 abbrev pub updated : SeatOf → DeltaOf → Received × FollowerOf → Told
 updated s d (received.Old, f) = (with_follower s f s.chain, quiet)

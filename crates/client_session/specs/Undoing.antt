@@ -80,7 +80,8 @@ pub record IsPassed (s : SeatOf) (d : DeltaOf) (g : FollowerOf) : Type 0 where
   pub kept : (update_seat s d).0.chain ≡ chain
 
 abbrev pub ChangePasses : Type 0
-ChangePasses = (s : SeatOf) (d : DeltaOf) (g : FollowerOf) → IsUndoable s → flies s.follower d.id ≡ false → receive s.follower d ≡ (Advanced, g) → IsPassed s d g
+ChangePasses = (s : SeatOf) (d : DeltaOf) (g : FollowerOf) → IsUndoable s → flies s.follower d.id ≡ false → receive s.follower d
+    ≡ (Advanced, g) → IsPassed s d g
 
 -- ---- an undo
 
@@ -108,4 +109,5 @@ abbrev pub screen_here : MachineOf → Option State
 screen_here m = option_map (λ (s : SeatOf). shown s.follower) (seat_at m.seats m.current)
 
 abbrev pub UndosLeadBack : Type 0
-UndosLeadBack = (m n k : MachineOf) (es : List Edit) → AreUndoable m → length es ≤ max_entries → AreEdits m es n → AreUndos n (length es) k → screen_here k ≡ screen_here m
+UndosLeadBack = (m n k : MachineOf) (es : List Edit) → AreUndoable m → length es ≤ max_entries → AreEdits m es n → AreUndos n (length es) k
+    → screen_here k ≡ screen_here m

@@ -113,7 +113,9 @@ impl Seat {
         number: u64,
         verdict: &Verdict,
     ) -> Result<Acts, Memory>
-        ensures ok { IfOk result (λ a. (seat_of self.new, a) ≡ refuse_known (nat_le client max_count && nat_le number max_count) (seat_of self.old) (record { author = user.now; client = client; number = number }) (verdict_said verdict.now)) }
+        ensures ok { IfOk result (λ a. (seat_of self.new, a)
+            ≡ refuse_known (nat_le client max_count && nat_le number max_count) (seat_of self.old)
+            (record { author = user.now; client = client; number = number }) (verdict_said verdict.now)) }
         ensures same { OnErr result (seat_of self.new ≡ seat_of self.old) }
     {
         if client > MAX_COUNT || number > MAX_COUNT {

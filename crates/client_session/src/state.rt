@@ -120,7 +120,9 @@ impl ClientState {
     // A submission of the wavelet at a place, where one is taken. After want of memory all is as it was, or it was taken.
     fn submit_at(&mut self, alloc: Global, place: usize) -> Result<Handed, Memory>
         ensures ok { IfOk result (λ h. (machine_of self.new, h) ≡ on_place place submit_seat (handed [] Nothing) (machine_of self.old)) }
-        ensures err { OnErr result (IsEither (machine_of self.old) (on_place place submit_seat (handed [] Nothing) (machine_of self.old)).0 (machine_of self.new)) }
+        ensures err { OnErr result
+            (IsEither (machine_of self.old) (on_place place submit_seat (handed [] Nothing) (machine_of self.old)).0
+            (machine_of self.new)) }
     {
         match self.seats.get_mut(place) {
             Some(seat) => seat.submit(alloc),
@@ -282,7 +284,8 @@ impl ClientState {
 
     // What it does there.
     fn take_there(&mut self, alloc: Global, place: usize, message: &Message) -> Result<Acts, Memory>
-        ensures ok { IfOk result (λ a. (machine_of self.new, a) ≡ on_place place (λ s. told_by (machine_of self.old).user s message.now) quiet (machine_of self.old)) }
+        ensures ok { IfOk result (λ a. (machine_of self.new, a)
+            ≡ on_place place (λ s. told_by (machine_of self.old).user s message.now) quiet (machine_of self.old)) }
         ensures same { OnErr result (machine_of self.new ≡ machine_of self.old) }
     {
         match self.seats.get_mut(place) {
@@ -293,7 +296,8 @@ impl ClientState {
 
     // The server refused a message of the client, with a wavelet at a place.
     fn take_bad_at(&mut self, alloc: Global, place: usize, reason: BadReason) -> Acts
-        ensures { (machine_of self.new, result) ≡ on_place place (λ s. (answered s, says (bad_said reason))) (says (bad_said reason)) (machine_of self.old) }
+        ensures { (machine_of self.new, result)
+            ≡ on_place place (λ s. (answered s, says (bad_said reason))) (says (bad_said reason)) (machine_of self.old) }
     {
         match self.seats.get_mut(place) {
             Some(seat) => seat.bad(alloc, reason),
@@ -353,7 +357,8 @@ impl ClientState {
     /// all is as it was.
     pub fn on_reopen(&mut self, alloc: Global) -> Result<Acts, Memory>
         ensures ok { IfOk result (λ a. (machine_of self.new, a) ≡ greeted (machine_of self.old)) }
-        ensures err { OnErr result ((machine_of self.new ≡ machine_of self.old) ⊎ (machine_of self.new ≡ (greeted (machine_of self.old)).0)) }
+        ensures err { OnErr result
+            ((machine_of self.new ≡ machine_of self.old) ⊎ (machine_of self.new ≡ (greeted (machine_of self.old)).0)) }
     {
         let user = Text::from_str(alloc, self.user.text())?;
         let mut send = Messages::one(alloc, Message::Hello { user })?;

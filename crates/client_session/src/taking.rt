@@ -115,7 +115,8 @@ impl Seat {
     fn take_state(&mut self, alloc: Global, snapshot: Snapshot) -> Result<Acts, Memory>
         requires named { snapshot.name ≡ self.old.follower.name }
         requires kept { self.old.note ≡ note.Nothing }
-        ensures ok { IfOk result (λ a. (seat_of self.new, a) ≡ snapshot_told (answered (seat_of self.old)) (take_snapshot (seat_of self.old).follower (point_of snapshot))) }
+        ensures ok { IfOk result (λ a. (seat_of self.new, a)
+            ≡ snapshot_told (answered (seat_of self.old)) (take_snapshot (seat_of self.old).follower (point_of snapshot))) }
         ensures same { OnErr result (seat_of self.new ≡ seat_of self.old) }
     {
         match self.follower.receive_snapshot(snapshot) {

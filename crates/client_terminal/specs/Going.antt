@@ -33,7 +33,8 @@ abbrev pub IsWrittenInPart : (held0 held1 : Option (List ℕ)) → List ℕ → 
 IsWrittenInPart held0 held1 text = (part : List ℕ) × Appends held0 held1 part × IsPrefix part text
 
 module _ (tells : Bool) where
-  pub record IsOn (o : Origin) (f : RunOf → RunOf) (m : MachineOf) (ls : List (List ℕ)) (es : List LinkEvent) (held : Option (List ℕ)) : Type 0 where
+  pub record IsOn (o : Origin) (f : RunOf → RunOf) (m : MachineOf) (ls : List (List ℕ)) (es : List LinkEvent)
+      (held : Option (List ℕ)) : Type 0 where
     pub steps : List Step
     pub run : RunOf
     pub walk : IsWalk o.run steps (f run)
@@ -83,7 +84,8 @@ module _ (tells : Bool) where
   -- ---- bytes of lines
 
   -- these bytes were read, and all lines that ended in them obeyed, as far as the run goes
-  pub record IsFed (o : Origin) (f : RunOf → RunOf) (m : MachineOf) (read : List ℕ) (es : List LinkEvent) (held : Option (List ℕ)) : Type 0 where
+  pub record IsFed (o : Origin) (f : RunOf → RunOf) (m : MachineOf) (read : List ℕ) (es : List LinkEvent)
+      (held : Option (List ℕ)) : Type 0 where
     pub lines : List (List ℕ)
     pub on : IsOn o f m lines es held
     pub front : (rest : List ℕ) → IsPrefix lines (input_lines (read ++ rest))

@@ -45,7 +45,8 @@ IsOfRoom room Closed = ⊤
 IsOfRoom room Ended = ⊤
 
 module _ (tells : Bool) (o : Origin) where
-  pub record IsOver (room : ℕ) (f : RunOf → RunOf) (m : MachineOf) (read : List ℕ) (left0 left1 : Option (List ℕ)) (es : List LinkEvent) (held : Option (List ℕ)) : Type 0 where
+  pub record IsOver (room : ℕ) (f : RunOf → RunOf) (m : MachineOf) (read : List ℕ) (left0 left1 : Option (List ℕ)) (es : List LinkEvent)
+      (held : Option (List ℕ)) : Type 0 where
     pub bytes : List ℕ
     pub consumed : Consumes left0 left1 bytes
     pub small : length bytes ≤ room
@@ -53,24 +54,28 @@ module _ (tells : Bool) (o : Origin) where
     pub on : IsOn tells o f m lines es held
     pub front : IsPrefix lines (input_lines (read ++ bytes))
 
-  pub record IsMore (count : ℕ) (m : MachineOf) (read line : List ℕ) (left0 left1 : Option (List ℕ)) (es : List LinkEvent) (held : Option (List ℕ)) : Type 0 where
+  pub record IsMore (count : ℕ) (m : MachineOf) (read line : List ℕ) (left0 left1 : Option (List ℕ)) (es : List LinkEvent)
+      (held : Option (List ℕ)) : Type 0 where
     pub bytes : List ℕ
     pub consumed : Consumes left0 left1 bytes
     pub len : length bytes ≡ count
     pub reading : IsReading tells o m (read ++ bytes) line es held
 
-  pub record IsEnded (m : MachineOf) (read : List ℕ) (left0 left1 : Option (List ℕ)) (es : List LinkEvent) (held : Option (List ℕ)) : Type 0 where
+  pub record IsEnded (m : MachineOf) (read : List ℕ) (left0 left1 : Option (List ℕ)) (es : List LinkEvent)
+      (held : Option (List ℕ)) : Type 0 where
     pub consumed : Consumes left0 left1 []
     pub end : IsAtEnd left1
     pub on : IsOn tells o (in_phase Reading) m (input_lines read) es held
 
-  abbrev pub IsPumped : ℕ → Pumped → MachineOf → List ℕ → List ℕ → Option (List ℕ) → Option (List ℕ) → List LinkEvent → Option (List ℕ) → Type 0
+  abbrev pub IsPumped : ℕ → Pumped → MachineOf → List ℕ → List ℕ → Option (List ℕ) → Option (List ℕ) → List LinkEvent → Option (List ℕ)
+      → Type 0
   IsPumped room (Read n) m read line left0 left1 es held = IsMore n m read line left0 left1 es held
   IsPumped room Left m read line left0 left1 es held = IsOver room (in_phase phase.Left) m read left0 left1 es held
   IsPumped room Closed m read line left0 left1 es held = IsOver room (in_phase phase.Closed) m read left0 left1 es held
   IsPumped room Ended m read line left0 left1 es held = IsEnded m read left0 left1 es held
 
-  pub record IsCut (room : ℕ) (e : Stop) (m : MachineOf) (read line : List ℕ) (left0 left1 : Option (List ℕ)) (es : List LinkEvent) (held : Option (List ℕ)) : Type 0 where
+  pub record IsCut (room : ℕ) (e : Stop) (m : MachineOf) (read line : List ℕ) (left0 left1 : Option (List ℕ)) (es : List LinkEvent)
+      (held : Option (List ℕ)) : Type 0 where
     pub bytes : List ℕ
     pub consumed : Consumes left0 left1 bytes
     pub small : length bytes ≤ room

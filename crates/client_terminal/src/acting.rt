@@ -35,9 +35,12 @@ fn obey<L: Link, W: Sink>(
     sink: &mut W,
     line: &[u8],
 ) -> Result<After, Stop>
-    ensures goes { (o : Origin) (ls : List (List ℕ)) → IsOn L.tells o (in_phase Reading) (machine_of client.old) ls (L.events link.old) (W.written sink.old)
-        → IfOk result (λ a. IsOn L.tells o (after_run a) (machine_of client.new) (ls ++ line.now ∷ []) (L.events link.new) (W.written sink.new)) }
-    ensures halts { (o : Origin) (ls : List (List ℕ)) → IsOn L.tells o (in_phase Reading) (machine_of client.old) ls (L.events link.old) (W.written sink.old)
+    ensures goes { (o : Origin) (ls : List (List ℕ))
+        → IsOn L.tells o (in_phase Reading) (machine_of client.old) ls (L.events link.old) (W.written sink.old)
+        → IfOk result (λ a. IsOn L.tells o (after_run a) (machine_of client.new) (ls ++ line.now ∷ []) (L.events link.new)
+        (W.written sink.new)) }
+    ensures halts { (o : Origin) (ls : List (List ℕ))
+        → IsOn L.tells o (in_phase Reading) (machine_of client.old) ls (L.events link.old) (W.written sink.old)
         → OnErr result (IsOff L.tells o (ls ++ line.now ∷ []) (L.events link.new) (W.written sink.new)) }
     ensures closed { L.closed link.new ≡ L.closed link.old }
     ensures cause { IfErr result (λ e. e ≢ Stop.Source) }
@@ -62,9 +65,12 @@ pub(crate) fn do_line<L: Link, W: Sink>(
     line: &[u8],
 ) -> Result<Mood, Stop>
     requires open { L.closed link.old ≡ false }
-    ensures goes { (o : Origin) (ls : List (List ℕ)) → IsOn L.tells o (in_phase Reading) (machine_of client.old) ls (L.events link.old) (W.written sink.old)
-        → IfOk result (λ mood. IsOn L.tells o (mood_run mood) (machine_of client.new) (ls ++ line.now ∷ []) (L.events link.new) (W.written sink.new)) }
-    ensures halts { (o : Origin) (ls : List (List ℕ)) → IsOn L.tells o (in_phase Reading) (machine_of client.old) ls (L.events link.old) (W.written sink.old)
+    ensures goes { (o : Origin) (ls : List (List ℕ))
+        → IsOn L.tells o (in_phase Reading) (machine_of client.old) ls (L.events link.old) (W.written sink.old)
+        → IfOk result (λ mood. IsOn L.tells o (mood_run mood) (machine_of client.new) (ls ++ line.now ∷ []) (L.events link.new)
+        (W.written sink.new)) }
+    ensures halts { (o : Origin) (ls : List (List ℕ))
+        → IsOn L.tells o (in_phase Reading) (machine_of client.old) ls (L.events link.old) (W.written sink.old)
         → OnErr result (IsOff L.tells o (ls ++ line.now ∷ []) (L.events link.new) (W.written sink.new)) }
     ensures closed { IfOk result (λ mood. L.closed link.new ≡ ends_closed mood) }
     ensures open { OnErr result (L.closed link.new ≡ false) }

@@ -32,9 +32,12 @@ fn take_byte<L: Link, W: Sink>(
     byte: u8,
 ) -> Result<Mood, Stop>
     requires open { L.closed link.old ≡ false }
-    ensures goes { (o : Origin) (read : List ℕ) → IsReading L.tells o (machine_of client.old) read line.old.items (L.events link.old) (W.written sink.old)
-        → IfOk result (λ mood. IsFedAs L.tells o mood (machine_of client.new) (read ++ byte ∷ []) line.new.items (L.events link.new) (W.written sink.new)) }
-    ensures halts { (o : Origin) (read : List ℕ) → IsReading L.tells o (machine_of client.old) read line.old.items (L.events link.old) (W.written sink.old)
+    ensures goes { (o : Origin) (read : List ℕ)
+        → IsReading L.tells o (machine_of client.old) read line.old.items (L.events link.old) (W.written sink.old)
+        → IfOk result (λ mood. IsFedAs L.tells o mood (machine_of client.new) (read ++ byte ∷ []) line.new.items (L.events link.new)
+        (W.written sink.new)) }
+    ensures halts { (o : Origin) (read : List ℕ)
+        → IsReading L.tells o (machine_of client.old) read line.old.items (L.events link.old) (W.written sink.old)
         → OnErr result (IsStopped L.tells o (read ++ byte ∷ []) (L.events link.new) (W.written sink.new)) }
     ensures closed { IfOk result (λ mood. L.closed link.new ≡ ends_closed mood) }
     ensures open { OnErr result (L.closed link.new ≡ false) }
@@ -68,9 +71,12 @@ pub(crate) fn feed<L: Link, W: Sink>(
     bytes: &[u8],
 ) -> Result<Mood, Stop>
     requires open { L.closed link.old ≡ false }
-    ensures goes { (o : Origin) (read : List ℕ) → IsReading L.tells o (machine_of client.old) read line.old.items (L.events link.old) (W.written sink.old)
-        → IfOk result (λ mood. IsFedAs L.tells o mood (machine_of client.new) (read ++ bytes.now) line.new.items (L.events link.new) (W.written sink.new)) }
-    ensures halts { (o : Origin) (read : List ℕ) → IsReading L.tells o (machine_of client.old) read line.old.items (L.events link.old) (W.written sink.old)
+    ensures goes { (o : Origin) (read : List ℕ)
+        → IsReading L.tells o (machine_of client.old) read line.old.items (L.events link.old) (W.written sink.old)
+        → IfOk result (λ mood. IsFedAs L.tells o mood (machine_of client.new) (read ++ bytes.now) line.new.items (L.events link.new)
+        (W.written sink.new)) }
+    ensures halts { (o : Origin) (read : List ℕ)
+        → IsReading L.tells o (machine_of client.old) read line.old.items (L.events link.old) (W.written sink.old)
         → OnErr result (IsStopped L.tells o (read ++ bytes.now) (L.events link.new) (W.written sink.new)) }
     ensures closed { IfOk result (λ mood. L.closed link.new ≡ ends_closed mood) }
     ensures open { OnErr result (L.closed link.new ≡ false) }
@@ -99,9 +105,12 @@ pub(crate) fn finish<L: Link, W: Sink>(
     line: &[u8],
 ) -> Result<Mood, Stop>
     requires open { L.closed link.old ≡ false }
-    ensures goes { (o : Origin) (read : List ℕ) → IsReading L.tells o (machine_of client.old) read line.now (L.events link.old) (W.written sink.old)
-        → IfOk result (λ mood. IsOn L.tells o (mood_run mood) (machine_of client.new) (input_lines read) (L.events link.new) (W.written sink.new)) }
-    ensures halts { (o : Origin) (read : List ℕ) → IsReading L.tells o (machine_of client.old) read line.now (L.events link.old) (W.written sink.old)
+    ensures goes { (o : Origin) (read : List ℕ)
+        → IsReading L.tells o (machine_of client.old) read line.now (L.events link.old) (W.written sink.old)
+        → IfOk result (λ mood. IsOn L.tells o (mood_run mood) (machine_of client.new) (input_lines read) (L.events link.new)
+        (W.written sink.new)) }
+    ensures halts { (o : Origin) (read : List ℕ)
+        → IsReading L.tells o (machine_of client.old) read line.now (L.events link.old) (W.written sink.old)
         → OnErr result (IsOff L.tells o (input_lines read) (L.events link.new) (W.written sink.new)) }
     ensures closed { IfOk result (λ mood. L.closed link.new ≡ ends_closed mood) }
     ensures open { OnErr result (L.closed link.new ≡ false) }

@@ -30,10 +30,14 @@ fn take<L: Link, W: Sink>(
     message: &Message,
 ) -> Result<(), Stop>
     ensures machine { OnOk result (machine_of client.new ≡ (received (machine_of client.old) message.now).0) }
-    ensures sent { IsTrue L.tells → OnOk result (L.events link.new ≡ L.events link.old ++ sends (received (machine_of client.old) message.now).1.send) }
-    ensures said { OnOk result (Appends (W.written sink.old) (W.written sink.new) (printed (received (machine_of client.old) message.now).1)) }
-    ensures unsent { IsTrue L.tells → OnErr result (IsPrefix (L.events link.new) (L.events link.old ++ sends (received (machine_of client.old) message.now).1.send)) }
-    ensures unsaid { OnErr result (IsWrittenInPart (W.written sink.old) (W.written sink.new) (printed (received (machine_of client.old) message.now).1)) }
+    ensures sent { IsTrue L.tells
+        → OnOk result (L.events link.new ≡ L.events link.old ++ sends (received (machine_of client.old) message.now).1.send) }
+    ensures said { OnOk result
+        (Appends (W.written sink.old) (W.written sink.new) (printed (received (machine_of client.old) message.now).1)) }
+    ensures unsent { IsTrue L.tells
+        → OnErr result (IsPrefix (L.events link.new) (L.events link.old ++ sends (received (machine_of client.old) message.now).1.send)) }
+    ensures unsaid { OnErr result
+        (IsWrittenInPart (W.written sink.old) (W.written sink.new) (printed (received (machine_of client.old) message.now).1)) }
     ensures cause { IfErr result (λ e. e ≢ Stop.Source) }
     ensures link_failed { IfErr result (λ e. e ≡ Stop.Link → Rose (L.faults link.old) (L.faults link.new)) }
     ensures sink_failed { IfErr result (λ e. e ≡ Stop.Sink → Rose (W.faults sink.old) (W.faults sink.new)) }
@@ -53,10 +57,14 @@ fn hear<L: Link, W: Sink>(
     bytes: &[u8],
 ) -> Result<(), Stop>
     ensures machine { OnOk result (machine_of client.new ≡ (reply_of (machine_of client.old) bytes.now).0) }
-    ensures sent { IsTrue L.tells → OnOk result (L.events link.new ≡ L.events link.old ++ sends (reply_of (machine_of client.old) bytes.now).1.send) }
-    ensures said { OnOk result (Appends (W.written sink.old) (W.written sink.new) (printed (reply_of (machine_of client.old) bytes.now).1)) }
-    ensures unsent { IsTrue L.tells → OnErr result (IsPrefix (L.events link.new) (L.events link.old ++ sends (reply_of (machine_of client.old) bytes.now).1.send)) }
-    ensures unsaid { OnErr result (IsWrittenInPart (W.written sink.old) (W.written sink.new) (printed (reply_of (machine_of client.old) bytes.now).1)) }
+    ensures sent { IsTrue L.tells
+        → OnOk result (L.events link.new ≡ L.events link.old ++ sends (reply_of (machine_of client.old) bytes.now).1.send) }
+    ensures said { OnOk result
+        (Appends (W.written sink.old) (W.written sink.new) (printed (reply_of (machine_of client.old) bytes.now).1)) }
+    ensures unsent { IsTrue L.tells
+        → OnErr result (IsPrefix (L.events link.new) (L.events link.old ++ sends (reply_of (machine_of client.old) bytes.now).1.send)) }
+    ensures unsaid { OnErr result
+        (IsWrittenInPart (W.written sink.old) (W.written sink.new) (printed (reply_of (machine_of client.old) bytes.now).1)) }
     ensures cause { IfErr result (λ e. e ≢ Stop.Source) }
     ensures link_failed { IfErr result (λ e. e ≡ Stop.Link → Rose (L.faults link.old) (L.faults link.new)) }
     ensures sink_failed { IfErr result (λ e. e ≡ Stop.Sink → Rose (W.faults sink.old) (W.faults sink.new)) }
@@ -77,8 +85,11 @@ fn look<L: Link, W: Sink>(
     link: &mut L,
     sink: &mut W,
 ) -> Result<Looked, Stop>
-    ensures looked { IfOk result (IsLooked L.tells (machine_of client.old) (machine_of client.new) (L.events link.old) (L.events link.new) (W.written sink.old) (W.written sink.new)) }
-    ensures unheard { OnErr result (IsUnheard L.tells (machine_of client.old) (L.events link.old) (L.events link.new) (W.written sink.old) (W.written sink.new)) }
+    ensures looked { IfOk result
+        (IsLooked L.tells (machine_of client.old) (machine_of client.new) (L.events link.old) (L.events link.new) (W.written sink.old)
+        (W.written sink.new)) }
+    ensures unheard { OnErr result
+        (IsUnheard L.tells (machine_of client.old) (L.events link.old) (L.events link.new) (W.written sink.old) (W.written sink.new)) }
     ensures closed { IfOk result (λ l. L.closed link.new ≡ is_closed l) }
     ensures open { L.closed link.old ≡ false → OnErr result (L.closed link.new ≡ false) }
     ensures cause { IfErr result (λ e. e ≢ Stop.Source) }
@@ -106,9 +117,11 @@ pub(crate) fn look_on<L: Link, W: Sink>(
     sink: &mut W,
 ) -> Result<Mood, Stop>
     requires open { L.closed link.old ≡ false }
-    ensures goes { (o : Origin) (ls : List (List ℕ)) → IsOn L.tells o (looked 0) (machine_of client.old) ls (L.events link.old) (W.written sink.old)
+    ensures goes { (o : Origin) (ls : List (List ℕ))
+        → IsOn L.tells o (looked 0) (machine_of client.old) ls (L.events link.old) (W.written sink.old)
         → IfOk result (λ mood. IsOn L.tells o (mood_run mood) (machine_of client.new) ls (L.events link.new) (W.written sink.new)) }
-    ensures halts { (o : Origin) (ls : List (List ℕ)) → IsOn L.tells o (looked 0) (machine_of client.old) ls (L.events link.old) (W.written sink.old)
+    ensures halts { (o : Origin) (ls : List (List ℕ))
+        → IsOn L.tells o (looked 0) (machine_of client.old) ls (L.events link.old) (W.written sink.old)
         → OnErr result (IsOff L.tells o ls (L.events link.new) (W.written sink.new)) }
     ensures closed { IfOk result (λ mood. L.closed link.new ≡ ends_closed mood) }
     ensures open { OnErr result (L.closed link.new ≡ false) }
@@ -137,9 +150,11 @@ fn sync<L: Link, W: Sink>(
     sink: &mut W,
 ) -> Result<bool, Stop>
     requires open { L.closed link.old ≡ false }
-    ensures goes { (o : Origin) (ls : List (List ℕ)) → IsOn L.tells o (synced 0 0) (machine_of client.old) ls (L.events link.old) (W.written sink.old)
+    ensures goes { (o : Origin) (ls : List (List ℕ))
+        → IsOn L.tells o (synced 0 0) (machine_of client.old) ls (L.events link.old) (W.written sink.old)
         → IfOk result (λ b. IsOn L.tells o (went_on b) (machine_of client.new) ls (L.events link.new) (W.written sink.new)) }
-    ensures halts { (o : Origin) (ls : List (List ℕ)) → IsOn L.tells o (synced 0 0) (machine_of client.old) ls (L.events link.old) (W.written sink.old)
+    ensures halts { (o : Origin) (ls : List (List ℕ))
+        → IsOn L.tells o (synced 0 0) (machine_of client.old) ls (L.events link.old) (W.written sink.old)
         → OnErr result (IsOff L.tells o ls (L.events link.new) (W.written sink.new)) }
     ensures closed { IfOk result (λ b. L.closed link.new ≡ not b) }
     ensures open { OnErr result (L.closed link.new ≡ false) }
@@ -185,9 +200,11 @@ pub(crate) fn wait<L: Link, W: Sink>(
     sink: &mut W,
 ) -> Result<Mood, Stop>
     requires open { L.closed link.old ≡ false }
-    ensures goes { (o : Origin) (ls : List (List ℕ)) → IsOn L.tells o (synced 0 0) (machine_of client.old) ls (L.events link.old) (W.written sink.old)
+    ensures goes { (o : Origin) (ls : List (List ℕ))
+        → IsOn L.tells o (synced 0 0) (machine_of client.old) ls (L.events link.old) (W.written sink.old)
         → IfOk result (λ mood. IsOn L.tells o (mood_run mood) (machine_of client.new) ls (L.events link.new) (W.written sink.new)) }
-    ensures halts { (o : Origin) (ls : List (List ℕ)) → IsOn L.tells o (synced 0 0) (machine_of client.old) ls (L.events link.old) (W.written sink.old)
+    ensures halts { (o : Origin) (ls : List (List ℕ))
+        → IsOn L.tells o (synced 0 0) (machine_of client.old) ls (L.events link.old) (W.written sink.old)
         → OnErr result (IsOff L.tells o ls (L.events link.new) (W.written sink.new)) }
     ensures closed { IfOk result (λ mood. L.closed link.new ≡ ends_closed mood) }
     ensures open { OnErr result (L.closed link.new ≡ false) }

@@ -61,17 +61,22 @@ fn pump<S: Source, W: Sink, L: Link>(
 ) -> Result<Pumped, Stop>
     requires room { 0 < length buffer.old }
     requires open { L.closed link.old ≡ false }
-    ensures goes { (o : Origin) (read : List ℕ) → IsReading L.tells o (machine_of client.old) read line.old.items (L.events link.old) (W.written sink.old)
-        → IfOk result (λ p. IsPumped L.tells o (length buffer.old) p (machine_of client.new) read line.new.items (S.left source.old) (S.left source.new) (L.events link.new) (W.written sink.new)) }
-    ensures halts { (o : Origin) (read : List ℕ) → IsReading L.tells o (machine_of client.old) read line.old.items (L.events link.old) (W.written sink.old)
-        → IfErr result (λ e. IsCut L.tells o (length buffer.old) e (machine_of client.new) read line.new.items (S.left source.old) (S.left source.new) (L.events link.new) (W.written sink.new)) }
+    ensures goes { (o : Origin) (read : List ℕ)
+        → IsReading L.tells o (machine_of client.old) read line.old.items (L.events link.old) (W.written sink.old)
+        → IfOk result (λ p. IsPumped L.tells o (length buffer.old) p (machine_of client.new) read line.new.items (S.left source.old)
+        (S.left source.new) (L.events link.new) (W.written sink.new)) }
+    ensures halts { (o : Origin) (read : List ℕ)
+        → IsReading L.tells o (machine_of client.old) read line.old.items (L.events link.old) (W.written sink.old)
+        → IfErr result (λ e. IsCut L.tells o (length buffer.old) e (machine_of client.new) read line.new.items (S.left source.old)
+        (S.left source.new) (L.events link.new) (W.written sink.new)) }
     ensures bound { IfOk result (IsOfRoom (length buffer.old)) }
     ensures closed { IfOk result (λ p. L.closed link.new ≡ pumped_closed p) }
     ensures open { OnErr result (L.closed link.new ≡ false) }
     ensures source_failed { IfErr result (λ e. e ≡ Stop.Source → Rose (S.faults source.old) (S.faults source.new)) }
     ensures link_failed { IfErr result (λ e. e ≡ Stop.Link → Rose (L.faults link.old) (L.faults link.new)) }
     ensures sink_failed { IfErr result (λ e. e ≡ Stop.Sink → Rose (W.faults sink.old) (W.faults sink.new)) }
-    ensures later { (S.faults source.old ≤ S.faults source.new) × ((L.faults link.old ≤ L.faults link.new) × (W.faults sink.old ≤ W.faults sink.new)) }
+    ensures later { (S.faults source.old ≤ S.faults source.new)
+        × ((L.faults link.old ≤ L.faults link.new) × (W.faults sink.old ≤ W.faults sink.new)) }
 {
     let Ok(count) = source.read(buffer) else {
         return Err(Stop::Source);
@@ -100,14 +105,16 @@ fn obey_lines<S: Source, W: Sink, L: Link>(
     ensures edited { (o : Origin) → IsReading L.tells o (machine_of client.old) [] [] (L.events link.old) (W.written sink.old)
         → IfOk result (λ n. IsRunAs L.tells o (L.events link.new) (S.left source.old) (S.left source.new) (W.written sink.new) n) }
     ensures stopped { (o : Origin) → IsReading L.tells o (machine_of client.old) [] [] (L.events link.old) (W.written sink.old)
-        → IfErr result (λ e. IsRunAs L.tells o (L.events link.new) (S.left source.old) (S.left source.new) (W.written sink.new) (stop_status e)) }
+        → IfErr result (λ e. IsRunAs L.tells o (L.events link.new) (S.left source.old) (S.left source.new) (W.written sink.new)
+        (stop_status e)) }
     ensures known { IfOk result (λ n. (n ≡ 0) ⊎ ((n ≡ 10) ⊎ (n ≡ 11))) }
     ensures closed { IfOk result (λ n. L.closed link.new ≡ (n == 11)) }
     ensures open { OnErr result (L.closed link.new ≡ false) }
     ensures source_failed { IfErr result (λ e. e ≡ Stop.Source → Rose (S.faults source.old) (S.faults source.new)) }
     ensures link_failed { IfErr result (λ e. e ≡ Stop.Link → Rose (L.faults link.old) (L.faults link.new)) }
     ensures sink_failed { IfErr result (λ e. e ≡ Stop.Sink → Rose (W.faults sink.old) (W.faults sink.new)) }
-    ensures later { (S.faults source.old ≤ S.faults source.new) × ((L.faults link.old ≤ L.faults link.new) × (W.faults sink.old ≤ W.faults sink.new)) }
+    ensures later { (S.faults source.old ≤ S.faults source.new)
+        × ((L.faults link.old ≤ L.faults link.new) × (W.faults sink.old ≤ W.faults sink.new)) }
 {
     let mut line = Vec::new(alloc);
     let mut taken: u64 = 0;
@@ -142,8 +149,10 @@ fn greet<L: Link, W: Sink>(
     ensures machine { OnOk result (machine_of client.new ≡ (greeted (machine_of client.old)).0) }
     ensures sent { IsTrue L.tells → OnOk result (L.events link.new ≡ L.events link.old ++ sends (greeted (machine_of client.old)).1.send) }
     ensures said { OnOk result (Appends (W.written sink.old) (W.written sink.new) (printed (greeted (machine_of client.old)).1)) }
-    ensures unsent { IsTrue L.tells → OnErr result (IsPrefix (L.events link.new) (L.events link.old ++ sends (greeted (machine_of client.old)).1.send)) }
-    ensures unsaid { OnErr result (IsWrittenInPart (W.written sink.old) (W.written sink.new) (printed (greeted (machine_of client.old)).1)) }
+    ensures unsent { IsTrue L.tells
+        → OnErr result (IsPrefix (L.events link.new) (L.events link.old ++ sends (greeted (machine_of client.old)).1.send)) }
+    ensures unsaid { OnErr result
+        (IsWrittenInPart (W.written sink.old) (W.written sink.new) (printed (greeted (machine_of client.old)).1)) }
     ensures closed { L.closed link.new ≡ L.closed link.old }
     ensures cause { IfErr result (λ e. e ≢ Stop.Source) }
     ensures link_failed { IfErr result (λ e. e ≡ Stop.Link → Rose (L.faults link.old) (L.faults link.new)) }
@@ -165,8 +174,12 @@ fn run<S: Source, W: Sink, L: Link>(
 ) -> Result<u8, Stop>
     requires key { key ≤ max_count }
     requires open { L.closed link.old ≡ false }
-    ensures edited { IfOk result (IsRunAs L.tells (origin_of user key (L.events link.old) (W.written sink.old)) (L.events link.new) (S.left source.old) (S.left source.new) (W.written sink.new)) }
-    ensures stopped { IfErr result (λ e. IsRunAs L.tells (origin_of user key (L.events link.old) (W.written sink.old)) (L.events link.new) (S.left source.old) (S.left source.new) (W.written sink.new) (stop_status e)) }
+    ensures edited { IfOk result
+        (IsRunAs L.tells (origin_of user key (L.events link.old) (W.written sink.old)) (L.events link.new) (S.left source.old)
+        (S.left source.new) (W.written sink.new)) }
+    ensures stopped { IfErr result
+        (λ e. IsRunAs L.tells (origin_of user key (L.events link.old) (W.written sink.old)) (L.events link.new) (S.left source.old)
+        (S.left source.new) (W.written sink.new) (stop_status e)) }
     ensures known { IfOk result (λ n. (n ≡ 0) ⊎ ((n ≡ 10) ⊎ (n ≡ 11))) }
     ensures closed { IfOk result (λ n. L.closed link.new ≡ (n == 11)) }
     ensures open { OnErr result (L.closed link.new ≡ false) }
@@ -195,7 +208,8 @@ pub fn edit_run<S: Source, W: Sink, L: Link>(
 ) -> u8
     requires key { key ≤ max_count }
     requires open { L.closed link.old ≡ false }
-    ensures edited { IsRunAs L.tells (origin_of user key (L.events link.old) (W.written sink.old)) (L.events link.new) (S.left source.old) (S.left source.new) (W.written sink.new) result }
+    ensures edited { IsRunAs L.tells (origin_of user key (L.events link.old) (W.written sink.old)) (L.events link.new) (S.left source.old)
+        (S.left source.new) (W.written sink.new) result }
     ensures known { IsEditStatus result }
     ensures closed { L.closed link.new ≡ (result == 11) }
     ensures source_failed { result ≡ 3 → Rose (S.faults source.old) (S.faults source.new) }

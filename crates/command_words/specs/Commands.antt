@@ -64,7 +64,8 @@ door = with_rule (with_rule (with_rule (new_app (codes "serve")) (option_rule (c
     (option_rule (codes "peer") false)
 
 abbrev pub serve : App
-serve = with_rule (with_rule (with_rule door (option_rule (codes "sessions") false)) (option_rule (codes "store") false)) (flag_rule (codes "echo"))
+serve = with_rule (with_rule (with_rule door (option_rule (codes "sessions") false)) (option_rule (codes "store") false))
+    (flag_rule (codes "echo"))
 
 abbrev pub writer : App
 writer = with_rule (with_rule (new_app (codes "edit")) (option_rule (codes "user") true)) (option_rule (codes "client") true)
@@ -179,7 +180,8 @@ abbrev pub inboxed : Option (List ℕ) → Option (List ℕ) → Option CommandO
 inboxed store user = paired Inbox (given store) (checked is_address user)
 
 abbrev pub host : (listen domain peers : Option (List ℕ)) → Option (List ℕ × List ℕ × List Peer)
-host listen domain peers = option_and_then (λ d. option_map (λ ps. (d.0, d.1, ps)) (peers_by d.1 peers)) (both (given listen) (checked is_domain domain))
+host listen domain peers = option_and_then (λ d. option_map (λ ps. (d.0, d.1, ps)) (peers_by d.1 peers))
+    (both (given listen) (checked is_domain domain))
 
 abbrev pub served : (listen domain peers sessions store : Option (List ℕ)) → (echo : Bool) → Option CommandOf
 served listen domain peers sessions store echo = paired (λ h b. Serve h.1 h.0 h.2 b.0 b.1 echo) (host listen domain peers)
@@ -190,7 +192,8 @@ served_by r = served (first_of (codes "listen") r) (first_of (codes "domain") r)
     (first_of (codes "sessions") r) (first_of (codes "store") r) (flag (first_of (codes "echo") r))
 
 abbrev pub edited : (connect user client : Option (List ℕ)) → Option CommandOf
-edited connect user client = paired (λ w k. Edit w.1 k w.0) (both (given connect) (checked is_address user)) (option_and_then client_key client)
+edited connect user client = paired (λ w k. Edit w.1 k w.0) (both (given connect) (checked is_address user))
+    (option_and_then client_key client)
 
 abbrev pub edited_by : List Row → Option CommandOf
 edited_by r = edited (first_of (codes "connect") r) (first_of (codes "user") r) (first_of (codes "client") r)
@@ -203,7 +206,8 @@ named_past p = cond (pointwise ◌==◌ p.0 (codes "play")) (played (first_of (c
     (cond (pointwise ◌==◌ p.0 (codes "inbox")) (inboxed (first_of (codes "store") p.1) (first_of (codes "user") p.1)) (named_net p))
 
 abbrev pub named : List ℕ × List Row → Option CommandOf
-named p = cond (pointwise ◌==◌ p.0 (codes "pipe")) (stored (first_of (codes "store") p.1)) (cond (pointwise ◌==◌ p.0 (codes "load")) (loaded (first_of (codes "count") p.1)) (named_past p))
+named p = cond (pointwise ◌==◌ p.0 (codes "pipe")) (stored (first_of (codes "store") p.1))
+    (cond (pointwise ◌==◌ p.0 (codes "load")) (loaded (first_of (codes "count") p.1)) (named_past p))
 
 abbrev pub is_none : List Text → Bool
 is_none [] = true

@@ -203,8 +203,11 @@ fn both<'a, N: Name>(
     value: Option<&'a str>,
     name: Option<&str>,
 ) -> Result<(&'a str, N), WordsFault>
-    ensures ok { IfOk result (λ r. both (given (option_map (λ s. s.now) value.entry)) (checked N.is_name (option_map (λ s. s.now) name.entry)) ≡ Some (r.0.now, N.bytes r.1)) }
-    ensures refused { IfErr result (λ e. e ≡ WordsFault.Usage → both (given (option_map (λ s. s.now) value.entry)) (checked N.is_name (option_map (λ s. s.now) name.entry)) ≡ None) }
+    ensures ok { IfOk result (λ r. both (given (option_map (λ s. s.now) value.entry))
+        (checked N.is_name (option_map (λ s. s.now) name.entry)) ≡ Some (r.0.now, N.bytes r.1)) }
+    ensures refused { IfErr result
+        (λ e. e ≡ WordsFault.Usage
+        → both (given (option_map (λ s. s.now) value.entry)) (checked N.is_name (option_map (λ s. s.now) name.entry)) ≡ None) }
 {
     match given(value) {
         Err(fault) => Err(fault),
@@ -221,7 +224,8 @@ fn played<'a>(
     wavelet: Option<&str>,
 ) -> Result<Command<'a>, WordsFault>
     ensures ok { IfOk result (λ c. played (option_map (λ s. s.now) store.entry) (option_map (λ s. s.now) wavelet.entry) ≡ Some (shown c)) }
-    ensures refused { IfErr result (λ e. e ≡ WordsFault.Usage → played (option_map (λ s. s.now) store.entry) (option_map (λ s. s.now) wavelet.entry) ≡ None) }
+    ensures refused { IfErr result
+        (λ e. e ≡ WordsFault.Usage → played (option_map (λ s. s.now) store.entry) (option_map (λ s. s.now) wavelet.entry) ≡ None) }
 {
     match both(alloc, store, wavelet) {
         Ok((store, wavelet)) => Ok(Command::Play { store, wavelet }),
@@ -235,7 +239,8 @@ fn inboxed<'a>(
     user: Option<&str>,
 ) -> Result<Command<'a>, WordsFault>
     ensures ok { IfOk result (λ c. inboxed (option_map (λ s. s.now) store.entry) (option_map (λ s. s.now) user.entry) ≡ Some (shown c)) }
-    ensures refused { IfErr result (λ e. e ≡ WordsFault.Usage → inboxed (option_map (λ s. s.now) store.entry) (option_map (λ s. s.now) user.entry) ≡ None) }
+    ensures refused { IfErr result
+        (λ e. e ≡ WordsFault.Usage → inboxed (option_map (λ s. s.now) store.entry) (option_map (λ s. s.now) user.entry) ≡ None) }
 {
     match both(alloc, store, user) {
         Ok((store, user)) => Ok(Command::Inbox { store, user }),
@@ -248,8 +253,11 @@ fn bounds<'a>(
     count: Option<&str>,
     store: Option<&'a str>,
 ) -> Result<(Option<u64>, Option<&'a str>), WordsFault>
-    ensures ok { IfOk result (λ r. both (perhaps session_number (option_map (λ s. s.now) count.entry)) (perhaps folder (option_map (λ s. s.now) store.entry)) ≡ Some (r.0, option_map (λ s. s.now) r.1)) }
-    ensures refused { IfErr result (λ e. both (perhaps session_number (option_map (λ s. s.now) count.entry)) (perhaps folder (option_map (λ s. s.now) store.entry)) ≡ None) }
+    ensures ok { IfOk result (λ r. both (perhaps session_number (option_map (λ s. s.now) count.entry))
+        (perhaps folder (option_map (λ s. s.now) store.entry)) ≡ Some (r.0, option_map (λ s. s.now) r.1)) }
+    ensures refused { IfErr result
+        (λ e. both (perhaps session_number (option_map (λ s. s.now) count.entry)) (perhaps folder (option_map (λ s. s.now) store.entry))
+        ≡ None) }
 {
     match sessions(count) {
         Err(fault) => Err(fault),
@@ -291,7 +299,8 @@ fn served<'a>(
     echo: bool,
 ) -> Result<Command<'a>, WordsFault>
     ensures ok { IfOk result (λ c. served (option_map (λ s. s.now) listen.entry) (option_map (λ s. s.now) domain.entry)
-        (option_map (λ s. s.now) peers.entry) (option_map (λ s. s.now) count.entry) (option_map (λ s. s.now) store.entry) echo ≡ Some (shown c)) }
+        (option_map (λ s. s.now) peers.entry) (option_map (λ s. s.now) count.entry) (option_map (λ s. s.now) store.entry) echo
+        ≡ Some (shown c)) }
     ensures refused { IfErr result (λ e. e ≡ WordsFault.Usage → served (option_map (λ s. s.now) listen.entry)
         (option_map (λ s. s.now) domain.entry) (option_map (λ s. s.now) peers.entry) (option_map (λ s. s.now) count.entry)
         (option_map (λ s. s.now) store.entry) echo ≡ None) }
@@ -315,7 +324,8 @@ fn served<'a>(
 // The server of the options.
 fn served_by<'a>(alloc: Global, matches: &ArgMatches<'a>) -> Result<Command<'a>, WordsFault>
     ensures ok { IfOk result (λ c. option_and_then (λ p. served_by p.1) (subcommand_rows_of matches.now) ≡ Some (shown c)) }
-    ensures refused { IfErr result (λ e. e ≡ WordsFault.Usage → option_and_then (λ p. served_by p.1) (subcommand_rows_of matches.now) ≡ None) }
+    ensures refused { IfErr result
+        (λ e. e ≡ WordsFault.Usage → option_and_then (λ p. served_by p.1) (subcommand_rows_of matches.now) ≡ None) }
 {
     let listen = value_of(matches, "listen");
     let domain = value_of(matches, "domain");
@@ -353,8 +363,12 @@ fn edited<'a>(
     user: Option<&str>,
     client: Option<&str>,
 ) -> Result<Command<'a>, WordsFault>
-    ensures ok { IfOk result (λ c. edited (option_map (λ s. s.now) connect.entry) (option_map (λ s. s.now) user.entry) (option_map (λ s. s.now) client.entry) ≡ Some (shown c)) }
-    ensures refused { IfErr result (λ e. e ≡ WordsFault.Usage → edited (option_map (λ s. s.now) connect.entry) (option_map (λ s. s.now) user.entry) (option_map (λ s. s.now) client.entry) ≡ None) }
+    ensures ok { IfOk result (λ c. edited (option_map (λ s. s.now) connect.entry) (option_map (λ s. s.now) user.entry)
+        (option_map (λ s. s.now) client.entry) ≡ Some (shown c)) }
+    ensures refused { IfErr result
+        (λ e. e ≡ WordsFault.Usage
+        → edited (option_map (λ s. s.now) connect.entry) (option_map (λ s. s.now) user.entry) (option_map (λ s. s.now) client.entry)
+        ≡ None) }
 {
     match both(alloc, connect, user) {
         Err(fault) => Err(fault),
@@ -372,7 +386,8 @@ fn edited<'a>(
 // The terminal client of the options.
 fn edited_by<'a>(alloc: Global, matches: &ArgMatches<'a>) -> Result<Command<'a>, WordsFault>
     ensures ok { IfOk result (λ c. option_and_then (λ p. edited_by p.1) (subcommand_rows_of matches.now) ≡ Some (shown c)) }
-    ensures refused { IfErr result (λ e. e ≡ WordsFault.Usage → option_and_then (λ p. edited_by p.1) (subcommand_rows_of matches.now) ≡ None) }
+    ensures refused { IfErr result
+        (λ e. e ≡ WordsFault.Usage → option_and_then (λ p. edited_by p.1) (subcommand_rows_of matches.now) ≡ None) }
 {
     let connect = value_of(matches, "connect");
     let user = value_of(matches, "user");

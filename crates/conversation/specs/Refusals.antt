@@ -56,7 +56,8 @@ IsAppendFault n Memory = Unit {0}
 
 -- two new ids, of which the first that is taken is told
 abbrev pub IsTaken : List Node → Key → Key → Key → Type 0
-IsTaken ns t n id = ((id ≡ t) × (is_taken t ns ≡ true)) ⊎ ((id ≡ n) × (is_taken t ns ≡ false) × ((is_taken n ns ≡ true) ⊎ (named n t ≡ true)))
+IsTaken ns t n id = ((id ≡ t) × (is_taken t ns ≡ true)) ⊎
+    ((id ≡ n) × (is_taken t ns ≡ false) × ((is_taken n ns ≡ true) ⊎ (named n t ≡ true)))
 
 pub record AreNew (ns : List Node) (t n : Key) : Type 0 where
   pub thread : is_taken t ns ≡ false
@@ -66,7 +67,8 @@ pub record AreNew (ns : List Node) (t n : Key) : Type 0 where
 abbrev pub IsReplyRefused : List Item → Key → Key → Key → ConversationFault → Type 0
 IsReplyRefused items b t n (NoBlip id) = (id ≡ b) × (has (is_blip b) (thread_tree items) ≡ false)
 IsReplyRefused items b t n (TakenId id) = (has (is_blip b) (thread_tree items) ≡ true) × IsTaken (thread_tree items) t n id
-IsReplyRefused items b t n CountTooLarge = (has (is_blip b) (thread_tree items) ≡ true) × AreNew (thread_tree items) t n × (max_count < length items + 4)
+IsReplyRefused items b t n CountTooLarge = (has (is_blip b) (thread_tree items) ≡ true) × AreNew (thread_tree items) t n
+    × (max_count < length items + 4)
 IsReplyRefused items b t n Memory = Unit {0}
 
 -- how many items a blip takes at the end of a thread, with the conversation where there is none yet
@@ -77,7 +79,8 @@ next_len (c ∷ cs) items = 2
 abbrev pub IsNextRefused : List Item → Key → Key → ConversationFault → Type 0
 IsNextRefused items t n (NoBlip id) = (id ≡ t) × (is_there t (thread_tree items) ≡ false)
 IsNextRefused items t n (TakenId id) = (id ≡ n) × (is_there t (thread_tree items) ≡ true) × (is_taken n (thread_tree items) ≡ true)
-IsNextRefused items t n CountTooLarge = (is_there t (thread_tree items) ≡ true) × (is_taken n (thread_tree items) ≡ false) × (max_count < length items + next_len t items)
+IsNextRefused items t n CountTooLarge = (is_there t (thread_tree items) ≡ true) × (is_taken n (thread_tree items) ≡ false)
+    × (max_count < length items + next_len t items)
 IsNextRefused items t n Memory = Unit {0}
 
 abbrev pub IsDeleteRefused : List Item → Key → ConversationFault → Type 0

@@ -37,7 +37,8 @@ abbrev pub passed : Reading → Reading
 passed r = record { found = r.found; inside = r.inside; passed = r.passed + 1 }
 
 abbrev pub closed : Reading → Reading
-closed r = cond (r.passed == 0) (record { found = r.found; inside = r.inside - 1; passed = 0 }) (record { found = r.found; inside = r.inside; passed = r.passed - 1 })
+closed r = cond (r.passed == 0) (record { found = r.found; inside = r.inside - 1; passed = 0 })
+    (record { found = r.found; inside = r.inside; passed = r.passed - 1 })
 
 abbrev pub is_named : List ℕ → List ℕ → Bool
 is_named kind name = pointwise ◌==◌ (encode_utf8_all kind) name

@@ -26,7 +26,8 @@ pub fn reply_to<D: Items>(
     new_blip: &str,
 ) -> Result<DocOp, ConversationFault>
     requires { Balanced (D.items manifest.now) }
-    ensures edit { IfOk result (λ op. IsTreeEdit op (D.items manifest.now) (replied false blip.now thread.now new_blip.now (thread_tree (D.items manifest.now)))) }
+    ensures edit { IfOk result
+        (λ op. IsTreeEdit op (D.items manifest.now) (replied false blip.now thread.now new_blip.now (thread_tree (D.items manifest.now)))) }
     ensures new { OnOk result (AreNew (thread_tree (D.items manifest.now)) thread.now new_blip.now) }
     ensures refused { IfErr result (IsReplyRefused (D.items manifest.now) blip.now thread.now new_blip.now) }
 {
@@ -43,7 +44,8 @@ pub fn inline_reply<D: Items>(
     new_blip: &str,
 ) -> Result<DocOp, ConversationFault>
     requires { Balanced (D.items manifest.now) }
-    ensures edit { IfOk result (λ op. IsTreeEdit op (D.items manifest.now) (replied true blip.now thread.now new_blip.now (thread_tree (D.items manifest.now)))) }
+    ensures edit { IfOk result
+        (λ op. IsTreeEdit op (D.items manifest.now) (replied true blip.now thread.now new_blip.now (thread_tree (D.items manifest.now)))) }
     ensures new { OnOk result (AreNew (thread_tree (D.items manifest.now)) thread.now new_blip.now) }
     ensures refused { IfErr result (IsReplyRefused (D.items manifest.now) blip.now thread.now new_blip.now) }
 {
@@ -59,7 +61,9 @@ fn reply<D: Items>(
     new_blip: &str,
 ) -> Result<DocOp, ConversationFault>
     requires { Balanced (D.items manifest.now) }
-    ensures edit { IfOk result (λ op. IsTreeEdit op (D.items manifest.now) (replied inline blip.now thread.now new_blip.now (thread_tree (D.items manifest.now)))) }
+    ensures edit { IfOk result
+        (λ op. IsTreeEdit op (D.items manifest.now)
+        (replied inline blip.now thread.now new_blip.now (thread_tree (D.items manifest.now)))) }
     ensures new { OnOk result (AreNew (thread_tree (D.items manifest.now)) thread.now new_blip.now) }
     ensures refused { IfErr result (IsReplyRefused (D.items manifest.now) blip.now thread.now new_blip.now) }
 {
@@ -112,7 +116,8 @@ fn taken<D: Items>(
     new_blip: &str,
 ) -> Option<ConversationFault>
     requires { Balanced (D.items manifest.now) }
-    ensures { MatchOption result (AreNew (thread_tree (D.items manifest.now)) thread.now new_blip.now) (IsTakenFault (IsTaken (thread_tree (D.items manifest.now)) thread.now new_blip.now)) }
+    ensures { MatchOption result (AreNew (thread_tree (D.items manifest.now)) thread.now new_blip.now)
+        (IsTakenFault (IsTaken (thread_tree (D.items manifest.now)) thread.now new_blip.now)) }
 {
     if is_taken(manifest, thread) {
         return Some(taken_id(alloc, thread));
@@ -180,7 +185,8 @@ pub fn continue_thread<D: Items>(
     new_blip: &str,
 ) -> Result<DocOp, ConversationFault>
     requires { Balanced (D.items manifest.now) }
-    ensures edit { IfOk result (λ op. IsTreeEdit op (D.items manifest.now) (continued thread.now new_blip.now (thread_tree (D.items manifest.now)))) }
+    ensures edit { IfOk result
+        (λ op. IsTreeEdit op (D.items manifest.now) (continued thread.now new_blip.now (thread_tree (D.items manifest.now)))) }
     ensures new { OnOk result (is_taken new_blip.now (thread_tree (D.items manifest.now)) ≡ false) }
     ensures refused { IfErr result (IsNextRefused (D.items manifest.now) thread.now new_blip.now) }
 {
@@ -200,7 +206,8 @@ fn continue_named<D: Items>(
 ) -> Result<DocOp, ConversationFault>
     requires balanced { Balanced (D.items manifest.now) }
     requires named { thread.now ≢ [] }
-    ensures edit { IfOk result (λ op. IsTreeEdit op (D.items manifest.now) (continued thread.now new_blip.now (thread_tree (D.items manifest.now)))) }
+    ensures edit { IfOk result
+        (λ op. IsTreeEdit op (D.items manifest.now) (continued thread.now new_blip.now (thread_tree (D.items manifest.now)))) }
     ensures new { OnOk result (is_taken new_blip.now (thread_tree (D.items manifest.now)) ≡ false) }
     ensures refused { IfErr result (IsNextRefused (D.items manifest.now) thread.now new_blip.now) }
 {
@@ -224,7 +231,8 @@ fn continue_root<D: Items>(
     new_blip: &str,
 ) -> Result<DocOp, ConversationFault>
     requires { Balanced (D.items manifest.now) }
-    ensures edit { IfOk result (λ op. IsTreeEdit op (D.items manifest.now) (continued [] new_blip.now (thread_tree (D.items manifest.now)))) }
+    ensures edit { IfOk result
+        (λ op. IsTreeEdit op (D.items manifest.now) (continued [] new_blip.now (thread_tree (D.items manifest.now)))) }
     ensures new { OnOk result (is_taken new_blip.now (thread_tree (D.items manifest.now)) ≡ false) }
     ensures refused { IfErr result (IsNextRefused (D.items manifest.now) [] new_blip.now) }
 {
@@ -244,7 +252,8 @@ fn continue_root<D: Items>(
 // The conversation begins, with one blip.
 fn begin<D: Items>(alloc: Global, manifest: &D, new_blip: &str) -> Result<DocOp, ConversationFault>
     requires { IsRootless (D.items manifest.now) }
-    ensures edit { IfOk result (λ op. IsTreeEdit op (D.items manifest.now) (continued [] new_blip.now (thread_tree (D.items manifest.now)))) }
+    ensures edit { IfOk result
+        (λ op. IsTreeEdit op (D.items manifest.now) (continued [] new_blip.now (thread_tree (D.items manifest.now)))) }
     ensures refused { IfErr result (IsAppendFault (length (D.items manifest.now) + 4)) }
 {
     let contents = first_contents(alloc, new_blip)?;

@@ -61,7 +61,8 @@ fn begins(reading: &Reading, item: &Item, want: Want, id: &str) -> bool
 /// The first node of the id that is wanted; None exactly where there is none.
 pub(crate) fn find<D: Items>(manifest: &D, want: Want, id: &str) -> Option<Found>
     requires { Balanced (D.items manifest.now) }
-    ensures { MatchOption result (has (is_wanted want id.now) (thread_tree (D.items manifest.now)) ≡ false) (IsFound (is_wanted want id.now) (D.items manifest.now)) }
+    ensures { MatchOption result (has (is_wanted want id.now) (thread_tree (D.items manifest.now)) ≡ false)
+        (IsFound (is_wanted want id.now) (D.items manifest.now)) }
 {
     let mut reading = Reading::new();
     for place in 0..manifest.len() {

@@ -33,7 +33,8 @@ abbrev pub PointThere : Type 0
 PointThere = (name : List ℕ) (ds : List DeltaOf) (v : ℕ) (p : Point) → point_at name ds v ≡ Some p → IsAt name ds p × (p.at.version ≡ v)
 
 abbrev pub PassIs : Type 0
-PassIs = (name : List ℕ) (ds : List DeltaOf) (b e : VersionAt) (acts acts' : List Act) → IsLegal name ds → IsPassed name ds b e acts acts' → pass_between name ds b.version e.version acts ≡ Some acts'
+PassIs = (name : List ℕ) (ds : List DeltaOf) (b e : VersionAt) (acts acts' : List Act) → IsLegal name ds → IsPassed name ds b e acts acts'
+    → pass_between name ds b.version e.version acts ≡ Some acts'
 
 -- ---- longer and shorter histories
 
@@ -75,7 +76,8 @@ pub record IsAdded (name : List ℕ) (ds : List DeltaOf) (s : Submission) (v : V
   pub answer : v ≡ Ack d.from.version next.after.at
 
 abbrev pub IsJudged : List ℕ → List DeltaOf → Submission → Judged → Type 0
-IsJudged name ds s j = ((j.1 ≡ None) × ((at : ℕ) (to : VersionAt) → j.0 ≡ Ack at to → IsKept name ds s.id (record { at = at; to = to }))) ⊎ ((d : DeltaOf) × (j.1 ≡ Some d) × IsAdded name ds s j.0 d)
+IsJudged name ds s j = ((j.1 ≡ None) × ((at : ℕ) (to : VersionAt) → j.0 ≡ Ack at to → IsKept name ds s.id (record { at = at; to = to }))) ⊎
+    ((d : DeltaOf) × (j.1 ≡ Some d) × IsAdded name ds s j.0 d)
 
 pub record IsSpelled (acts : List Act) : Type 0 where
   pub same : meanings (ops_of acts) ≡ acts
@@ -83,7 +85,9 @@ pub record IsSpelled (acts : List Act) : Type 0 where
 
 -- what the submission's acts become on their way to the head has operations in normal form
 abbrev pub EndsSpelled : List ℕ → List DeltaOf → Submission → Type 0
-EndsSpelled name ds s = (base : Point) (since : List DeltaOf) (acts : List Act) → cut (start name) s.at.version ds ≡ Some (base, since) → pass (meanings s.ops) (all_acts since) ≡ Some acts → IsSpelled acts
+EndsSpelled name ds s = (base : Point) (since : List DeltaOf) (acts : List Act) → cut (start name) s.at.version ds ≡ Some (base, since)
+    → pass (meanings s.ops) (all_acts since) ≡ Some acts → IsSpelled acts
 
 abbrev pub JudgedIs : Type 0
-JudgedIs = (name : List ℕ) (ds : List DeltaOf) (s : Submission) (t : ℕ) → IsLegal name ds → is_count (length s.ops) ≡ true → EndsSpelled name ds s → IsJudged name ds s (judge name ds s t)
+JudgedIs = (name : List ℕ) (ds : List DeltaOf) (s : Submission) (t : ℕ) → IsLegal name ds → is_count (length s.ops) ≡ true
+    → EndsSpelled name ds s → IsJudged name ds s (judge name ds s t)

@@ -16,7 +16,8 @@ all_acts ds = map acts_of ds
 
 abbrev pub pass_to : Point → ℕ → List Act → List DeltaOf → Option (List Act)
 pass_to p e acts [] = cond (p.at.version == e) (Some acts) None
-pass_to p e acts (d ∷ ds) = cond (p.at.version == e) (Some acts) (option_and_then (λ q. option_and_then (λ g. pass_to q e g.0 ds) (grid acts (acts_of d))) (next_point p d))
+pass_to p e acts (d ∷ ds) = cond (p.at.version == e) (Some acts)
+    (option_and_then (λ q. option_and_then (λ g. pass_to q e g.0 ds) (grid acts (acts_of d))) (next_point p d))
 
 abbrev pub pass_between : List ℕ → List DeltaOf → ℕ → ℕ → List Act → Option (List Act)
 pass_between name ds b e acts = option_and_then (λ c. pass_to c.0 e acts c.1) (cut (start name) b ds)

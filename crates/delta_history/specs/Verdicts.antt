@@ -36,7 +36,8 @@ use Rattle.wavelet_state.specs.Snapshots.{max_inserted}
 
 abbrev pub kept : IdOf → Point → List DeltaOf → Option Kept
 kept i p [] = None
-kept i p (d ∷ ds) = option_and_then (λ q. cond (same_id i d.id) (Some (record { at = p.at.version; to = q.at })) (kept i q ds)) (next_point p d)
+kept i p (d ∷ ds) = option_and_then (λ q. cond (same_id i d.id) (Some (record { at = p.at.version; to = q.at })) (kept i q ds))
+    (next_point p d)
 
 -- ---- the delta that a submission becomes
 
@@ -54,7 +55,8 @@ abbrev pub accepted : Point → Submission → ℕ → List Act → DeltaOf
 accepted p s t acts = record { id = s.id; from = p.at; time = min t max_count; ops = ops_of acts }
 
 abbrev pub is_within : Point → List Act → DeltaOf → Bool
-is_within p acts d = nat_le (p.at.version + length acts) max_count && nat_le (p.count + inserted acts) max_inserted && nat_le (length (delta_bytes d)) max_delta
+is_within p acts d = nat_le (p.at.version + length acts) max_count && nat_le (p.count + inserted acts) max_inserted
+    && nat_le (length (delta_bytes d)) max_delta
 
 -- ---- the verdict: each test is a function of what it finds
 

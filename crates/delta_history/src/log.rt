@@ -56,7 +56,15 @@ impl Model for Log {
 
     ghost view = { λ l. record { name = l.name; deltas = l.list.items; spare = l.list.cap - l.list.len } };
 
-    ghost invariant = { λ l. record { legal : IsLegal l.name l.list.items; head : (end_of l.name l.list.items).at ≡ l.head; inserted : (end_of l.name l.list.items).count ≡ l.inserted; indexed : l.indexed ≤ length l.list.items; index : IsIndex l.ids.authors l.indexed l.list.items } };
+    ghost invariant = { λ l. record {
+      legal : IsLegal l.name l.list.items;
+      head : (end_of l.name l.list.items).at
+          ≡ l.head;
+      inserted : (end_of l.name l.list.items).count ≡ l.inserted;
+      indexed : l.indexed
+          ≤ length l.list.items;
+      index : IsIndex l.ids.authors l.indexed l.list.items;
+    } };
 }
 
 impl Log {

@@ -73,7 +73,9 @@ fn inserted(ops: &Ops) -> u64
 
 // The bytes of a delta; None where they are more than a delta may have.
 fn bytes(alloc: Global, delta: &AppliedDelta) -> Result<Option<Vec<u8>>, Memory>
-    ensures bytes { IfOk result (λ o. MatchOption o (max_delta < length (delta_bytes delta.now)) (λ v. (v.items ≡ delta_bytes delta.now) × (length v.items ≤ max_delta))) }
+    ensures bytes { IfOk result
+        (λ o. MatchOption o (max_delta < length (delta_bytes delta.now))
+        (λ v. (v.items ≡ delta_bytes delta.now) × (length v.items ≤ max_delta))) }
     ensures is { IfOk result (λ o. IsSome o → IsDelta delta.now) }
 {
     if applied_len(alloc, delta)? > MAX_DELTA {
@@ -88,7 +90,8 @@ fn bytes(alloc: Global, delta: &AppliedDelta) -> Result<Option<Vec<u8>>, Memory>
 fn step_after(at: HashedVersion, count: u64, delta: &AppliedDelta, bytes: &[u8]) -> Option<Step>
     requires count { count ≤ max_inserted }
     requires bytes { bytes.now ≡ delta_bytes delta.now }
-    ensures { MatchOption result (¬ (IsWithin at count delta.now)) (λ s. IsWithin at count delta.now × (s ≡ step_after at count delta.now)) }
+    ensures { MatchOption result (¬ (IsWithin at count delta.now))
+        (λ s. IsWithin at count delta.now × (s ≡ step_after at count delta.now)) }
 {
     let version = at.version + delta.ops.len();
     let inserted = count + inserted(&delta.ops);

@@ -51,7 +51,8 @@ HasNoRecord rest = (bytes : List ℕ) → length bytes < 2 ^ 64 → IsWhole (fra
 
 -- from the gate at `place` on: after some records is an open gate at `offset`, and no whole record after that
 abbrev pub IsTornFrom : ℕ → ℕ → List ℕ → Type 0
-IsTornFrom place offset file = (records : List (List ℕ)) × (rest : List ℕ) × (offset ≡ place + length (blocks records)) × (file ≡ blocks records ++ 1 ∷ rest) × HasNoRecord rest
+IsTornFrom place offset file = (records : List (List ℕ)) × (rest : List ℕ) × (offset ≡ place + length (blocks records))
+    × (file ≡ blocks records ++ 1 ∷ rest) × HasNoRecord rest
 
 -- the first gate is open, and the header after it isn't this name's
 abbrev pub HasOtherHeader : List ℕ → List ℕ → Type 0
@@ -72,7 +73,8 @@ Means name file (Err offset) = IsDamaged name offset file
 
 -- the law: a file means one thing
 abbrev pub MeansOnce : Type 0
-MeansOnce = (name file : List ℕ) (one other : Result (List (List ℕ)) ℕ) → length file < 2 ^ 64 → Means name file one → Means name file other → one ≡ other
+MeansOnce = (name file : List ℕ) (one other : Result (List (List ℕ)) ℕ) → length file < 2 ^ 64 → Means name file one → Means name file other
+    → one ≡ other
 
 -- the name in a file's header; None where the file stands for no header
 abbrev pub HasName : Option (List ℕ) → List ℕ → Type 0
@@ -81,7 +83,8 @@ HasName (Some name) file = (rest : List ℕ) × (file ≡ 1 ∷ rest) × (length
 
 -- the first gate is open, and the header after it is no name's
 abbrev pub HasBrokenHeader : List ℕ → Type 0
-HasBrokenHeader file = (rest : List ℕ) × (file ≡ 1 ∷ rest) × (2 ≤ length file) × ((name : List ℕ) → length name < 2 ^ 32 → IsWhole (header name) rest → ⊥)
+HasBrokenHeader file = (rest : List ℕ) × (file ≡ 1 ∷ rest) × (2 ≤ length file)
+    × ((name : List ℕ) → length name < 2 ^ 32 → IsWhole (header name) rest → ⊥)
 
 -- the law: a file has one name or none, or its header is broken
 pub record NamedOnce : Type 0 where

@@ -28,7 +28,8 @@ impl<K: Disk> Journal<K> {
     // Closes the first gate of a file that may have none.
     fn begin(&mut self) -> Result<(), DiskFault>
         requires blank { self.old.stage ≡ Blank }
-        ensures any_moment { WhereHeld self.old (λ name records. LeavesOnly (on_disk self.old) (on_disk self.new) (StandsFor name records)) }
+        ensures any_moment { WhereHeld self.old
+            (λ name records. LeavesOnly (on_disk self.old) (on_disk self.new) (StandsFor name records)) }
         ensures held { WhereHeld self.old (λ name records. IsJournal name records self.new) }
         ensures left_over { left_over self.new ≡ [] }
         ensures shut { OnOk result (self.new.stage ≡ Shut) }
@@ -43,7 +44,8 @@ impl<K: Disk> Journal<K> {
     // Puts the header after the closed first gate, and opens that.
     fn open_header(&mut self) -> Result<(), DiskFault>
         requires shut { self.old.stage ≡ Shut }
-        ensures any_moment { WhereHeld self.old (λ name records. LeavesOnly (on_disk self.old) (on_disk self.new) (StandsFor name records)) }
+        ensures any_moment { WhereHeld self.old
+            (λ name records. LeavesOnly (on_disk self.old) (on_disk self.new) (StandsFor name records)) }
         ensures held { WhereHeld self.old (λ name records. IsJournal name records self.new) }
         ensures left_over { left_over self.new ≡ [] }
         ensures headed { OnOk result (self.new.stage ≡ Headed) }
@@ -60,7 +62,8 @@ impl<K: Disk> Journal<K> {
     // Makes sure that the header is on the disk, after an open gate.
     fn write_header(&mut self) -> Result<(), DiskFault>
         requires whole { needs_repair self.old ≡ false }
-        ensures any_moment { WhereHeld self.old (λ name records. LeavesOnly (on_disk self.old) (on_disk self.new) (StandsFor name records)) }
+        ensures any_moment { WhereHeld self.old
+            (λ name records. LeavesOnly (on_disk self.old) (on_disk self.new) (StandsFor name records)) }
         ensures held { WhereHeld self.old (λ name records. IsJournal name records self.new) }
         ensures left_over { left_over self.new ≡ [] }
         ensures headed { OnOk result (self.new.stage ≡ Headed) }
@@ -82,7 +85,8 @@ impl<K: Disk> Journal<K> {
     fn add(&mut self, block: Vec<u8>) -> Result<(), DiskFault>
         requires headed { self.old.stage ≡ Headed }
         requires block { IsBlock block.items }
-        ensures any_moment { WhereHeld self.old (λ name records. LeavesOnly (on_disk self.old) (on_disk self.new) (StandsForEither name records (record_in block.items ∷ []))) }
+        ensures any_moment { WhereHeld self.old
+            (λ name records. LeavesOnly (on_disk self.old) (on_disk self.new) (StandsForEither name records (record_in block.items ∷ []))) }
         ensures ok { OnOk result (WhereHeld self.old (λ name records. IsJournal name (records ++ record_in block.items ∷ []) self.new)) }
         ensures done { OnOk result (self.new.stage ≡ Headed) }
         ensures err { OnErr result (WhereHeld self.old (λ name records. IsJournal name records self.new)) }
@@ -106,10 +110,12 @@ impl<K: Disk> Journal<K> {
     /// and the new one, and a repair may be pending. At `Memory` nothing was done.
     pub fn append(&mut self, alloc: Global, bytes: &[u8]) -> Result<(), JournalFault>
         requires whole { needs_repair self.old ≡ false }
-        ensures any_moment { WhereHeld self.old (λ name records. LeavesOnly (on_disk self.old) (on_disk self.new) (StandsForEither name records (bytes.now ∷ []))) }
+        ensures any_moment { WhereHeld self.old
+            (λ name records. LeavesOnly (on_disk self.old) (on_disk self.new) (StandsForEither name records (bytes.now ∷ []))) }
 
         ensures ok { OnOk result (WhereHeld self.old (λ name records. IsJournal name (records ++ bytes.now ∷ []) self.new)) }
-        ensures every_image { OnOk result (WhereHeld self.old (λ name records. EachImage self.new (StandsFor name (records ++ bytes.now ∷ [])))) }
+        ensures every_image { OnOk result
+            (WhereHeld self.old (λ name records. EachImage self.new (StandsFor name (records ++ bytes.now ∷ [])))) }
         ensures done { OnOk result (needs_repair self.new ≡ false) }
 
         ensures err { OnErr result (WhereHeld self.old (λ name records. IsJournal name records self.new)) }

@@ -64,7 +64,8 @@ fn read_journal<K: Disk>(
     ensures synced { OnOk result (LeavesJust (K.view disk.old).seen (K.view disk.new)) }
     ensures read { OnlyRead (K.view disk.old) (K.view disk.new) }
     ensures failed { IfErr result (λ e. e ≡ JournalFault.DiskFault → Rose (K.view disk.old) (K.view disk.new)) }
-    ensures damaged { IfErr result (λ e. (offset : ℕ) → e ≡ JournalFault.Damaged offset → IsTrue K.tells → IsDamaged name.now offset (K.view disk.old).seen) }
+    ensures damaged { IfErr result
+        (λ e. (offset : ℕ) → e ≡ JournalFault.Damaged offset → IsTrue K.tells → IsDamaged name.now offset (K.view disk.old).seen) }
 {
     let file = match read_all(alloc, disk) {
         Ok(file) => file,
@@ -118,7 +119,8 @@ impl<K: Disk> Journal<K> {
         ensures synced { IfOk result (λ l. LeavesJust (K.view disk).seen (on_disk l.journal)) }
         ensures read { IfOk result (λ l. OnlyRead (K.view disk) (on_disk l.journal)) }
 
-        ensures damaged { IfErr result (λ u. (offset : ℕ) → u.fault ≡ JournalFault.Damaged offset → IsTrue K.tells → IsDamaged name.now offset (K.view disk).seen) }
+        ensures damaged { IfErr result
+            (λ u. (offset : ℕ) → u.fault ≡ JournalFault.Damaged offset → IsTrue K.tells → IsDamaged name.now offset (K.view disk).seen) }
         ensures handed_back { IfErr result (λ u. OnlyRead (K.view disk) (K.view u.disk)) }
         ensures failed { IfErr result (λ u. u.fault ≡ JournalFault.DiskFault → Rose (K.view disk) (K.view u.disk)) }
     {

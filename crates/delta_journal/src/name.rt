@@ -25,7 +25,8 @@ enum Header {
 
 // The length of the name, from the 12 bytes after an open gate.
 fn count_in(behind: &[u8]) -> Option<u32>
-    ensures { MatchOption result ((name more : List ℕ) → length name < 2 ^ 32 → behind.now ≡ take 12 (header name ++ more) → ⊥) (λ count. behind.now ≡ codes "WAVEJNL1" ++ to_be_bytes w32 count) }
+    ensures { MatchOption result ((name more : List ℕ) → length name < 2 ^ 32 → behind.now ≡ take 12 (header name ++ more) → ⊥)
+        (λ count. behind.now ≡ codes "WAVEJNL1" ++ to_be_bytes w32 count) }
 {
     let [b'W', b'A', b'V', b'E', b'J', b'N', b'L', b'1', a, b, c, d] = behind else {
         return None;
@@ -69,9 +70,12 @@ fn header_in(front: &[u8], size: u64) -> Header
 /// `Damaged` at offset 0 exactly where the header after an open gate is no name's, and `DiskFault` where the disk
 /// failed.
 pub fn stored_name<K: Disk>(alloc: Global, disk: &mut K) -> Result<Option<Vec<u8>>, JournalFault>
-    ensures name { IfOk result (λ found. IsTrue K.tells → MatchOption found (HasNoHeader (K.view disk.old).seen) (λ name. HasName (Some name.items) (K.view disk.old).seen)) }
+    ensures name { IfOk result
+        (λ found. IsTrue K.tells → MatchOption found (HasNoHeader (K.view disk.old).seen)
+        (λ name. HasName (Some name.items) (K.view disk.old).seen)) }
     ensures short { IfOk result (λ found. IfSome found (λ name. length name.items < 2 ^ 32)) }
-    ensures damaged { IfErr result (λ e. (offset : ℕ) → e ≡ JournalFault.Damaged offset → (offset ≡ 0) × (IsTrue K.tells → HasBrokenHeader (K.view disk.old).seen)) }
+    ensures damaged { IfErr result
+        (λ e. (offset : ℕ) → e ≡ JournalFault.Damaged offset → (offset ≡ 0) × (IsTrue K.tells → HasBrokenHeader (K.view disk.old).seen)) }
     ensures read { OnlyRead (K.view disk.old) (K.view disk.new) }
     ensures failed { IfErr result (λ e. e ≡ JournalFault.DiskFault → Rose (K.view disk.old) (K.view disk.new)) }
 {

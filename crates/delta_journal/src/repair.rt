@@ -14,7 +14,8 @@ impl<K: Disk> Journal<K> {
     ///
     /// At `Ok` each image stands for the records from before that append. At `DiskFault` a repair is still pending.
     pub fn repair(&mut self) -> Result<(), DiskFault>
-        ensures any_moment { WhereHeld self.old (λ name records. LeavesOnly (on_disk self.old) (on_disk self.new) (StandsForEither name records (left_over self.old))) }
+        ensures any_moment { WhereHeld self.old
+            (λ name records. LeavesOnly (on_disk self.old) (on_disk self.new) (StandsForEither name records (left_over self.old))) }
         ensures held { WhereHeld self.old (λ name records. IsJournal name records self.new) }
 
         ensures every_image { OnOk result (WhereHeld self.old (λ name records. EachImage self.new (StandsFor name records))) }

@@ -45,7 +45,13 @@ only first steps c since = subst (λ (l : List Step). left_of first l c) (take_a
 
 pub clocked : (m : MemoryDisk) → IsClocked (disk_view m)
 clocked m = record {
-  counts_now = λ t c le left. (length m.steps.items, le, omega arith, subst (λ (l : List Step). left_of (first_file m) l c) (sym (take_all (length m.steps.items) m.steps.items (omega arith))) left);
+  counts_now = λ t c le left. (
+    length m.steps.items,
+    le,
+    omega arith,
+    subst (λ (l : List Step). left_of (first_file m) l c)
+        (sym (take_all (length m.steps.items) m.steps.items (omega arith))) left,
+  );
   only_now = λ c since. only (first_file m) m.steps.items c since;
 }
 

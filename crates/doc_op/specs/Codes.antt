@@ -39,7 +39,8 @@ attribute_case_back (Update c) = refl
 attribute_case_back (Replace old new) = refl
 
 abbrev pub attribute_change_code : Coded AttributeChange
-attribute_change_code = code_by AttributeCase (coded_option (coded⊎ change_set_code (coded× map_code map_code))) attribute_case of_attribute_case attribute_case_back
+attribute_change_code = code_by AttributeCase
+    (coded_option (coded⊎ change_set_code (coded× map_code map_code))) attribute_case of_attribute_case attribute_case_back
 
 -- ---- actions
 
@@ -62,4 +63,6 @@ action_case_back (Ins x) = refl
 action_case_back (Del c n) = refl
 
 abbrev pub action_code : Coded Action
-action_code = code_by ActionCase (coded⊎ (coded× change_set_code attribute_change_code) (coded⊎ item_row.the_row.coded (coded× content_row.the_row.coded names_code))) action_case of_action_case action_case_back
+action_code = code_by ActionCase
+    (coded⊎ (coded× change_set_code attribute_change_code)
+    (coded⊎ item_row.the_row.coded (coded× content_row.the_row.coded names_code))) action_case of_action_case action_case_back

@@ -23,7 +23,9 @@ pub record Way : Type 0 where
   pub behind : List Action
 
 abbrev pub way_code : Coded Way
-way_code = code_by (ChangeSet × (List Action × List Action)) (coded× change_set_code (coded× (coded_list action_code) (coded_list action_code))) (λ w. (w.under, (w.front, w.behind))) (λ p. record { under = p.0; front = p.1.0; behind = p.1.1 }) (λ _. refl)
+way_code = code_by (ChangeSet × (List Action × List Action))
+    (coded× change_set_code (coded× (coded_list action_code) (coded_list action_code))) (λ w. (w.under, (w.front, w.behind)))
+    (λ p. record { under = p.0; front = p.1.0; behind = p.1.1 }) (λ _. refl)
 
 abbrev pub left : Way → List Action
 left w = w.front ++ w.behind

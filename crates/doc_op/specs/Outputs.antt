@@ -75,7 +75,8 @@ IsFull None = Unit {0}
 IsFull (Some c) = 0 < component_len c
 
 abbrev pub IsSpelling : ChangeSet → Component → Type 0
-IsSpelling w c = (u : ChangeSet) (rest : List Action) → normal_from u (component_actions w c ++ rest) ≡ step u w ++ in_front c (normal_from w rest)
+IsSpelling w c = (u : ChangeSet) (rest : List Action) → normal_from u (component_actions w c ++ rest) ≡ step u w
+    ++ in_front c (normal_from w rest)
 
 -- a component that joins no other, which the normal form writes where w runs
 pub record IsLone (w : ChangeSet) (c : Component) : Type 0 where

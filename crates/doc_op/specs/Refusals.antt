@@ -72,7 +72,8 @@ key_fault None = None
 key_fault (Some k) = Some (BadBoundary k)
 
 abbrev pub count_fault : List Component → Option OpFault
-count_fault cs = if nat_lt max_count (input_len (actions cs)) || nat_lt max_count (output_len (actions cs)) then Some CountTooLarge else None
+count_fault cs = if nat_lt max_count (input_len (actions cs)) || nat_lt max_count
+    (output_len (actions cs)) then Some CountTooLarge else None
 
 abbrev pub refusal : List Component → Component → Option OpFault
 refusal cs c = first_of (zero_fault (component_len c)) (first_of (key_fault (bad_key (running cs) c)) (count_fault (cs ++ c ∷ [])))

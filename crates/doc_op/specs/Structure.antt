@@ -39,8 +39,10 @@ closes End n = nat_lt 0 n
 
 abbrev pub depths_after : Depths → Action → Option Depths
 depths_after d (Keep u a) = if is_ground d then Some d else None
-depths_after d (Ins x) = if (d.deleted == 0) && closes x.content d.inserted then Some (record { inserted = level x.content d.inserted; deleted = d.deleted }) else None
-depths_after d (Del c n) = if (d.inserted == 0) && closes c d.deleted then Some (record { inserted = d.inserted; deleted = level c d.deleted }) else None
+depths_after d (Ins x) = if (d.deleted == 0)
+    && closes x.content d.inserted then Some (record { inserted = level x.content d.inserted; deleted = d.deleted }) else None
+depths_after d (Del c n) = if (d.inserted == 0)
+    && closes c d.deleted then Some (record { inserted = d.inserted; deleted = level c d.deleted }) else None
 
 abbrev pub depths_behind : Depths → List Action → Option Depths
 depths_behind d [] = Some d
@@ -53,7 +55,8 @@ unless_broken n f (Some d) = f d
 
 abbrev pub first_break_from : ℕ → Depths → ChangeSet → List Component → Option ℕ
 first_break_from n d u [] = if is_ground d then None else Some n
-first_break_from n d u (c ∷ cs) = unless_broken n (λ e. first_break_from (n + 1) e (running_after u c) cs) (depths_behind d (component_actions u c))
+first_break_from n d u (c ∷ cs) = unless_broken n (λ e. first_break_from (n + 1) e (running_after u c) cs)
+    (depths_behind d (component_actions u c))
 
 abbrev pub first_break : List Component → Option ℕ
 first_break cs = first_break_from 0 ground none_running cs

@@ -34,7 +34,8 @@ impl<'a> Model for Cursor<'a> {
 
     ghost view = { λ c. way (change_set c.track) c.rest.now c.used };
 
-    ghost invariant = { λ c. IsSoundFrom (change_set c.track) c.rest.now × IsHead (change_set c.track) c.rest.now c.used c.len c.text.items };
+    ghost invariant = { λ c. IsSoundFrom (change_set c.track) c.rest.now
+        × IsHead (change_set c.track) c.rest.now c.used c.len c.text.items };
 }
 
 // What is left of a text.
@@ -53,7 +54,8 @@ fn past_boundaries<'a>(
 ) -> Result<&'a [Component], Memory>
     requires { IsSoundFrom (change_set track.old) components.now }
     ensures sound { IfOk result (λ cs. IsSoundFrom (change_set track.new) cs.now) }
-    ensures same { IfOk result (λ cs. actions_from (change_set track.new) cs.now ≡ actions_from (change_set track.old) components.entry.now) }
+    ensures same { IfOk result
+        (λ cs. actions_from (change_set track.new) cs.now ≡ actions_from (change_set track.old) components.entry.now) }
     ensures past { IfOk result (λ cs. IsPast cs.now) }
 {
     let mut rest = components;

@@ -65,7 +65,8 @@ impl Depths {
     }
 
     fn close_inserted(self) -> Option<Depths>
-        ensures { result ≡ (if (self.deleted == 0) && nat_lt 0 self.inserted then Some (record { inserted = self.inserted - 1; deleted = self.deleted }) else None) }
+        ensures { result ≡ (if (self.deleted == 0)
+            && nat_lt 0 self.inserted then Some (record { inserted = self.inserted - 1; deleted = self.deleted }) else None) }
     {
         if self.deleted != 0 || self.inserted == 0 {
             return None;
@@ -90,7 +91,8 @@ impl Depths {
     }
 
     fn close_deleted(self) -> Option<Depths>
-        ensures { result ≡ (if (self.inserted == 0) && nat_lt 0 self.deleted then Some (record { inserted = self.inserted; deleted = self.deleted - 1 }) else None) }
+        ensures { result ≡ (if (self.inserted == 0)
+            && nat_lt 0 self.deleted then Some (record { inserted = self.inserted; deleted = self.deleted - 1 }) else None) }
     {
         if self.inserted != 0 || self.deleted == 0 {
             return None;

@@ -31,7 +31,8 @@ impl DocOp {
 pub fn normal_form_holds()
     ensures actions { (acts : List Action) → AreWritable acts → actions (normal_form acts) ≡ acts }
     ensures again { (acts : List Action) → AreWritable acts → normal_form (actions (normal_form acts)) ≡ normal_form acts }
-    ensures built { (acts : List Action) → AreWritable acts → input_len acts ≤ max_count → output_len acts ≤ max_count → IsBuilt (normal_form acts) }
+    ensures built { (acts : List Action) → AreWritable acts → input_len acts ≤ max_count → output_len acts ≤ max_count
+        → IsBuilt (normal_form acts) }
 {}
 
 // The operation of the actions that are left.

@@ -50,7 +50,8 @@ impl Model for NormalBuilder {
 
     ghost view = { λ b. actions (b.done ++ shut (open_component b.last)) };
 
-    ghost invariant = { λ b. IsOpenNormal (actions (b.done ++ shut (open_component b.last))) b.done (open_component b.last) (change_set b.track) };
+    ghost invariant = { λ b. IsOpenNormal (actions (b.done ++ shut (open_component b.last))) b.done (open_component b.last)
+        (change_set b.track) };
 }
 
 // Whether these changes run.

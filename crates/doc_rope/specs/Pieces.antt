@@ -34,7 +34,8 @@ joined (p ∷ ps) = p ++ joined ps
 
 abbrev pub is_sound : Tree → Bool
 is_sound Empty = true
-is_sound (Fork' p left piece right count shape height) = count == total (pieces left ++ piece ∷ pieces right) && same_shape shape (shape_of (joined (pieces left ++ piece ∷ pieces right))) && is_sound left && is_sound right
+is_sound (Fork' p left piece right count shape height) = count == total (pieces left ++ piece ∷ pieces right)
+    && same_shape shape (shape_of (joined (pieces left ++ piece ∷ pieces right))) && is_sound left && is_sound right
 
 abbrev pub IsSound : Tree → Type 0
 IsSound t = is_sound t ≡ true

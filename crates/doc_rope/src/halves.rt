@@ -61,7 +61,8 @@ pub fn cut_piece(
     requires within { within < length node.value.piece }
     requires some { 0 < within }
     requires spare { spare.value.piece ≡ [] }
-    ensures joined { joined (pieces left ++ node.value.piece ∷ pieces right) ≡ joined (pieces result.before) ++ joined (pieces result.after) }
+    ensures joined { joined (pieces left ++ node.value.piece ∷ pieces right) ≡ joined (pieces result.before)
+        ++ joined (pieces result.after) }
     ensures place { total (pieces result.before) ≡ total (pieces left) + within }
     ensures before { IsSound result.before }
     ensures after { IsSound result.after }

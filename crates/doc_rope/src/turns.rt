@@ -105,7 +105,8 @@ pub fn turn_inner_right(
     requires outer { IsSound outer }
     requires inner { IsSound inner }
     requires right { IsSound right }
-    requires fits { total (pieces outer) + (length top.value.piece + (total (pieces inner) + (length node.value.piece + total (pieces right)))) < 2 ^ 64 }
+    requires fits { total (pieces outer)
+        + (length top.value.piece + (total (pieces inner) + (length node.value.piece + total (pieces right)))) < 2 ^ 64 }
     ensures pieces { pieces result ≡ pieces outer ++ top.value.piece ∷ (pieces inner ++ node.value.piece ∷ pieces right) }
     ensures sound { IsSound result }
 {

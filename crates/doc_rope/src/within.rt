@@ -16,7 +16,8 @@ pub fn put_within(tree: Tree, from: usize, count: usize, items: &mut Piece) -> R
     requires packed { IsPacked (pieces tree) }
     requires inside { from + count ≤ total (pieces tree) }
     requires fits { total (pieces tree) + length items.old < 2 ^ 64 }
-    ensures joined { IfOk result (λ t. joined (pieces t) ≡ take from (joined (pieces tree)) ++ items.old ++ drop (from + count) (joined (pieces tree))) }
+    ensures joined { IfOk result
+        (λ t. joined (pieces t) ≡ take from (joined (pieces tree)) ++ items.old ++ drop (from + count) (joined (pieces tree))) }
     ensures pieces { IfOk result (λ t. AllBecome (pieces tree) (pieces t)) }
     ensures count { IfOk result (λ t. total (pieces t) + count ≡ total (pieces tree) + length items.old) }
     ensures sound { IfOk result (λ t. IsSound t) }
@@ -67,9 +68,12 @@ fn put_here(
     requires whole { total (pieces left) + (length node.value.piece + total (pieces right)) < 2 ^ 64 }
     requires inside { from + count < 2 ^ 64 }
     requires fits { total (pieces left) + (length node.value.piece + total (pieces right)) + length items.old < 2 ^ 64 }
-    ensures joined { IfOk result (λ t. joined (pieces t) ≡ take from (joined (pieces left ++ node.value.piece ∷ pieces right)) ++ items.old ++ drop (from + count) (joined (pieces left ++ node.value.piece ∷ pieces right))) }
+    ensures joined { IfOk result
+        (λ t. joined (pieces t) ≡ take from (joined (pieces left ++ node.value.piece ∷ pieces right)) ++ items.old
+        ++ drop (from + count) (joined (pieces left ++ node.value.piece ∷ pieces right))) }
     ensures pieces { IfOk result (λ t. AllBecome (pieces left ++ node.value.piece ∷ pieces right) (pieces t)) }
-    ensures count { IfOk result (λ t. total (pieces t) + count ≡ total (pieces left) + (length node.value.piece + total (pieces right)) + length items.old) }
+    ensures count { IfOk result
+        (λ t. total (pieces t) + count ≡ total (pieces left) + (length node.value.piece + total (pieces right)) + length items.old) }
     ensures sound { IfOk result (λ t. IsSound t) }
     ensures used { OnOk result (items.new ≡ []) }
     ensures kept { IfErr result (λ t. pieces t ≡ pieces left ++ node.value.piece ∷ pieces right) }
@@ -99,7 +103,8 @@ fn put_near(tree: Tree, from: usize, count: usize, items: &mut Piece) -> Result<
     requires packed { IsPacked (pieces tree) }
     requires inside { from + count ≤ total (pieces tree) }
     requires fits { total (pieces tree) + length items.old < 2 ^ 64 }
-    ensures joined { IfOk result (λ t. joined (pieces t) ≡ take from (joined (pieces tree)) ++ items.old ++ drop (from + count) (joined (pieces tree))) }
+    ensures joined { IfOk result
+        (λ t. joined (pieces t) ≡ take from (joined (pieces tree)) ++ items.old ++ drop (from + count) (joined (pieces tree))) }
     ensures packed { IfOk result (λ t. IsPacked (pieces t)) }
     ensures sound { IfOk result (λ t. IsSound t) }
     ensures used { OnOk result (items.new ≡ []) }
@@ -120,7 +125,8 @@ fn put_alone(tree: Tree, from: usize, count: usize, items: &mut Piece) -> Result
     requires inside { from + count ≤ total (pieces tree) }
     requires fits { total (pieces tree) + length items.old < 2 ^ 64 }
     requires one { length (pieces tree) ≡ 1 }
-    ensures joined { IfOk result (λ t. joined (pieces t) ≡ take from (joined (pieces tree)) ++ items.old ++ drop (from + count) (joined (pieces tree))) }
+    ensures joined { IfOk result
+        (λ t. joined (pieces t) ≡ take from (joined (pieces tree)) ++ items.old ++ drop (from + count) (joined (pieces tree))) }
     ensures packed { IfOk result (λ t. IsPacked (pieces t)) }
     ensures sound { IfOk result (λ t. IsSound t) }
     ensures used { OnOk result (items.new ≡ []) }
@@ -159,7 +165,8 @@ pub fn put_items(
     requires items_packed { IsPacked (pieces items) }
     requires first { first.value.piece ≡ [] }
     requires second { second.value.piece ≡ [] }
-    ensures joined { joined (pieces result) ≡ take from (joined (pieces tree)) ++ joined (pieces items) ++ drop (from + count) (joined (pieces tree)) }
+    ensures joined { joined (pieces result) ≡ take from (joined (pieces tree)) ++ joined (pieces items)
+        ++ drop (from + count) (joined (pieces tree)) }
     ensures sound { IsSound result }
     ensures packed { IsPacked (pieces result) }
 {
@@ -209,7 +216,8 @@ fn put_one(
     requires one { length (pieces items) ≡ 1 }
     requires first { first.value.piece ≡ [] }
     requires second { second.value.piece ≡ [] }
-    ensures joined { joined (pieces result) ≡ take from (joined (pieces tree)) ++ joined (pieces items) ++ drop (from + count) (joined (pieces tree)) }
+    ensures joined { joined (pieces result) ≡ take from (joined (pieces tree)) ++ joined (pieces items)
+        ++ drop (from + count) (joined (pieces tree)) }
     ensures sound { IsSound result }
     ensures packed { IsPacked (pieces result) }
 {
@@ -243,7 +251,8 @@ fn put_between(
     requires items_packed { IsPacked (pieces items) }
     requires first { first.value.piece ≡ [] }
     requires second { second.value.piece ≡ [] }
-    ensures joined { joined (pieces result) ≡ take from (joined (pieces tree)) ++ joined (pieces items) ++ drop (from + count) (joined (pieces tree)) }
+    ensures joined { joined (pieces result) ≡ take from (joined (pieces tree)) ++ joined (pieces items)
+        ++ drop (from + count) (joined (pieces tree)) }
     ensures sound { IsSound result }
     ensures packed { IsPacked (pieces result) }
 {

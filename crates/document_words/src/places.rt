@@ -39,7 +39,8 @@ impl WordPlaces {
     pub fn wavelets(&self, alloc: Global, word: &Word) -> Result<Vec<&WaveletName>, Memory>
         ensures value { IfOk result (λ list. map (λ n. n.now) list.items ≡ wavelets_of self.entry.now word.now) }
         ensures order { OnOk result (AreInOrder (wavelets_of self.entry.now word.now)) }
-        ensures rest { OnOk result ((n d : Key) → is_among n (wavelets_of self.entry.now word.now) ≡ false → count_in self.entry.now word.now n d ≡ 0) }
+        ensures rest { OnOk result
+            ((n d : Key) → is_among n (wavelets_of self.entry.now word.now) ≡ false → count_in self.entry.now word.now n d ≡ 0) }
     {
         match self.words.get(word) {
             Some(counts) => counts.names(alloc),
@@ -56,7 +57,8 @@ impl WordPlaces {
     ) -> Result<Vec<&DocumentName>, Memory>
         ensures value { IfOk result (λ list. map (λ d. d.now) list.items ≡ holders self.entry.now word.now name.now) }
         ensures order { OnOk result (AreInOrder (holders self.entry.now word.now name.now)) }
-        ensures among { OnOk result ((d : Key) → is_among d (holders self.entry.now word.now name.now) ≡ nat_lt 0 (count_in self.entry.now word.now name.now d)) }
+        ensures among { OnOk result
+            ((d : Key) → is_among d (holders self.entry.now word.now name.now) ≡ nat_lt 0 (count_in self.entry.now word.now name.now d)) }
     {
         match self.words.get(word) {
             Some(counts) => counts.holders(alloc, name),
@@ -73,7 +75,8 @@ impl WordPlaces {
         document: &DocumentName,
     ) -> Result<(), Memory>
         requires { IsSome (tree.get (slice_cmp nat_cmp) self.old.words word.now) }
-        ensures { OnOk result ((w n d : Key) → count_in self.new w n d ≡ count_in self.old w n d + cond (same_text word.now w && (same_text name.now n && same_text document.now d)) 1 0) }
+        ensures { OnOk result ((w n d : Key) → count_in self.new w n d ≡ count_in self.old w n d
+            + cond (same_text word.now w && (same_text name.now n && same_text document.now d)) 1 0) }
     {
         let Some(counts) = self.words.get_mut(word) else {
             return Ok(());
@@ -90,7 +93,8 @@ impl WordPlaces {
         document: &DocumentName,
     ) -> Result<(), Memory>
         requires { tree.get (slice_cmp nat_cmp) self.old.words word.now ≡ None }
-        ensures { OnOk result ((w n d : Key) → count_in self.new w n d ≡ count_in self.old w n d + cond (same_text word.now w && (same_text name.now n && same_text document.now d)) 1 0) }
+        ensures { OnOk result ((w n d : Key) → count_in self.new w n d ≡ count_in self.old w n d
+            + cond (same_text word.now w && (same_text name.now n && same_text document.now d)) 1 0) }
     {
         let mut counts = WaveletCounts::new(alloc);
         counts.put(alloc, name, document)?;
@@ -107,7 +111,8 @@ impl WordPlaces {
         name: &WaveletName,
         document: &DocumentName,
     ) -> Result<(), Memory>
-        ensures { OnOk result ((w n d : Key) → count_in self.new w n d ≡ count_in self.old w n d + cond (same_text word.now w && (same_text name.now n && same_text document.now d)) 1 0) }
+        ensures { OnOk result ((w n d : Key) → count_in self.new w n d ≡ count_in self.old w n d
+            + cond (same_text word.now w && (same_text name.now n && same_text document.now d)) 1 0) }
     {
         if self.words.contains_key(word) {
             self.put_again(alloc, word, name, document)
@@ -130,7 +135,8 @@ impl WordPlaces {
 
     // The word stands once less in a document.
     fn lower(&mut self, word: &Word, name: &WaveletName, document: &DocumentName)
-        ensures { (w n d : Key) → count_in self.new w n d ≡ count_in self.old w n d - cond (same_text word.now w && (same_text name.now n && same_text document.now d)) 1 0 }
+        ensures { (w n d : Key) → count_in self.new w n d
+            ≡ count_in self.old w n d - cond (same_text word.now w && (same_text name.now n && same_text document.now d)) 1 0 }
     {
         if let Some(counts) = self.words.get_mut(word) {
             counts.take_out(name, document);
@@ -139,7 +145,8 @@ impl WordPlaces {
 
     // The word stands once less in a document, and isn't kept where it then stands in none.
     fn take_out(&mut self, word: &Word, name: &WaveletName, document: &DocumentName)
-        ensures { (w n d : Key) → count_in self.new w n d ≡ count_in self.old w n d - cond (same_text word.now w && (same_text name.now n && same_text document.now d)) 1 0 }
+        ensures { (w n d : Key) → count_in self.new w n d
+            ≡ count_in self.old w n d - cond (same_text word.now w && (same_text name.now n && same_text document.now d)) 1 0 }
     {
         self.lower(word, name, document);
         self.forget_empty(word);
@@ -153,7 +160,8 @@ impl WordPlaces {
         name: &WaveletName,
         document: &DocumentName,
     ) -> Result<(), Memory>
-        ensures { OnOk result ((w n d : Key) → count_in self.new w n d ≡ count_in self.old w n d + cond (same_text name.now n && same_text document.now d) (occurrences w words.now) 0) }
+        ensures { OnOk result ((w n d : Key) → count_in self.new w n d ≡ count_in self.old w n d
+            + cond (same_text name.now n && same_text document.now d) (occurrences w words.now) 0) }
     {
         for word in words {
             self.put(alloc, word, name, document)?;
@@ -163,7 +171,8 @@ impl WordPlaces {
 
     /// Each of the words stands once less in a document.
     pub fn take_out_all(&mut self, words: &[Word], name: &WaveletName, document: &DocumentName)
-        ensures { (w n d : Key) → count_in self.new w n d ≡ count_in self.old w n d - cond (same_text name.now n && same_text document.now d) (occurrences w words.now) 0 }
+        ensures { (w n d : Key) → count_in self.new w n d
+            ≡ count_in self.old w n d - cond (same_text name.now n && same_text document.now d) (occurrences w words.now) 0 }
     {
         for word in words {
             self.take_out(word, name, document);

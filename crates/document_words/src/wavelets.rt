@@ -47,7 +47,8 @@ impl WaveletCounts {
     pub fn names(&self, alloc: Global) -> Result<Vec<&WaveletName>, Memory>
         ensures value { IfOk result (λ list. map (λ n. n.now) list.items ≡ keys_of self.entry.now.wavelets.entries) }
         ensures order { OnOk result (AreInOrder (keys_of self.entry.now.wavelets.entries)) }
-        ensures rest { OnOk result ((n d : Key) → is_among n (keys_of self.entry.now.wavelets.entries) ≡ false → count_at self.entry.now n d ≡ 0) }
+        ensures rest { OnOk result
+            ((n d : Key) → is_among n (keys_of self.entry.now.wavelets.entries) ≡ false → count_at self.entry.now n d ≡ 0) }
     {
         let mut list = Vec::new(alloc);
         for name in self.wavelets.keys() {
@@ -60,7 +61,8 @@ impl WaveletCounts {
     pub fn holders(&self, alloc: Global, name: &WaveletName) -> Result<Vec<&DocumentName>, Memory>
         ensures value { IfOk result (λ list. map (λ d. d.now) list.items ≡ held_at self.entry.now name.now) }
         ensures order { OnOk result (AreInOrder (held_at self.entry.now name.now)) }
-        ensures among { OnOk result ((d : Key) → is_among d (held_at self.entry.now name.now) ≡ nat_lt 0 (count_at self.entry.now name.now d)) }
+        ensures among { OnOk result
+            ((d : Key) → is_among d (held_at self.entry.now name.now) ≡ nat_lt 0 (count_at self.entry.now name.now d)) }
     {
         match self.wavelets.get(name) {
             Some(counts) => counts.holders(alloc),
@@ -76,7 +78,8 @@ impl WaveletCounts {
         document: &DocumentName,
     ) -> Result<(), Memory>
         requires { IsSome (tree.get (slice_cmp nat_cmp) self.old.wavelets name.now) }
-        ensures { OnOk result ((n d : Key) → count_at self.new n d ≡ count_at self.old n d + cond (same_text name.now n && same_text document.now d) 1 0) }
+        ensures { OnOk result ((n d : Key) → count_at self.new n d ≡ count_at self.old n d
+            + cond (same_text name.now n && same_text document.now d) 1 0) }
     {
         let Some(counts) = self.wavelets.get_mut(name) else {
             return Ok(());
@@ -92,7 +95,8 @@ impl WaveletCounts {
         document: &DocumentName,
     ) -> Result<(), Memory>
         requires { tree.get (slice_cmp nat_cmp) self.old.wavelets name.now ≡ None }
-        ensures { OnOk result ((n d : Key) → count_at self.new n d ≡ count_at self.old n d + cond (same_text name.now n && same_text document.now d) 1 0) }
+        ensures { OnOk result ((n d : Key) → count_at self.new n d ≡ count_at self.old n d
+            + cond (same_text name.now n && same_text document.now d) 1 0) }
     {
         let mut counts = DocumentCounts::new(alloc);
         counts.put(alloc, document)?;
@@ -108,7 +112,8 @@ impl WaveletCounts {
         name: &WaveletName,
         document: &DocumentName,
     ) -> Result<(), Memory>
-        ensures { OnOk result ((n d : Key) → count_at self.new n d ≡ count_at self.old n d + cond (same_text name.now n && same_text document.now d) 1 0) }
+        ensures { OnOk result ((n d : Key) → count_at self.new n d ≡ count_at self.old n d
+            + cond (same_text name.now n && same_text document.now d) 1 0) }
     {
         if self.wavelets.contains_key(name) {
             self.put_again(alloc, name, document)
@@ -131,7 +136,8 @@ impl WaveletCounts {
 
     // Once less in a document of a wavelet.
     fn lower(&mut self, name: &WaveletName, document: &DocumentName)
-        ensures { (n d : Key) → count_at self.new n d ≡ count_at self.old n d - cond (same_text name.now n && same_text document.now d) 1 0 }
+        ensures { (n d : Key) → count_at self.new n d
+            ≡ count_at self.old n d - cond (same_text name.now n && same_text document.now d) 1 0 }
     {
         if let Some(counts) = self.wavelets.get_mut(name) {
             counts.take_out(document);
@@ -140,7 +146,8 @@ impl WaveletCounts {
 
     /// Once less in a document of a wavelet, which isn't kept where it then stands in none.
     pub fn take_out(&mut self, name: &WaveletName, document: &DocumentName)
-        ensures { (n d : Key) → count_at self.new n d ≡ count_at self.old n d - cond (same_text name.now n && same_text document.now d) 1 0 }
+        ensures { (n d : Key) → count_at self.new n d
+            ≡ count_at self.old n d - cond (same_text name.now n && same_text document.now d) 1 0 }
     {
         self.lower(name, document);
         self.forget_empty(name);

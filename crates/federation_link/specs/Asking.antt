@@ -40,7 +40,8 @@ module _ (tells told : Bool) (domain : Key) where
     pub calls : IsTrue told → ds ≡ cs ++ NextRelay domain place (Ok None) ∷ []
     pub passed : HasSentSome tells ws vs es fs []
 
-  abbrev pub IsNext : ℕ → List Waiting → List Waiting → List LinkEvent → List LinkEvent → List TurnCall → List TurnCall → Option Bool → Type 0
+  abbrev pub IsNext : ℕ → List Waiting → List Waiting → List LinkEvent → List LinkEvent → List TurnCall → List TurnCall → Option Bool
+      → Type 0
   IsNext place ws vs es fs cs ds (Some sent) = IsPassed place ws vs es fs cs ds sent
   IsNext place ws vs es fs cs ds None = IsOver place ws vs es fs cs ds
 
@@ -52,12 +53,16 @@ module _ (tells told : Bool) (domain : Key) where
 
   -- `more` says whether there was one at the place
   abbrev pub HasToldNext : ℕ → List LinkEvent → List LinkEvent → List TurnCall → List TurnCall → Bool → Type 0
-  HasToldNext place es fs cs ds true = (c : CopyAt) × (IsTrue told → ds ≡ cs ++ NextCopy domain place (Ok (Some c)) ∷ []) × (IsTrue tells → fs ≡ es ++ have c ∷ [])
+  HasToldNext place es fs cs ds true = (c : CopyAt) × (IsTrue told → ds ≡ cs ++ NextCopy domain place (Ok (Some c)) ∷ [])
+      × (IsTrue tells → fs ≡ es ++ have c ∷ [])
   HasToldNext place es fs cs ds false = (IsTrue told → ds ≡ cs ++ NextCopy domain place (Ok None) ∷ []) × (IsTrue tells → fs ≡ es)
 
-  abbrev pub HasRelayedNext : ℕ → List Waiting → List Waiting → List LinkEvent → List LinkEvent → List TurnCall → List TurnCall → Bool → Type 0
-  HasRelayedNext place ws vs es fs cs ds true = (r : Relay) × (IsTrue told → ds ≡ cs ++ NextRelay domain place (Ok (Some r)) ∷ []) × HasSentSome tells ws vs es fs (r ∷ [])
-  HasRelayedNext place ws vs es fs cs ds false = (IsTrue told → ds ≡ cs ++ NextRelay domain place (Ok None) ∷ []) × HasSentSome tells ws vs es fs []
+  abbrev pub HasRelayedNext : ℕ → List Waiting → List Waiting → List LinkEvent → List LinkEvent → List TurnCall → List TurnCall → Bool
+      → Type 0
+  HasRelayedNext place ws vs es fs cs ds true = (r : Relay) × (IsTrue told → ds ≡ cs ++ NextRelay domain place (Ok (Some r)) ∷ [])
+      × HasSentSome tells ws vs es fs (r ∷ [])
+  HasRelayedNext place ws vs es fs cs ds false = (IsTrue told → ds ≡ cs ++ NextRelay domain place (Ok None) ∷ [])
+      × HasSentSome tells ws vs es fs []
 
   pub record HasAskedAll (ws vs : List Waiting) (es fs : List LinkEvent) (cs ds : List TurnCall) : Type 0 where
     pub relays : List Relay

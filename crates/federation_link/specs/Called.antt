@@ -19,13 +19,15 @@ module _ {L : Type 0} (link : link_of.Ghosts L) {T : Type 0} (turns : turns_of.G
   -- ---- what is sent
 
   abbrev pub TellsNext : ℕ → L → L → T → T → Bool → Type 0
-  TellsNext place l m t u more = HasToldNext link.tells turns.tells d place (link.events l) (link.events m) (turns.calls t) (turns.calls u) more
+  TellsNext place l m t u more = HasToldNext link.tells turns.tells d place (link.events l) (link.events m) (turns.calls t)
+      (turns.calls u) more
 
   abbrev pub TellsAll : L → L → T → T → Type 0
   TellsAll l m t u = HasSentHaves link.tells turns.tells d (link.events l) (link.events m) (turns.calls t) (turns.calls u)
 
   abbrev pub RelaysNext : ℕ → List Waiting → List Waiting → L → L → T → T → Bool → Type 0
-  RelaysNext place ws vs l m t u more = HasRelayedNext link.tells turns.tells d place ws vs (link.events l) (link.events m) (turns.calls t) (turns.calls u) more
+  RelaysNext place ws vs l m t u more = HasRelayedNext link.tells turns.tells d place ws vs (link.events l) (link.events m) (turns.calls t)
+      (turns.calls u) more
 
   abbrev pub RelaysAll : List Waiting → List Waiting → L → L → T → T → Type 0
   RelaysAll ws vs l m t u = HasAskedAll link.tells turns.tells d ws vs (link.events l) (link.events m) (turns.calls t) (turns.calls u)
@@ -37,15 +39,18 @@ module _ {L : Type 0} (link : link_of.Ghosts L) {T : Type 0} (turns : turns_of.G
   Greets own vs l m t u = HasGreeted link.tells turns.tells d own vs (link.events l) (link.events m) (turns.calls t) (turns.calls u)
 
   abbrev pub SendsNext : ℕ → List Waiting → List Waiting → L → L → T → T → Option Bool → Type 0
-  SendsNext place ws vs l m t u n = IsNext link.tells turns.tells d place ws vs (link.events l) (link.events m) (turns.calls t) (turns.calls u) n
+  SendsNext place ws vs l m t u n = IsNext link.tells turns.tells d place ws vs (link.events l) (link.events m) (turns.calls t)
+      (turns.calls u) n
 
   abbrev pub SendsFresh : List Waiting → List Waiting → L → L → T → T → Bool → Type 0
-  SendsFresh ws vs l m t u any = HasAskedFresh link.tells turns.tells d ws vs (link.events l) (link.events m) (turns.calls t) (turns.calls u) any
+  SendsFresh ws vs l m t u any = HasAskedFresh link.tells turns.tells d ws vs (link.events l) (link.events m) (turns.calls t)
+      (turns.calls u) any
 
   -- ---- steps
 
   abbrev pub Sends : L → L → Ear → List Waiting → List Waiting → T → T → Result Stepped TurnFault → Type 0
-  Sends l m j ws vs t u r = IsSending link.tells turns.tells d (link.events l) (link.events m) j ws vs (turns.calls t) (turns.calls u) (link.faults l) (link.faults m) r
+  Sends l m j ws vs t u r = IsSending link.tells turns.tells d (link.events l) (link.events m) j ws vs (turns.calls t) (turns.calls u)
+      (link.faults l) (link.faults m) r
 
   abbrev pub StepsOn : L → L → Ear → Ear → List Waiting → List Waiting → T → T → Result Stepped TurnFault → Type 0
   StepsOn l m i j ws vs t u r = IsStep link.tells turns.tells d (link.events l) (link.events m) i j ws vs (turns.calls t) (turns.calls u)
@@ -55,12 +60,15 @@ module _ {L : Type 0} (link : link_of.Ghosts L) {T : Type 0} (turns : turns_of.G
   GoesOn before now i j ws vs t u r = IsGone before now (λ l m. StepsOn l m i j ws vs t u r)
 
   abbrev pub Rests : Option L → Option L → T → T → Result Stepped TurnFault → Type 0
-  Rests before now t u r = IsGone before now (λ l m. IsIdle link.tells turns.tells d (link.events l) (link.events m) (turns.calls t) (turns.calls u) (link.looks l) (link.looks m) r)
+  Rests before now t u r = IsGone before now
+      (λ l m. IsIdle link.tells turns.tells d (link.events l) (link.events m) (turns.calls t) (turns.calls u) (link.looks l)
+      (link.looks m) r)
 
   abbrev pub Begins : Key → Option L → Ear → List Waiting → T → T → Result Stepped TurnFault → Type 0
   Begins own now j vs t u r = HasBegun link.tells turns.tells link.events link.faults d own now j vs (turns.calls t) (turns.calls u) r
 
   -- `line` is the count of the line before, `line1` after
   abbrev pub Dials : Key → Option L → Option L → Ear → List Waiting → T → T → (line line1 : ℕ) → Result Stepped TurnFault → Type 0
-  Dials own before now j vs t u line line1 r = HasDialled link.tells turns.tells link.events link.faults d own now j vs (turns.calls t) (turns.calls u)
+  Dials own before now j vs t u line line1 r = HasDialled link.tells turns.tells link.events link.faults d own now j vs (turns.calls t)
+      (turns.calls u)
       (line_after link.faults before line) line1 r

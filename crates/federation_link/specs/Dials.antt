@@ -68,11 +68,13 @@ module _ {L : Type 0} where
     HasBegun link i ws cs ds (Err e) = IsUnlinked link i
 
     -- `line0` is the count of the line after the link was put back that there was
-    abbrev pub HasDialled : Option L → Ear → List Waiting → List TurnCall → List TurnCall → (line0 line1 : ℕ) → Result Stepped TurnFault → Type 0
+    abbrev pub HasDialled : Option L → Ear → List Waiting → List TurnCall → List TurnCall → (line0 line1 : ℕ) → Result Stepped TurnFault
+        → Type 0
     HasDialled link i ws cs ds line0 line1 (Ok came_to.Dialled) = HasBegun link i ws cs ds (Ok came_to.Dialled)
     HasDialled link i ws cs ds line0 line1 (Ok came_to.Worked) = ⊥
     HasDialled link i ws cs ds line0 line1 (Ok came_to.Idle) = ⊥
-    HasDialled link i ws cs ds line0 line1 (Ok came_to.Cut) = (IsUnlinked link i × Rose line0 line1) ⊎ HasBegun link i ws cs ds (Ok came_to.Cut)
+    HasDialled link i ws cs ds line0 line1 (Ok came_to.Cut) = (IsUnlinked link i × Rose line0 line1) ⊎ HasBegun link i ws cs ds
+        (Ok came_to.Cut)
     HasDialled link i ws cs ds line0 line1 (Err e) = IsUnlinked link i
 
   abbrev pub IsBack : Result Stepped TurnFault → Option L → List L → List L → Type 0

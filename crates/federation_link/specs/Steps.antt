@@ -60,7 +60,8 @@ module _ (tells told : Bool) (domain : Key) where
     pub same : vs ≡ ws
     pub holding : IsHolding bytes j
 
-  pub record HasSent (any : Bool) (es fs : List LinkEvent) (i j : Ear) (ws vs : List Waiting) (cs ds : List TurnCall) (looks0 looks1 : ℕ) : Type 0 where
+  pub record HasSent (any : Bool) (es fs : List LinkEvent) (i j : Ear) (ws vs : List Waiting) (cs ds : List TurnCall)
+      (looks0 looks1 : ℕ) : Type 0 where
     pub asked : HasAskedFresh tells told domain ws vs (es ++ Idle ∷ []) fs cs ds any
     pub looked : Rose looks0 looks1
     pub begun : i ≡ Open
@@ -76,7 +77,8 @@ module _ (tells told : Bool) (domain : Key) where
     pub begun : i ≡ Open
     pub free : j ≡ Open
 
-  pub record HasEnded (es fs : List LinkEvent) (i j : Ear) (ws vs : List Waiting) (cs ds : List TurnCall) (faults0 faults1 : ℕ) (closed1 : Bool) : Type 0 where
+  pub record HasEnded (es fs : List LinkEvent) (i j : Ear) (ws vs : List Waiting) (cs ds : List TurnCall) (faults0 faults1 : ℕ)
+      (closed1 : Bool) : Type 0 where
     pub sent : HasSentOn es fs ws vs ⊎ ((IsTrue tells → fs ≡ es ++ Ended ∷ []) × (vs ≡ ws))
     pub ungiven : IsTrue told → gifts ds ≡ gifts cs
     pub cause : Rose faults0 faults1 ⊎ (closed1 ≡ true)
@@ -87,7 +89,8 @@ module _ (tells told : Bool) (domain : Key) where
   IsSendingPart es fs ws vs cs ds = ((rs : List Relay) × HasSentSome tells ws vs es fs rs) × (IsTrue told → gifts ds ≡ gifts cs)
 
   -- after nothing came
-  abbrev pub IsSending : List LinkEvent → List LinkEvent → Ear → List Waiting → List Waiting → List TurnCall → List TurnCall → (faults0 faults1 : ℕ)
+  abbrev pub IsSending : List LinkEvent → List LinkEvent → Ear → List Waiting → List Waiting → List TurnCall → List TurnCall
+      → (faults0 faults1 : ℕ)
       → Result Stepped TurnFault → Type 0
   IsSending es fs j ws vs cs ds f0 f1 (Ok came_to.Dialled) = ⊥
   IsSending es fs j ws vs cs ds f0 f1 (Ok came_to.Worked) = HasAskedFresh tells told domain ws vs es fs cs ds true × (j ≡ Open)
@@ -114,7 +117,8 @@ module _ (tells told : Bool) (domain : Key) where
     pub looked : Rose looks0 looks1
     pub last : IsTrue tells → fs ≡ es ++ Idle ∷ []
 
-  abbrev pub IsIdle : List LinkEvent → List LinkEvent → List TurnCall → List TurnCall → (looks0 looks1 : ℕ) → Result Stepped TurnFault → Type 0
+  abbrev pub IsIdle : List LinkEvent → List LinkEvent → List TurnCall → List TurnCall → (looks0 looks1 : ℕ) → Result Stepped TurnFault
+      → Type 0
   IsIdle es fs cs ds l0 l1 (Ok came_to.Dialled) = ⊤
   IsIdle es fs cs ds l0 l1 (Ok came_to.Worked) = ⊤
   IsIdle es fs cs ds l0 l1 (Ok came_to.Idle) = IsAtRest es fs cs ds l0 l1

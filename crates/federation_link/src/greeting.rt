@@ -77,7 +77,8 @@ fn relay_next<R: Wait, L: Link, T: PeerTurns>(
     unanswered: &mut Waitings,
     turns: &mut T,
 ) -> Result<bool, Stop>
-    ensures next { IfOk result (RelaysNext L.Link T.PeerTurns domain.now place unanswered.old unanswered.new link.old link.new turns.old turns.new) }
+    ensures next { IfOk result
+        (RelaysNext L.Link T.PeerTurns domain.now place unanswered.old unanswered.new link.old link.new turns.old turns.new) }
     ensures spent { IsTrue T.tells → refusals (T.calls turns.new) ≡ refusals (T.calls turns.old) ++ stop_refused result }
     ensures gifts { IsTrue T.tells → gifts (T.calls turns.new) ≡ gifts (T.calls turns.old) }
     ensures failed { IfErr result (λ e. e ≡ Stop.Link → Rose (L.faults link.old) (L.faults link.new)) }
@@ -103,7 +104,8 @@ fn relay_all<R: Wait, L: Link, T: PeerTurns>(
     unanswered: &mut Waitings,
     turns: &mut T,
 ) -> Result<(), Stop>
-    ensures asked { OnOk result (RelaysAll L.Link T.PeerTurns domain.now unanswered.old unanswered.new link.old link.new turns.old turns.new) }
+    ensures asked { OnOk result
+        (RelaysAll L.Link T.PeerTurns domain.now unanswered.old unanswered.new link.old link.new turns.old turns.new) }
     ensures spent { IsTrue T.tells → refusals (T.calls turns.new) ≡ refusals (T.calls turns.old) ++ stop_refused result }
     ensures gifts { IsTrue T.tells → gifts (T.calls turns.new) ≡ gifts (T.calls turns.old) }
     ensures failed { IfErr result (λ e. e ≡ Stop.Link → Rose (L.faults link.old) (L.faults link.new)) }

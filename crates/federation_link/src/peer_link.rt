@@ -105,7 +105,8 @@ impl<L: Link> PeerLink<L> {
     ) -> Result<Stepped, TurnFault>
         requires open { is_cut self.old.ear ≡ false }
         ensures gone { GoesOn L.Link T.PeerTurns self.old.domain self.old.link self.new.link self.old.ear self.new.ear self.old.unanswered self.new.unanswered turns.old turns.new result }
-        ensures later { IsGone self.old.link self.new.link (λ l m. (L.faults l ≤ L.faults m) × (IsTrue L.tells → IsPrefix (L.events l) (L.events m))) }
+        ensures later { IsGone self.old.link self.new.link
+            (λ l m. (L.faults l ≤ L.faults m) × (IsTrue L.tells → IsPrefix (L.events l) (L.events m))) }
         ensures idle { Rests L.Link T.PeerTurns self.old.domain self.old.link self.new.link turns.old turns.new result }
         ensures spent { IsTrue T.tells → refusals (T.calls turns.new) ≡ refusals (T.calls turns.old) ++ refused result }
         ensures names { (self.new.domain ≡ self.old.domain) × (self.new.own ≡ self.old.own) × (self.new.address ≡ self.old.address) }
@@ -264,8 +265,10 @@ impl<L: Link> PeerLink<L> {
         ensures gone { is_cut self.old.ear ≡ false
             → GoesOn L.Link T.PeerTurns self.old.domain self.old.link self.new.link self.old.ear self.new.ear self.old.unanswered self.new.unanswered turns.old turns.new result }
         ensures later { is_cut self.old.ear ≡ false
-            → IsGone self.old.link self.new.link (λ l m. (L.faults l ≤ L.faults m) × (IsTrue L.tells → IsPrefix (L.events l) (L.events m))) }
-        ensures idle { is_cut self.old.ear ≡ false → Rests L.Link T.PeerTurns self.old.domain self.old.link self.new.link turns.old turns.new result }
+            → IsGone self.old.link self.new.link
+            (λ l m. (L.faults l ≤ L.faults m) × (IsTrue L.tells → IsPrefix (L.events l) (L.events m))) }
+        ensures idle { is_cut self.old.ear ≡ false
+            → Rests L.Link T.PeerTurns self.old.domain self.old.link self.new.link turns.old turns.new result }
         ensures apart { is_cut self.old.ear ≡ false → net.new ≡ net.old }
         ensures rises { min (N.line net.old) (2 ^ 64 - 1) ≤ N.line net.new }
         ensures out { N.out net.new + count_in self.old.link ≡ N.out net.old + count_in self.new.link }

@@ -89,7 +89,8 @@ fn send_next<R: Wait, L: Link, T: PeerTurns>(
     unanswered: &mut Waitings,
     turns: &mut T,
 ) -> Result<Option<bool>, Stop>
-    ensures next { IfOk result (SendsNext L.Link T.PeerTurns domain.now place unanswered.old unanswered.new link.old link.new turns.old turns.new) }
+    ensures next { IfOk result
+        (SendsNext L.Link T.PeerTurns domain.now place unanswered.old unanswered.new link.old link.new turns.old turns.new) }
     ensures unsent { OnErr result (HasSentSome L.tells unanswered.old unanswered.new (L.events link.old) (L.events link.new) []) }
     ensures spent { IsTrue T.tells → refusals (T.calls turns.new) ≡ refusals (T.calls turns.old) ++ stop_refused result }
     ensures gifts { IsTrue T.tells → gifts (T.calls turns.new) ≡ gifts (T.calls turns.old) }
@@ -121,8 +122,10 @@ pub(crate) fn send_fresh<R: Wait, L: Link, T: PeerTurns>(
     unanswered: &mut Waitings,
     turns: &mut T,
 ) -> Result<bool, Stop>
-    ensures asked { IfOk result (SendsFresh L.Link T.PeerTurns domain.now unanswered.old unanswered.new link.old link.new turns.old turns.new) }
-    ensures sent { OnErr result ((rs : List Relay) × HasSentSome L.tells unanswered.old unanswered.new (L.events link.old) (L.events link.new) rs) }
+    ensures asked { IfOk result
+        (SendsFresh L.Link T.PeerTurns domain.now unanswered.old unanswered.new link.old link.new turns.old turns.new) }
+    ensures sent { OnErr result
+        ((rs : List Relay) × HasSentSome L.tells unanswered.old unanswered.new (L.events link.old) (L.events link.new) rs) }
     ensures spent { IsTrue T.tells → refusals (T.calls turns.new) ≡ refusals (T.calls turns.old) ++ stop_refused result }
     ensures gifts { IsTrue T.tells → gifts (T.calls turns.new) ≡ gifts (T.calls turns.old) }
     ensures failed { IfErr result (λ e. e ≡ Stop.Link → Rose (L.faults link.old) (L.faults link.new)) }

@@ -41,7 +41,8 @@ fn give_delta<R: Wait, T: PeerTurns>(
     delta: &AppliedDelta,
 ) -> Result<(), TurnFault>
     ensures given { OnOk result (HasGiven T.tells (GivesOf (Message.Applied name.now delta.now)) (T.calls turns.old) (T.calls turns.new)) }
-    ensures kept { IfErr result (λ e. HasGiven T.tells (KeepsOf e (Message.Applied name.now delta.now)) (T.calls turns.old) (T.calls turns.new)) }
+    ensures kept { IfErr result
+        (λ e. HasGiven T.tells (KeepsOf e (Message.Applied name.now delta.now)) (T.calls turns.old) (T.calls turns.new)) }
     ensures spent { IsTrue T.tells → refusals (T.calls turns.new) ≡ refusals (T.calls turns.old) ++ refused result }
 {
     match turns.take_applied(rt, alloc, name, delta) {
@@ -58,8 +59,10 @@ fn give_answer<R: Wait, T: PeerTurns>(
     id: &DeltaId,
     verdict: Verdict,
 ) -> Result<(), TurnFault>
-    ensures given { OnOk result (HasGiven T.tells (GivesOf (Message.Relayed name.now id.now verdict)) (T.calls turns.old) (T.calls turns.new)) }
-    ensures kept { IfErr result (λ e. HasGiven T.tells (KeepsOf e (Message.Relayed name.now id.now verdict)) (T.calls turns.old) (T.calls turns.new)) }
+    ensures given { OnOk result
+        (HasGiven T.tells (GivesOf (Message.Relayed name.now id.now verdict)) (T.calls turns.old) (T.calls turns.new)) }
+    ensures kept { IfErr result
+        (λ e. HasGiven T.tells (KeepsOf e (Message.Relayed name.now id.now verdict)) (T.calls turns.old) (T.calls turns.new)) }
     ensures spent { IsTrue T.tells → refusals (T.calls turns.new) ≡ refusals (T.calls turns.old) ++ refused result }
 {
     match turns.take_answer(rt, alloc, name, id, verdict) {

@@ -41,7 +41,8 @@ abbrev pub NewIsSound : Type 0
 NewIsSound = (name : Key) (k : ClientOf) → IsSound (new_follower name k)
 
 abbrev pub EditIsSound : Type 0
-EditIsSound = (f g : FollowerOf) (acts : List Act) → IsSound f → edit f acts ≡ Ok g → IsSound g × (screen g ≡ option_and_then (λ s. run s acts) (screen f))
+EditIsSound = (f g : FollowerOf) (acts : List Act) → IsSound f → edit f acts ≡ Ok g → IsSound g
+    × (screen g ≡ option_and_then (λ s. run s acts) (screen f))
 
 abbrev pub SubmitIsSound : Type 0
 SubmitIsSound = (f g : FollowerOf) (o : Option Submission) → IsSound f → submit f ≡ Ok (o, g) → IsSound g × (screen g ≡ screen f)
@@ -59,7 +60,8 @@ AreOwn f d = (x : Flight) → f.flight ≡ Some x → d.id ≡ x.sent.id → act
 
 pub record IsMoved (f g : FollowerOf) (d : DeltaOf) : Type 0 where
   pub own : (x : Flight) → f.flight ≡ Some x → d.id ≡ x.sent.id → screen g ≡ screen f
-  pub other : ((x : Flight) → f.flight ≡ Some x → d.id ≡ x.sent.id → ⊥) → (left : List Act) × (rebase (pending f) (acts_of d) ≡ Some (pending g, left)) × (screen g ≡ option_and_then (λ s. run s left) (screen f))
+  pub other : ((x : Flight) → f.flight ≡ Some x → d.id ≡ x.sent.id → ⊥) → (left : List Act)
+      × (rebase (pending f) (acts_of d) ≡ Some (pending g, left)) × (screen g ≡ option_and_then (λ s. run s left) (screen f))
 
 pub record IsAdvanced (f : FollowerOf) (d : DeltaOf) (q : Point) : Type 0 where
   pub after : FollowerOf
@@ -69,4 +71,5 @@ pub record IsAdvanced (f : FollowerOf) (d : DeltaOf) (q : Point) : Type 0 where
   pub moved : IsMoved f after d
 
 abbrev pub Advances : Type 0
-Advances = (f : FollowerOf) (d : DeltaOf) (q : Point) → IsSound f → d.from ≡ f.here.at → next_point f.here d ≡ Some q → is_within q d ≡ true → AreNormal d.ops → AreOwn f d → IsAdvanced f d q
+Advances = (f : FollowerOf) (d : DeltaOf) (q : Point) → IsSound f → d.from ≡ f.here.at → next_point f.here d ≡ Some q → is_within q d ≡ true
+    → AreNormal d.ops → AreOwn f d → IsAdvanced f d q

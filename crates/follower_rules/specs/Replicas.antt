@@ -33,7 +33,8 @@ without i [] = []
 without i (s ∷ rest) = cond (same_id i s.id) (without i rest) (s ∷ without i rest)
 
 abbrev pub may_follow : List DeltaOf → DeltaOf → Point → Point → Bool
-may_follow ds d p q = is_count (length d.ops) && (not (has_id d.id ds) && (may_write (standing ds p d.id.author (acts_of d)) && is_within q d))
+may_follow ds d p q = is_count (length d.ops)
+    && (not (has_id d.id ds) && (may_write (standing ds p d.id.author (acts_of d)) && is_within q d))
 
 abbrev pub grown : ReplicaOf → DeltaOf → ReplicaOf
 grown r d = record { deltas = r.deltas ++ d ∷ []; waiting = without d.id r.waiting; dropped = false }
@@ -49,7 +50,8 @@ abbrev pub absorb : Key → ReplicaOf → DeltaOf → Option ReplicaOf
 absorb name r d = option_and_then (absorb_at r d) (replay (start name) r.deltas)
 
 abbrev pub queue : ReplicaOf → Submission → ReplicaOf
-queue r s = cond (has_id s.id r.deltas || is_waiting s.id r.waiting) r (record { deltas = r.deltas; waiting = r.waiting ++ s ∷ []; dropped = r.dropped })
+queue r s = cond (has_id s.id r.deltas || is_waiting s.id r.waiting) r
+    (record { deltas = r.deltas; waiting = r.waiting ++ s ∷ []; dropped = r.dropped })
 
 abbrev pub settle : ReplicaOf → IdOf → ReplicaOf
 settle r i = record { deltas = r.deltas; waiting = without i r.waiting; dropped = r.dropped }

@@ -88,7 +88,15 @@ abbrev pub sent_by : FollowerOf → List Act → Submission
 sent_by f acts = record { id = record { author = f.client.author; client = f.client.client; number = f.next }; at = f.here.at; ops = ops_of acts }
 
 abbrev pub submitting : FollowerOf → Gathered → FollowerOf
-submitting f g = record { name = f.name; client = f.client; here = f.here; flight = Some (record { sent = sent_by f g.0; acts = g.0 }); queue = g.1; next = suc f.next }
+submitting f g = record {
+  name = f.name;
+  client = f.client;
+  here = f.here;
+  flight = Some
+      (record { sent = sent_by f g.0; acts = g.0 });
+  queue = g.1;
+  next = suc f.next;
+}
 
 abbrev pub Submitted : Type 0
 Submitted = Result (Option Submission × FollowerOf) FollowerFault

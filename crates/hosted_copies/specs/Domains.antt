@@ -47,4 +47,5 @@ module _ {F D : Type 0} {folder : folder_of.Ghosts F D} {disk : disk_of.Ghosts D
   outcome_by domain s n i = cond (is_hosted_by domain n) (outcome_of s n i) None
 
   abbrev pub shown_by : Key → Shelf F D folder disk → Shown
-  shown_by domain s = shown (λ n. copy_by domain s n) (names_of (hosted_by domain (hosted_of s))) nothing_dropped (λ n i. outcome_by domain s n i)
+  shown_by domain s = shown (λ n. copy_by domain s n) (names_of (hosted_by domain (hosted_of s))) nothing_dropped
+      (λ n i. outcome_by domain s n i)

@@ -35,7 +35,8 @@ impl<'a, F: Folder> HostedCopies<'a, F> {
 
     /// The history at a place among all of the shelf's, where the domain hosts it and it has a delta.
     pub fn history(&self, place: usize) -> Option<&'a History>
-        ensures { hosted_from self.now.domain.now self.now.shelf.now place ≡ one_of (option_map as_hosted (option_copied result)) ++ hosted_from self.now.domain.now self.now.shelf.now (place + 1) }
+        ensures { hosted_from self.now.domain.now self.now.shelf.now place ≡ one_of (option_map as_hosted (option_copied result))
+            ++ hosted_from self.now.domain.now self.now.shelf.now (place + 1) }
     {
         let history = self.shelf.history(place)?;
         if is_shown_by(self.domain, history) {
@@ -63,7 +64,8 @@ impl<'a, F: Folder> HostedCopies<'a, F> {
 
     /// The law of these copies: they are the histories that the domain hosts, which have deltas, and whose names ascend.
     pub fn are_hosted(&self)
-        ensures same { IsSameShown (shown_by self.now.domain.now self.now.shelf.now) (shown_in (hosted_by self.now.domain.now (hosted_of self.now.shelf.now))) }
+        ensures same { IsSameShown (shown_by self.now.domain.now self.now.shelf.now)
+            (shown_in (hosted_by self.now.domain.now (hosted_of self.now.shelf.now))) }
         ensures deltas { HaveDeltas (hosted_by self.now.domain.now (hosted_of self.now.shelf.now)) }
         ensures ascending { AreAscending (names_of (hosted_by self.now.domain.now (hosted_of self.now.shelf.now))) }
     {

@@ -10,7 +10,8 @@ use Rattle.wave_index.specs.declared.answers.InboxLine.{InboxLine}
 use Rattle.wave_screen.specs.Escapes.{escaped}
 
 abbrev pub line_text : InboxLine → List ℕ
-line_text l = l.name ++ codes " version " ++ decimal l.version ++ codes " unread " ++ decimal l.unread ++ codes " title " ++ escaped l.title ++ codes "\n"
+line_text l = l.name ++ codes " version " ++ decimal l.version ++ codes " unread " ++ decimal l.unread ++ codes " title " ++ escaped l.title
+    ++ codes "\n"
 
 abbrev pub hit_text : Hit → List ℕ
 hit_text h = h.name ++ codes " " ++ h.document ++ codes "\n"

@@ -63,7 +63,8 @@ impl InboxMachine {
 
     // Prints where a word stands.
     fn search(&self, alloc: Global, word: &str, out: &mut String) -> Result<(), Memory>
-        ensures { OnOk result (string_bytes out.new ≡ string_bytes out.old ++ (answered (inbox_of self.now) (Some (Search word.now))).text) }
+        ensures { OnOk result (string_bytes out.new ≡ string_bytes out.old
+            ++ (answered (inbox_of self.now) (Some (Search word.now))).text) }
     {
         let hits = self.index.search(alloc, &self.user, word)?;
         put_hits(hits.as_slice(), out)

@@ -52,5 +52,6 @@ version_of d = option_and_then (λ version. option_map (λ hash. record { versio
     (in_member hash_of (codes "hash") d)) (in_member count_of (codes "version") d)
 
 abbrev pub id_of : Data → Option IdOf
-id_of d = option_and_then (λ author. option_and_then (λ client. option_map (λ number. record { author = author; client = client; number = number })
+id_of d = option_and_then (λ author. option_and_then
+    (λ client. option_map (λ number. record { author = author; client = client; number = number })
     (in_member count_of (codes "number") d)) (in_member count_of (codes "client") d)) (in_member (good_text is_address) (codes "author") d)

@@ -37,7 +37,8 @@ module _ {M K : Type 0} (machine : machine_of.Ghosts M) (clock : clock_of.Ghosts
     pub last : length bytes ≡ 0 → lines_in turns ≡ turned true begun
     pub answered : IsAnswered machine clock old new was now [] written turns
 
-  pub record IsFedInPart (old new : M) (was : K) (held0 held1 : Option (List ℕ)) (are_first : List (List ℕ) → Type 0) (e : FeedFault) : Type 0 where
+  pub record IsFedInPart (old new : M) (was : K) (held0 held1 : Option (List ℕ)) (are_first : List (List ℕ) → Type 0)
+      (e : FeedFault) : Type 0 where
     pub written : List ℕ
     pub turns : List Turn
     pub tried : List Turn

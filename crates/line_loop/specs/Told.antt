@@ -9,7 +9,8 @@ use Rattle.line_loop.specs.Run.{byte_limit}
 use Rattle.line_loop.specs.Turns.{Turn, lines_in, timed}
 
 -- a run of a machine with these answers; the clock before, and what the source has left and the sink holds before and after
-pub record IsRun {K : Type 0} (clock : clock_of.Ghosts K) (answers : List Turn → List ℕ) (was : K) (left0 left1 held0 held1 : Option (List ℕ)) (status : ℕ) : Type 0 where
+pub record IsRun {K : Type 0} (clock : clock_of.Ghosts K) (answers : List Turn → List ℕ) (was : K)
+    (left0 left1 held0 held1 : Option (List ℕ)) (status : ℕ) : Type 0 where
   pub read : List ℕ
   pub written : List ℕ
   pub consumed : Consumes left0 left1 read

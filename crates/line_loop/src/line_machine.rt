@@ -57,9 +57,12 @@ pub trait LineMachine {
         time: u64,
         out: &mut Vec<u8>,
     ) -> Result<(), TurnFault>
-        ensures answered { OnOk result ((ts : List Turn) → out.old.items ++ answers self.old (turn_at time line.now ∷ ts) ≡ out.new.items ++ answers self.new ts) }
-        ensures reached { OnOk result ((start : Self) (ts : List Turn) → reached start ts self.old → reached start (ts ++ turn_at time line.now ∷ []) self.new) }
-        ensures since { (start : Self) (ts : List Turn) → since start ts self.old → since start (ts ++ turn_at time line.now ∷ []) self.new }
+        ensures answered { OnOk result
+            ((ts : List Turn) → out.old.items ++ answers self.old (turn_at time line.now ∷ ts) ≡ out.new.items ++ answers self.new ts) }
+        ensures reached { OnOk result
+            ((start : Self) (ts : List Turn) → reached start ts self.old → reached start (ts ++ turn_at time line.now ∷ []) self.new) }
+        ensures since { (start : Self) (ts : List Turn) → since start ts self.old
+            → since start (ts ++ turn_at time line.now ∷ []) self.new }
         ensures tried { OnErr result (tried self.old (turn_at time line.now) self.new) }
         ensures calm { OnOk result (calm self.old → calm self.new) }
         ensures later { faults self.old ≤ faults self.new }

@@ -40,7 +40,8 @@ pub fn run_lines<M: LineMachine, S: Source, W: Sink, C: Clock>(
     sink: &mut W,
     clock: &mut C,
 ) -> Result<(), Stop>
-    ensures served { IsServed M.LineMachine C.Clock machine.old machine.new clock.old (S.left source.old) (S.left source.new) (W.written sink.old) (W.written sink.new) (status_of result) }
+    ensures served { IsServed M.LineMachine C.Clock machine.old machine.new clock.old (S.left source.old) (S.left source.new)
+        (W.written sink.old) (W.written sink.new) (status_of result) }
     ensures source_later { S.faults source.old ≤ S.faults source.new }
     ensures sink_later { W.faults sink.old ≤ W.faults sink.new }
     ensures machine_later { M.faults machine.old ≤ M.faults machine.new }
@@ -83,7 +84,8 @@ fn pump<M: LineMachine, S: Source, W: Sink, C: Clock>(
 ) -> Result<usize, Stop>
     requires { 0 < length buffer.old }
     ensures ok { IfOk result (λ count. IsPumped M.LineMachine C.Clock machine.old machine.new clock.old clock.new
-        (S.left source.old) (S.left source.new) (W.written sink.old) (W.written sink.new) begun.old.bytes.items begun.new.bytes.items count) }
+        (S.left source.old) (S.left source.new) (W.written sink.old)
+        (W.written sink.new) begun.old.bytes.items begun.new.bytes.items count) }
     ensures err { IfErr result (λ e. IsCut M.LineMachine C.Clock (length buffer.old) machine.old machine.new clock.old
         (S.left source.old) (S.left source.new) (W.written sink.old) (W.written sink.new) begun.old.bytes.items e) }
     ensures small { IfOk result (λ count. count ≤ length buffer.old) }

@@ -46,7 +46,9 @@ fn end_line<M: LineMachine, C: Clock>(
     requires { has_line_feed last.now ≡ false }
     ensures ok { OnOk result (IsTaken M.LineMachine C.Clock machine.old machine.new clock.old clock.new out.old.items out.new.items
         begun.old.bytes.items (last.now ++ 10 ∷ []) begun.new.bytes.items) }
-    ensures err { OnErr result (IsTakenInPart M.LineMachine C.Clock machine.old machine.new clock.old out.old.items (Begins (begun.old.bytes.items ++ (last.now ++ 10 ∷ [])))) }
+    ensures err { OnErr result
+        (IsTakenInPart M.LineMachine C.Clock machine.old machine.new clock.old out.old.items
+        (Begins (begun.old.bytes.items ++ (last.now ++ 10 ∷ [])))) }
     ensures later { M.faults machine.old ≤ M.faults machine.new }
     ensures failed { IsErrOf result TurnFault.Store → Rose (M.faults machine.old) (M.faults machine.new) }
 {
@@ -75,7 +77,9 @@ pub fn take<M: LineMachine, C: Clock>(
         begun.old.bytes.items (take used bytes.now) begun.new.bytes.items) }
     ensures within { IfOk result (λ used. used ≤ length bytes.now) }
     ensures some { IfOk result (λ used. 0 < length bytes.now → 0 < used) }
-    ensures err { OnErr result (IsTakenInPart M.LineMachine C.Clock machine.old machine.new clock.old out.old.items (Begins (begun.old.bytes.items ++ bytes.now))) }
+    ensures err { OnErr result
+        (IsTakenInPart M.LineMachine C.Clock machine.old machine.new clock.old out.old.items
+        (Begins (begun.old.bytes.items ++ bytes.now))) }
     ensures later { M.faults machine.old ≤ M.faults machine.new }
     ensures failed { IsErrOf result TurnFault.Store → Rose (M.faults machine.old) (M.faults machine.new) }
 {

@@ -6,4 +6,5 @@ use Rattle.base64.specs.GeneralPurpose.{encode_of}
 use Rattle.load_script.specs.declared.summary.Summary.{Summary}
 
 abbrev pub line : ℕ → Summary → List ℕ
-line n s = codes "load " ++ decimal n ++ codes " version " ++ decimal s.version ++ codes " items " ++ decimal s.items ++ codes " hash " ++ encode_of standard s.hash ++ codes "\n"
+line n s = codes "load " ++ decimal n ++ codes " version " ++ decimal s.version ++ codes " items " ++ decimal s.items ++ codes " hash "
+    ++ encode_of standard s.hash ++ codes "\n"

@@ -78,7 +78,8 @@ abbrev pub with_draws : Load → ℕ → Load
 with_draws l x = record { draws = x; host = l.host; followers = l.followers }
 
 unfoldable pub step : ℕ → Load → Load
-step i l = moved (drawn 4 l.draws) (turned i (choice_of (drawn 4 (next l.draws))) (next (next l.draws))) (with_draws l (next (next l.draws)))
+step i l = moved (drawn 4 l.draws) (turned i (choice_of (drawn 4 (next l.draws))) (next (next l.draws)))
+    (with_draws l (next (next l.draws)))
 
 unfoldable pub steps : ℕ → Load → Load
 steps zero l = l

@@ -113,7 +113,8 @@ fn erasing_on(
     place: u64,
 ) -> Result<Option<DocOp>, Memory>
     requires { document.now ≡ the_document }
-    ensures { IfOk result (λ o. option_map actions o ≡ erasure (letters (follower_of follower.now)) place (slice_get (letters (follower_of follower.now)) place)) }
+    ensures { IfOk result (λ o. option_map actions o
+        ≡ erasure (letters (follower_of follower.now)) place (slice_get (letters (follower_of follower.now)) place)) }
 {
     match follower.shown() {
         Some(screen) => erasing_in(alloc, screen, document, place),

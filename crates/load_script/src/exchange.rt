@@ -98,7 +98,8 @@ fn answer(
     submission: &Submission,
     time: u64,
 ) -> Result<(), Memory>
-    ensures { OnOk result (meeting host.new (follower_of follower.new) ≡ answered host.old (follower_of follower.old) submission.now (judge the_wavelet host.old submission.now time)) }
+    ensures { OnOk result (meeting host.new (follower_of follower.new)
+        ≡ answered host.old (follower_of follower.old) submission.now (judge the_wavelet host.old submission.now time)) }
 {
     let verdict = host.submit(alloc, submission, time)?;
     take_answer(follower, &submission.id, verdict);
@@ -107,7 +108,8 @@ fn answer(
 
 // What waits is submitted at the time, if a submission can be taken of it.
 fn submit(alloc: Global, host: &mut Host, follower: &mut Follower, time: u64) -> Result<(), Memory>
-    ensures { OnOk result (meeting host.new (follower_of follower.new) ≡ submitted time (meeting host.old (follower_of follower.old)) (submit (follower_of follower.old))) }
+    ensures { OnOk result (meeting host.new (follower_of follower.new)
+        ≡ submitted time (meeting host.old (follower_of follower.old)) (submit (follower_of follower.old))) }
 {
     match follower.take_submission(alloc) {
         Ok(Some(submission)) => answer(alloc, host, follower, &submission, time),
@@ -154,7 +156,8 @@ pub(crate) fn settle(
     time: u64,
     rounds: u64,
 ) -> Result<(), Memory>
-    ensures { OnOk result (meeting host.new (follower_of follower.new) ≡ settling time rounds (meeting host.old (follower_of follower.old))) }
+    ensures { OnOk result (meeting host.new (follower_of follower.new)
+        ≡ settling time rounds (meeting host.old (follower_of follower.old))) }
 {
     let mut left = rounds;
     while left > 0 {

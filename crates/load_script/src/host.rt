@@ -44,7 +44,11 @@ impl Model for Host {
 
     ghost view = { λ h. (history_of h.container).deltas };
 
-    ghost invariant = { λ h. record { name : (history_of h.container).name ≡ the_wavelet; plain : is_none (journal_of h.container) ≡ true } };
+    ghost invariant = { λ h. record {
+      name : (history_of h.container).name ≡ the_wavelet;
+      plain : is_none (journal_of h.container)
+          ≡ true;
+    } };
 }
 
 impl Host {

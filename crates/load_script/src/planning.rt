@@ -83,7 +83,8 @@ pub(crate) fn erasing_in(
     document: &DocumentName,
     place: u64,
 ) -> Result<Option<DocOp>, Memory>
-    ensures { IfOk result (λ o. option_map actions o ≡ erasure (document_of state.now document.now) place (slice_get (document_of state.now document.now) place)) }
+    ensures { IfOk result (λ o. option_map actions o
+        ≡ erasure (document_of state.now document.now) place (slice_get (document_of state.now document.now) place)) }
 {
     match state.rope(document) {
         Some(rope) => erasing(alloc, rope, place),

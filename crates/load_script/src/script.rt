@@ -75,7 +75,8 @@ fn turn(
     time: u64,
     choice: Choice,
 ) -> Result<(), Memory>
-    ensures { OnOk result ((draws.new, meeting host.new (follower_of follower.new)) ≡ turned time choice draws.old (meeting host.old (follower_of follower.old))) }
+    ensures { OnOk result ((draws.new, meeting host.new (follower_of follower.new))
+        ≡ turned time choice draws.old (meeting host.old (follower_of follower.old))) }
 {
     match choice {
         Choice::Types => type_one(alloc, draws, follower),

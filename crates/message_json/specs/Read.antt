@@ -29,7 +29,8 @@ abbrev pub wavelet_of : Data → Option (List ℕ)
 wavelet_of d = in_member (good_text is_wavelet_name) (codes "wavelet") d
 
 abbrev pub serial_of : Data → Option (ℕ × ℕ)
-serial_of d = option_and_then (λ client. option_map (λ number. (client, number)) (in_member count_of (codes "number") d)) (in_member count_of (codes "client") d)
+serial_of d = option_and_then (λ client. option_map (λ number. (client, number)) (in_member count_of (codes "number") d))
+    (in_member count_of (codes "client") d)
 
 -- ---- from a client
 
@@ -46,7 +47,8 @@ abbrev pub open_of : Data → Option Message
 open_of d = if has_members 2 d then open_head_of d else of_members 4 d (open_at_of d)
 
 abbrev pub submit_of : Data → Option Message
-submit_of d = of_members 7 d (option_and_then (λ name. option_and_then (λ serial. option_and_then (λ from. option_map (λ ops. Submit name serial.0 serial.1 from ops)
+submit_of d = of_members 7 d
+    (option_and_then (λ name. option_and_then (λ serial. option_and_then (λ from. option_map (λ ops. Submit name serial.0 serial.1 from ops)
     (in_member ops_of (codes "operations") d)) (version_of d)) (serial_of d)) (wavelet_of d))
 
 abbrev pub close_of : Data → Option Message
@@ -58,24 +60,31 @@ abbrev pub welcome_of : Data → Option Message
 welcome_of d = of_members 2 d (option_map Welcome (in_member text_of (codes "user") d))
 
 abbrev pub opened_of : Data → Option Message
-opened_of d = of_members 3 d (option_and_then (λ name. option_map (λ version. Opened name version) (in_member count_of (codes "version") d)) (wavelet_of d))
+opened_of d = of_members 3 d
+    (option_and_then (λ name. option_map (λ version. Opened name version) (in_member count_of (codes "version") d)) (wavelet_of d))
 
 abbrev pub snapshot_from : List ℕ → VersionAt → ℕ → State → Option Message
-snapshot_from name from inserted state = cond (is_snapshot inserted state) (Some (Snapshot (record { name = name; at = from; inserted = inserted; state = state }))) None
+snapshot_from name from inserted state = cond (is_snapshot inserted state)
+    (Some (Snapshot (record { name = name; at = from; inserted = inserted; state = state }))) None
 
 abbrev pub snapshot_of : Data → Option Message
-snapshot_of d = of_members 7 d (option_and_then (λ name. option_and_then (λ from. option_and_then (λ inserted. option_and_then (λ state. snapshot_from name from inserted state)
+snapshot_of d = of_members 7 d
+    (option_and_then (λ name. option_and_then
+    (λ from. option_and_then (λ inserted. option_and_then (λ state. snapshot_from name from inserted state)
     (state_of d)) (in_member count_of (codes "inserted") d)) (version_of d)) (wavelet_of d))
 
 abbrev pub unopened_of : Data → Option Message
 unopened_of d = option_and_then (λ name. option_map (λ reason. Unopened name reason) (unopened_reason_of d)) (wavelet_of d)
 
 abbrev pub ack_of : Data → Option Message
-ack_of d = of_members 7 d (option_and_then (λ name. option_and_then (λ serial. option_and_then (λ place. option_map (λ to. Ack name serial.0 serial.1 place to)
+ack_of d = of_members 7 d (option_and_then
+    (λ name. option_and_then (λ serial. option_and_then (λ place. option_map (λ to. Ack name serial.0 serial.1 place to)
     (version_of d)) (in_member count_of (codes "at") d)) (serial_of d)) (wavelet_of d))
 
 abbrev pub refused_of : Data → Option Message
-refused_of d = option_and_then (λ name. option_and_then (λ serial. option_map (λ verdict. Refused name serial.0 serial.1 verdict) (refusal_of 4 d)) (serial_of d)) (wavelet_of d)
+refused_of d = option_and_then
+    (λ name. option_and_then (λ serial. option_map (λ verdict. Refused name serial.0 serial.1 verdict) (refusal_of 4 d)) (serial_of d))
+    (wavelet_of d)
 
 abbrev pub queued_of : Data → Option Message
 queued_of d = of_members 4 d (option_and_then (λ name. option_map (λ serial. Queued name serial.0 serial.1) (serial_of d)) (wavelet_of d))
@@ -84,11 +93,15 @@ abbrev pub update_from : List ℕ → IdOf → VersionAt → ℕ → List Wavele
 update_from name id from time ops = Update name (record { id = id; from = from; time = time; ops = ops })
 
 abbrev pub update_of : Data → Option Message
-update_of d = of_members 9 d (option_and_then (λ name. option_and_then (λ id. option_and_then (λ from. option_and_then (λ time. option_map (λ ops. update_from name id from time ops)
-    (option_map normal_ops (in_member ops_of (codes "operations") d))) (in_member count_of (codes "time") d)) (version_of d)) (id_of d)) (wavelet_of d))
+update_of d = of_members 9 d
+    (option_and_then (λ name. option_and_then
+    (λ id. option_and_then (λ from. option_and_then (λ time. option_map (λ ops. update_from name id from time ops)
+    (option_map normal_ops (in_member ops_of (codes "operations") d))) (in_member count_of
+    (codes "time") d)) (version_of d)) (id_of d)) (wavelet_of d))
 
 abbrev pub closed_of : Data → Option Message
-closed_of d = of_members 3 d (option_and_then (λ name. option_map (λ reason. Closed name reason) (in_member closed_reason_of (codes "reason") d)) (wavelet_of d))
+closed_of d = of_members 3 d
+    (option_and_then (λ name. option_map (λ reason. Closed name reason) (in_member closed_reason_of (codes "reason") d)) (wavelet_of d))
 
 abbrev pub bad_of : Data → Option Message
 bad_of d = of_members 2 d (option_map Bad (in_member bad_reason_of (codes "reason") d))
@@ -102,7 +115,9 @@ abbrev pub have_of : Data → Option Message
 have_of d = of_members 4 d (option_and_then (λ name. option_map (λ from. Have name from) (version_of d)) (wavelet_of d))
 
 abbrev pub relay_of : Data → Option Message
-relay_of d = of_members 8 d (option_and_then (λ name. option_and_then (λ id. option_and_then (λ from. option_map (λ ops. Relay name (record { id = id; at = from; ops = ops }))
+relay_of d = of_members 8 d
+    (option_and_then (λ name. option_and_then
+    (λ id. option_and_then (λ from. option_map (λ ops. Relay name (record { id = id; at = from; ops = ops }))
     (in_member ops_of (codes "operations") d)) (version_of d)) (id_of d)) (wavelet_of d))
 
 abbrev pub applied_of : Data → Option Message

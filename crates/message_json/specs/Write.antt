@@ -35,10 +35,12 @@ kind_and_wavelet kind name = member (codes "type") (string kind) (wavelet_member
 
 -- the members `type`, `version` and `wavelet`
 abbrev pub kind_and_version : List ℕ → ℕ → List ℕ → Members
-kind_and_version kind version name = member (codes "type") (string kind) (member (codes "version") (count_data version) (wavelet_member name))
+kind_and_version kind version name = member (codes "type") (string kind)
+    (member (codes "version") (count_data version) (wavelet_member name))
 
 abbrev pub with_id : IdOf → Members → Members
-with_id id members = put (codes "author") (string id.author) (put (codes "client") (count_data id.client) (put (codes "number") (count_data id.number) members))
+with_id id members = put (codes "author") (string id.author)
+    (put (codes "client") (count_data id.client) (put (codes "number") (count_data id.number) members))
 
 -- ---- from a client
 
@@ -51,7 +53,8 @@ open_data name (Some from) = object (member (codes "hash") (bytes_data from.hash
 
 abbrev pub submit_data : List ℕ → ℕ → ℕ → VersionAt → List WaveletOp → Data
 submit_data name client number from ops = object (member (codes "client") (count_data client) (member (codes "hash") (bytes_data from.hash)
-    (member (codes "number") (count_data number) (member (codes "operations") (ops_data ops) (kind_and_version (codes "submit") from.version name)))))
+    (member (codes "number") (count_data number)
+    (member (codes "operations") (ops_data ops) (kind_and_version (codes "submit") from.version name)))))
 
 abbrev pub close_data : List ℕ → Data
 close_data name = object (kind_and_wavelet (codes "close") name)
@@ -65,7 +68,8 @@ abbrev pub opened_data : List ℕ → ℕ → Data
 opened_data name version = object (kind_and_version (codes "opened") version name)
 
 abbrev pub snapshot_data : SnapshotOf → Data
-snapshot_data s = object (member (codes "documents") (documents_data s.state) (member (codes "hash") (bytes_data s.at.hash) (member (codes "inserted") (count_data s.inserted)
+snapshot_data s = object (member (codes "documents") (documents_data s.state)
+    (member (codes "hash") (bytes_data s.at.hash) (member (codes "inserted") (count_data s.inserted)
     (member (codes "participants") (members_data s.state) (kind_and_version (codes "snapshot") s.at.version s.name)))))
 
 abbrev pub unopened_data : List ℕ → UnopenedReason → Data
@@ -73,7 +77,8 @@ unopened_data name reason = object (with_unopened reason (kind_and_wavelet (code
 
 -- the members that say which submission is meant
 abbrev pub serial_members : List ℕ → List ℕ → ℕ → ℕ → Members
-serial_members kind name client number = member (codes "client") (count_data client) (member (codes "number") (count_data number) (kind_and_wavelet kind name))
+serial_members kind name client number = member (codes "client") (count_data client)
+    (member (codes "number") (count_data number) (kind_and_wavelet kind name))
 
 abbrev pub ack_data : List ℕ → ℕ → ℕ → ℕ → VersionAt → Data
 ack_data name client number place to = object (with_verdict (verdict.Ack place to) (serial_members (codes "ack") name client number))
@@ -95,8 +100,12 @@ abbrev pub queued_data : List ℕ → ℕ → ℕ → Data
 queued_data name client number = object (serial_members (codes "queued") name client number)
 
 abbrev pub update_data : List ℕ → DeltaOf → Data
-update_data name d = object (member (codes "author") (string d.id.author) (member (codes "client") (count_data d.id.client) (member (codes "hash") (bytes_data d.from.hash)
-    (member (codes "number") (count_data d.id.number) (member (codes "operations") (ops_data d.ops) (member (codes "time") (count_data d.time) (kind_and_version (codes "update") d.from.version name)))))))
+update_data name d = object
+    (member (codes "author") (string d.id.author)
+    (member (codes "client") (count_data d.id.client) (member (codes "hash") (bytes_data d.from.hash)
+    (member (codes "number") (count_data d.id.number)
+    (member (codes "operations") (ops_data d.ops)
+    (member (codes "time") (count_data d.time) (kind_and_version (codes "update") d.from.version name)))))))
 
 abbrev pub closed_data : List ℕ → ClosedReason → Data
 closed_data name reason = object (member (codes "reason") (string (closed_name reason)) (kind_and_wavelet (codes "closed") name))
@@ -113,15 +122,23 @@ abbrev pub have_data : List ℕ → VersionAt → Data
 have_data name from = object (member (codes "hash") (bytes_data from.hash) (kind_and_version (codes "have") from.version name))
 
 abbrev pub relay_data : List ℕ → IdOf → VersionAt → List WaveletOp → Data
-relay_data name id from ops = object (member (codes "author") (string id.author) (member (codes "client") (count_data id.client) (member (codes "hash") (bytes_data from.hash)
-    (member (codes "number") (count_data id.number) (member (codes "operations") (ops_data ops) (kind_and_version (codes "relay") from.version name))))))
+relay_data name id from ops = object
+    (member (codes "author") (string id.author)
+    (member (codes "client") (count_data id.client) (member (codes "hash") (bytes_data from.hash)
+    (member (codes "number") (count_data id.number)
+    (member (codes "operations") (ops_data ops) (kind_and_version (codes "relay") from.version name))))))
 
 abbrev pub applied_data : List ℕ → DeltaOf → Data
-applied_data name d = object (member (codes "delta") (bytes_data (delta_bytes d)) (member (codes "hash") (bytes_data d.from.hash) (kind_and_version (codes "applied") d.from.version name)))
+applied_data name d = object
+    (member (codes "delta") (bytes_data (delta_bytes d))
+    (member (codes "hash") (bytes_data d.from.hash) (kind_and_version (codes "applied") d.from.version name)))
 
 abbrev pub relayed_data : List ℕ → IdOf → Verdict → Data
-relayed_data name id v = object (member (codes "author") (string id.author) (member (codes "client") (count_data id.client) (member (codes "number") (count_data id.number)
-    (member (codes "type") (string (codes "relayed")) (member (codes "verdict") (object (with_verdict v no_members)) (wavelet_member name))))))
+relayed_data name id v = object
+    (member (codes "author") (string id.author)
+    (member (codes "client") (count_data id.client) (member (codes "number") (count_data id.number)
+    (member (codes "type") (string (codes "relayed"))
+    (member (codes "verdict") (object (with_verdict v no_members)) (wavelet_member name))))))
 
 abbrev pub dropped_data : List ℕ → Data
 dropped_data name = object (kind_and_wavelet (codes "dropped") name)

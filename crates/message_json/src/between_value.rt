@@ -81,7 +81,9 @@ fn put_answer(
     verdict: &Verdict,
 ) -> Result<(), Memory>
     ensures good { OnOk result (IsGoodVerdict verdict.now) }
-    ensures value { OnOk result (members_view members.new.entries ≡ put_data (codes "verdict") (object (with_verdict verdict.now no_members)) (members_view members.old.entries)) }
+    ensures value { OnOk result
+        (members_view members.new.entries
+        ≡ put_data (codes "verdict") (object (with_verdict verdict.now no_members)) (members_view members.old.entries)) }
 {
     let mut answer = Map::new(alloc);
     put_verdict(alloc, &mut answer, verdict)?;
@@ -96,7 +98,8 @@ pub fn relayed_value(
     id: &DeltaId,
     verdict: &Verdict,
 ) -> Result<Value, Memory>
-    ensures back { IfOk result (λ _. InRange (Message.Relayed name.now id.now verdict.now) → IsReadBack (Message.Relayed name.now id.now verdict.now)) }
+    ensures back { IfOk result
+        (λ _. InRange (Message.Relayed name.now id.now verdict.now) → IsReadBack (Message.Relayed name.now id.now verdict.now)) }
     ensures value { IfOk result (λ v. view v ≡ relayed_data name.now id.now verdict.now) }
 {
     let mut members = kind_and_wavelet(alloc, "relayed", name)?;

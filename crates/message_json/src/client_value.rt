@@ -70,7 +70,9 @@ pub fn submit_value(
     ops: &Ops,
 ) -> Result<Value, Memory>
     ensures value { IfOk result (λ v. view v ≡ submit_data name.now client number from.now ops.now) }
-    ensures back { IfOk result (λ _. InRange (Message.Submit name.now client number from.now ops.now) → IsReadBack (Message.Submit name.now client number from.now ops.now)) }
+    ensures back { IfOk result
+        (λ _. InRange (Message.Submit name.now client number from.now ops.now)
+        → IsReadBack (Message.Submit name.now client number from.now ops.now)) }
 {
     let mut members = serial_members(alloc, "submit", name, client, number)?;
     put_version(alloc, &mut members, from)?;

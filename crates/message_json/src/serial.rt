@@ -78,7 +78,8 @@ pub fn put_name(
     name: &WaveletName,
 ) -> Result<(), Memory>
     ensures good { OnOk result (IsGoodName name.now) }
-    ensures value { OnOk result (members_view members.new.entries ≡ put_data (codes "wavelet") (string name.now) (members_view members.old.entries)) }
+    ensures value { OnOk result
+        (members_view members.new.entries ≡ put_data (codes "wavelet") (string name.now) (members_view members.old.entries)) }
 {
     let name = name_value(alloc, name)?;
     put(members, alloc, "wavelet", name)
@@ -98,7 +99,8 @@ pub fn put_id(alloc: Global, members: &mut Map<String, Value>, id: &DeltaId) -> 
 /// Puts operations.
 pub fn put_ops(alloc: Global, members: &mut Map<String, Value>, ops: &Ops) -> Result<(), Memory>
     ensures back { OnOk result (ops_of (ops_data ops.now) ≡ Some ops.now) }
-    ensures value { OnOk result (members_view members.new.entries ≡ put_data (codes "operations") (ops_data ops.now) (members_view members.old.entries)) }
+    ensures value { OnOk result
+        (members_view members.new.entries ≡ put_data (codes "operations") (ops_data ops.now) (members_view members.old.entries)) }
 {
     let ops = ops_value(alloc, ops)?;
     put(members, alloc, "operations", ops)

@@ -42,7 +42,8 @@ fn put_documents(
     state: &WaveletState,
 ) -> Result<(), Memory>
     ensures back { OnOk result (AreDocumentsBack state.now) }
-    ensures value { OnOk result (members_view members.new.entries ≡ put_data (codes "documents") (documents_data state.now) (members_view members.old.entries)) }
+    ensures value { OnOk result
+        (members_view members.new.entries ≡ put_data (codes "documents") (documents_data state.now) (members_view members.old.entries)) }
 {
     let documents = documents_value(alloc, state)?;
     put(members, alloc, "documents", documents)
@@ -55,7 +56,8 @@ fn put_participants(
     state: &WaveletState,
 ) -> Result<(), Memory>
     ensures back { OnOk result (AreMembersBack state.now) }
-    ensures value { OnOk result (members_view members.new.entries ≡ put_data (codes "participants") (members_data state.now) (members_view members.old.entries)) }
+    ensures value { OnOk result
+        (members_view members.new.entries ≡ put_data (codes "participants") (members_data state.now) (members_view members.old.entries)) }
 {
     let participants = members_value(alloc, state)?;
     put(members, alloc, "participants", participants)
@@ -115,7 +117,8 @@ pub fn ack_value(
     to: HashedVersion,
 ) -> Result<Value, Memory>
     ensures value { IfOk result (λ v. view v ≡ ack_data name.now serial.0 serial.1 place to) }
-    ensures back { IfOk result (λ _. InRange (Message.Ack name.now serial.0 serial.1 place to) → IsReadBack (Message.Ack name.now serial.0 serial.1 place to)) }
+    ensures back { IfOk result
+        (λ _. InRange (Message.Ack name.now serial.0 serial.1 place to) → IsReadBack (Message.Ack name.now serial.0 serial.1 place to)) }
 {
     let mut members = serial_members(alloc, "ack", name, serial.0, serial.1)?;
     let verdict = Verdict::Ack { at: place, to };
@@ -133,7 +136,9 @@ pub fn verdict_value(
     verdict: &Verdict,
 ) -> Result<Value, Memory>
     ensures value { IfOk result (λ v. view v ≡ verdict_data name.now client number verdict.now) }
-    ensures back { IfOk result (λ _. InRange (Message.Refused name.now client number verdict.now) → IsReadBack (Message.Refused name.now client number verdict.now)) }
+    ensures back { IfOk result
+        (λ _. InRange (Message.Refused name.now client number verdict.now)
+        → IsReadBack (Message.Refused name.now client number verdict.now)) }
 {
     let mut members = serial_members(alloc, verdict_kind(verdict), name, client, number)?;
     put_verdict(alloc, &mut members, verdict)?;

@@ -71,7 +71,8 @@ fn annotate_items<D: Items>(
     requires inside { from + count ≤ length (D.items document.now) }
     requires input { input_len out.old + count ≤ max_count }
     requires output { output_len out.old + count ≤ max_count }
-    ensures { OnOk result (out.new ≡ out.old ++ map (annotate_one key.now (option_copied value.entry)) (range (D.items document.now) from count)) }
+    ensures { OnOk result (out.new ≡ out.old
+        ++ map (annotate_one key.now (option_copied value.entry)) (range (D.items document.now) from count)) }
 {
     let _length = document.len();
     let mut place = from;

@@ -68,7 +68,8 @@ fn updated(alloc: Global, total: u64, place: u64, changes: &Changes) -> Result<D
     requires room { total ≤ max_count }
     requires ascending { IsAscending changes.now }
     requires some { change_set changes.now ≢ none_running }
-    ensures acts { IfOk result (λ op. actions op ≡ around place (Keep none_running (Update (change_set changes.now)) ∷ []) (total - (place + 1))) }
+    ensures acts { IfOk result
+        (λ op. actions op ≡ around place (Keep none_running (Update (change_set changes.now)) ∷ []) (total - (place + 1))) }
     ensures normal { IfOk result (λ op. op ≡ normal_form (actions op)) }
 {
     let none = ChangeView::empty(alloc);

@@ -50,7 +50,8 @@ fn inserted_element(
 ) -> Result<DocOp, Memory>
     requires place { place ≤ total }
     requires room { total + 2 ≤ max_count }
-    ensures acts { IfOk result (λ op. actions op ≡ around place (map (insertion notes.now) (Start kind.now attributes.now ∷ End ∷ [])) (total - place)) }
+    ensures acts { IfOk result
+        (λ op. actions op ≡ around place (map (insertion notes.now) (Start kind.now attributes.now ∷ End ∷ [])) (total - place)) }
     ensures normal { IfOk result (λ op. op ≡ normal_form (actions op)) }
 {
     let mut out = begun(alloc, place)?;

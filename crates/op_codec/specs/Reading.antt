@@ -38,7 +38,8 @@ Gives view (Err e) read = Fails e read
 -- ---- numbers and texts
 
 abbrev pub number_at : Width → List ℕ → Read ℕ
-number_at w bytes = if nat_lt (length bytes) (byte_len w) then None else Some (from_be_bytes w (take (byte_len w) bytes), drop (byte_len w) bytes)
+number_at w bytes = if nat_lt (length bytes) (byte_len w) then None else Some
+    (from_be_bytes w (take (byte_len w) bytes), drop (byte_len w) bytes)
 
 unfoldable pub string_at : List ℕ → Read (List ℕ)
 string_at bytes = do

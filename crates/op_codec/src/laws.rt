@@ -8,6 +8,7 @@ ghost use Rattle.op_codec.specs.Canonical.{canonical, IsSpelling};
 /// same have the same.
 #[tactic(auto, using(crate::proofs::Differ::apart, crate::proofs::Differ::alike))]
 pub fn spellings_differ()
-    ensures apart { (a b : List Component) (rest : List ℕ) → IsSpelling a → IsSpelling b → spelling a ++ rest ≡ spelling b → (a ≡ b) × (rest ≡ []) }
+    ensures apart { (a b : List Component) (rest : List ℕ) → IsSpelling a → IsSpelling b → spelling a ++ rest ≡ spelling b → (a ≡ b)
+        × (rest ≡ []) }
     ensures alike { (a b : List Component) → actions a ≡ actions b → canonical a ≡ canonical b }
 {}

@@ -23,8 +23,10 @@ compose (Ins x ∷ f) (Ins y ∷ s) = ahead (Ins y ∷ []) 0 (compose (Ins x ∷
 compose (Keep w o ∷ f) (Ins y ∷ s) = ahead (Ins y ∷ []) 0 (compose (Keep w o ∷ f) s)
 compose (Ins x ∷ f) (Keep u a ∷ s) = cond (keeps u a x) (ahead (Ins (kept u a x) ∷ []) 1 (compose f s)) (Err 0)
 compose (Ins x ∷ f) (Del c n ∷ s) = cond (fits c n x) (ahead [] 1 (compose f s)) (Err 0)
-compose (Keep w o ∷ f) (Keep u a ∷ s) = cond (follows w u && attributes_follow o a) (ahead (Keep (then w u) (attributes_then o a) ∷ []) 1 (compose f s)) (Err 0)
-compose (Keep w o ∷ f) (Del c n ∷ s) = cond (can_precede c n w o) (ahead (Del (put_content (attributes_back o) c) (names_before n w) ∷ []) 1 (compose f s)) (Err 0)
+compose (Keep w o ∷ f) (Keep u a ∷ s) = cond (follows w u && attributes_follow o a)
+    (ahead (Keep (then w u) (attributes_then o a) ∷ []) 1 (compose f s)) (Err 0)
+compose (Keep w o ∷ f) (Del c n ∷ s) = cond (can_precede c n w o)
+    (ahead (Del (put_content (attributes_back o) c) (names_before n w) ∷ []) 1 (compose f s)) (Err 0)
 compose [] [] = Ok []
 compose [] (Keep u a ∷ s) = Err 0
 compose [] (Del c n ∷ s) = Err 0

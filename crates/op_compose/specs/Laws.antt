@@ -8,4 +8,5 @@ use Rattle.doc_op.specs.Apply.{apply}
 use Rattle.op_compose.specs.Compose.{compose, defined}
 
 abbrev pub CompositionHolds : Type 0
-CompositionHolds = (f s : List Action) (document : List Item) → option_and_then (apply s) (apply f document) ≡ option_and_then (λ c. apply c document) (defined (compose f s))
+CompositionHolds = (f s : List Action) (document : List Item) → option_and_then (apply s) (apply f document)
+    ≡ option_and_then (λ c. apply c document) (defined (compose f s))

@@ -69,9 +69,11 @@ Grows old n new = (input_len new.out ≤ input_len old.out + n) × (output_len n
 -- the run cs, inserted under w, stays under u, and its attributes change by a
 abbrev pub IsInsertedAfter : Bool → ChangeSet → ChangeSet → AttributeChange → List Content → List Action → List Action → Type 0
 IsInsertedAfter false w u a cs old new = (all_agree a cs && passes OldIsThere w u) ≡ false
-IsInsertedAfter true w u a cs old new = ((all_agree a cs && passes OldIsThere w u) ≡ true) × (new ≡ old ++ map (insertion (joined Second w u)) (map (put_content a) cs))
+IsInsertedAfter true w u a cs old new = ((all_agree a cs && passes OldIsThere w u) ≡ true)
+    × (new ≡ old ++ map (insertion (joined Second w u)) (map (put_content a) cs))
 
 -- the run cs, deleted under u, stays before under w, and its attributes change by a
 abbrev pub IsDeletedBefore : Bool → ChangeSet → ChangeSet → AttributeChange → List Content → List Action → List Action → Type 0
 IsDeletedBefore false u w a cs old new = (all_agree (attributes_back a) cs && passes NewIsOld w u) ≡ false
-IsDeletedBefore true u w a cs old new = ((all_agree (attributes_back a) cs && passes NewIsOld w u) ≡ true) × (new ≡ old ++ map (deletion (joined Second u w)) (map (put_content (attributes_back a)) cs))
+IsDeletedBefore true u w a cs old new = ((all_agree (attributes_back a) cs && passes NewIsOld w u) ≡ true)
+    × (new ≡ old ++ map (deletion (joined Second u w)) (map (put_content (attributes_back a)) cs))

@@ -131,7 +131,8 @@ pub(crate) fn write_then<'a>(
     requires fit_y { IsFitKept y }
     requires same { x.count ≡ y.count }
     requires room { HasRoomFor out.old x.count }
-    ensures { OnOk result (out.new ≡ out.old ++ replicate x.entry.count (Keep running.now (attributes_then (kept_change x.entry.part) (kept_change y.entry.part)))) }
+    ensures { OnOk result (out.new ≡ out.old
+        ++ replicate x.entry.count (Keep running.now (attributes_then (kept_change x.entry.part) (kept_change y.entry.part)))) }
 {
     match x.part {
         None => write_kept(out, alloc, running, y),
@@ -153,7 +154,8 @@ fn write_parts_then<'a>(
     requires fit_first { IsFitPart first }
     requires fit_second { IsFitPart second }
     requires room { HasRoomFor out.old 1 }
-    ensures { OnOk result (out.new ≡ out.old ++ Keep running.now (attributes_then (part_change first.entry) (part_change second.entry)) ∷ []) }
+    ensures { OnOk result (out.new ≡ out.old ++ Keep running.now (attributes_then (part_change first.entry) (part_change second.entry))
+        ∷ []) }
 {
     match first {
         AttributePart::Update(changes) => write_update_then(out, alloc, running, changes, second),
@@ -175,7 +177,8 @@ fn write_update_then<'a>(
     requires ascending { IsAscending changes.now }
     requires fit { IsFitPart second }
     requires room { HasRoomFor out.old 1 }
-    ensures { OnOk result (out.new ≡ out.old ++ Keep running.now (attributes_then (Update (change_set changes.now)) (part_change second.entry)) ∷ []) }
+    ensures { OnOk result (out.new ≡ out.old
+        ++ Keep running.now (attributes_then (Update (change_set changes.now)) (part_change second.entry)) ∷ []) }
 {
     match second {
         AttributePart::Update(others) => {

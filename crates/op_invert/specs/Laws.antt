@@ -20,10 +20,12 @@ abbrev pub Applies : Type 0
 Applies = (acts : List Action) (items out : List Item) → apply acts items ≡ Some out → apply (inverse acts items) out ≡ Some items
 
 abbrev pub StaysStructured : Type 0
-StaysStructured = (acts : List Action) (items out : List Item) → apply acts items ≡ Some out → Structured acts → Structured (inverse acts items)
+StaysStructured = (acts : List Action) (items out : List Item) → apply acts items ≡ Some out → Structured acts
+    → Structured (inverse acts items)
 
 abbrev pub Undoes : Type 0
-Undoes = (cs inv : List Component) (items out : List Item) → actions inv ≡ inverse (actions cs) items → valid cs items ≡ Some out → valid inv out ≡ Some items
+Undoes = (cs inv : List Component) (items out : List Item) → actions inv ≡ inverse (actions cs) items → valid cs items ≡ Some out
+    → valid inv out ≡ Some items
 
 pub record HasLengths (acts : List Action) (items : List Item) : Type 0 where
   pub input : input_len (inverse acts items) ≡ output_len acts
@@ -35,10 +37,13 @@ abbrev pub InverseLengths : Type 0
 InverseLengths = (acts : List Action) (items out : List Item) → apply acts items ≡ Some out → HasLengths acts items
 
 abbrev pub Twice : Type 0
-Twice = (acts : List Action) (items out : List Item) → apply acts items ≡ Some out → inverse (inverse acts items) out ≡ fully_named acts items
+Twice = (acts : List Action) (items out : List Item) → apply acts items ≡ Some out → inverse (inverse acts items) out
+    ≡ fully_named acts items
 
 abbrev pub TwiceSame : Type 0
-TwiceSame = (acts : List Action) (items out : List Item) → apply acts items ≡ Some out → (fully_named acts items ≡ acts) ↔ NamesAll acts items
+TwiceSame = (acts : List Action) (items out : List Item) → apply acts items ≡ Some out → (fully_named acts items ≡ acts)
+    ↔ NamesAll acts items
 
 abbrev pub TwiceNormal : Type 0
-TwiceNormal = (cs : List Component) (items out : List Item) → apply (actions cs) items ≡ Some out → cs ≡ normal_form (actions cs) → NamesAll (actions cs) items → normal_form (inverse (inverse (actions cs) items) out) ≡ cs
+TwiceNormal = (cs : List Component) (items out : List Item) → apply (actions cs) items ≡ Some out → cs ≡ normal_form (actions cs)
+    → NamesAll (actions cs) items → normal_form (inverse (inverse (actions cs) items) out) ≡ cs

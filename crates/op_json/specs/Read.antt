@@ -42,12 +42,14 @@ list_from f found (item d ds) = option_and_then (λ x. list_from f (found ++ x �
 -- ---- attributes
 
 abbrev pub entry_of : Data → Option (Key × Key)
-entry_of d = option_and_then (λ m. option_and_then (λ k. option_map (λ v. (k, v)) (as_str m.1)) (as_str m.0)) (two_members (codes "key") (codes "value") d)
+entry_of d = option_and_then (λ m. option_and_then (λ k. option_map (λ v. (k, v)) (as_str m.1)) (as_str m.0))
+    (two_members (codes "key") (codes "value") d)
 
 -- the attributes found so far, the last with this key, with those of the items
 abbrev pub attributes_from : Map Key → Option Key → Items → Option (Map Key)
 attributes_from m last no_items = Some m
-attributes_from m last (item d ds) = option_and_then (λ e. if is_next last e.0 then attributes_from (insert m e.0 e.1) (Some e.0) ds else None) (entry_of d)
+attributes_from m last (item d ds) = option_and_then
+    (λ e. if is_next last e.0 then attributes_from (insert m e.0 e.1) (Some e.0) ds else None) (entry_of d)
 
 abbrev pub attributes_of : Data → Option (Map Key)
 attributes_of d = option_and_then (attributes_from empty None) (as_array d)
@@ -55,7 +57,8 @@ attributes_of d = option_and_then (attributes_from empty None) (as_array d)
 -- ---- what the members hold
 
 abbrev pub change_of : Data → Option Change
-change_of d = option_and_then (λ m. option_and_then (λ key. option_and_then (λ old. option_map (λ new. record { key = key; old = old; new = new })
+change_of d = option_and_then
+    (λ m. option_and_then (λ key. option_and_then (λ old. option_map (λ new. record { key = key; old = old; new = new })
     (optional_text_of m.1)) (optional_text_of m.2)) (text_of m.0)) (three_members (codes "key") (codes "new") (codes "old") d)
 
 abbrev pub changes_of : Data → Option (List Change)

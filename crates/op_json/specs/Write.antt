@@ -37,16 +37,20 @@ abbrev pub attributes_data : Map Key → Data
 attributes_data m = list_data entry_data (entries m)
 
 abbrev pub change_data : Change → Data
-change_data c = object (member (codes "key") (text_data c.key) (member (codes "new") (optional_data c.new) (member (codes "old") (optional_data c.old) no_members)))
+change_data c = object (member (codes "key") (text_data c.key)
+    (member (codes "new") (optional_data c.new) (member (codes "old") (optional_data c.old) no_members)))
 
 abbrev pub boundary_data : Boundary → Data
-boundary_data b = object (member (codes "change") (list_data change_data b.change) (member (codes "end") (list_data text_data b.end) no_members))
+boundary_data b = object (member (codes "change") (list_data change_data b.change)
+    (member (codes "end") (list_data text_data b.end) no_members))
 
 abbrev pub element_data : List ℕ → Map Key → Data
-element_data kind attributes = object (member (codes "attribute") (attributes_data attributes) (member (codes "type") (text_data kind) no_members))
+element_data kind attributes = object
+    (member (codes "attribute") (attributes_data attributes) (member (codes "type") (text_data kind) no_members))
 
 abbrev pub replaced_data : Map Key → Map Key → Data
-replaced_data old new = object (member (codes "new_attribute") (attributes_data new) (member (codes "old_attribute") (attributes_data old) no_members))
+replaced_data old new = object
+    (member (codes "new_attribute") (attributes_data new) (member (codes "old_attribute") (attributes_data old) no_members))
 
 abbrev pub component_data : Component → Data
 component_data (Retain n) = one (codes "retain_item_count") (number (unsigned n))

@@ -37,7 +37,8 @@ common (c ∷ cs) [] = 0
 common (c ∷ cs) (e ∷ es) = cond (same_content c e) (suc (common cs es)) 0
 
 abbrev pub NoInsert : List Action → Type 0
-NoInsert l = (y : Item) (k b d : ℕ) (es : List Action) → transform_from k b l d (Ins y ∷ es) ≡ earlier_inserts b y (transform_from k b l d es)
+NoInsert l = (y : Item) (k b d : ℕ) (es : List Action) → transform_from k b l d (Ins y ∷ es)
+    ≡ earlier_inserts b y (transform_from k b l d es)
 
 -- ---- the walk
 
@@ -79,7 +80,8 @@ Grows old n new = IsWithin new × (new.length ≡ old.length + n)
 -- ---- the two sides
 
 pub record IsInserted (u : ChangeSet) (cs : List Content) (mine other mine_after other_after : Side) : Type 0 where
-  pub free : other.depth ≡ 0 → (mine_after.out ≡ mine.out ++ map (insertion u) cs) × (other_after.out ≡ other.out ++ replicate (length cs) keep_all)
+  pub free : other.depth ≡ 0 → (mine_after.out ≡ mine.out ++ map (insertion u) cs)
+      × (other_after.out ≡ other.out ++ replicate (length cs) keep_all)
   pub under : 0 < other.depth → (mine_after.out ≡ mine.out) × (other_after.out ≡ other.out ++ map (deletion (back (as_inserted u))) cs)
   pub depth : mine_after.depth ≡ mine.depth
   pub other_depth : other_after.depth ≡ other.depth
@@ -95,4 +97,5 @@ all_agree a (c ∷ cs) = content_agrees a c && all_agree a cs
 -- a deletion of cs with the names v, where the other operation keeps them under the changes u and a
 abbrev pub IsDeletedBehind : Bool → ChangeSet → ChangeSet → AttributeChange → List Content → Side → Side → Type 0
 IsDeletedBehind false v u a cs side after = (all_agree a cs && matches same_old v u) ≡ false
-IsDeletedBehind true v u a cs side after = ((all_agree a cs && matches same_old v u) ≡ true) × IsDeleted (merge one_second_turned v u) (map (put_content a) cs) side after
+IsDeletedBehind true v u a cs side after = ((all_agree a cs && matches same_old v u) ≡ true)
+    × IsDeleted (merge one_second_turned v u) (map (put_content a) cs) side after

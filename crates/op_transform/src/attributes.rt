@@ -119,7 +119,8 @@ pub(crate) fn write_over<'a>(
     requires fit_a { IsFitKept a }
     requires fit_b { IsFitKept b }
     requires room { HasRoomFor out.old a.count }
-    ensures { OnOk result (out.new ≡ out.old ++ replicate a.entry.count (Keep running.now (attributes_over (kept_change a.entry.part) (kept_change b.entry.part)))) }
+    ensures { OnOk result (out.new ≡ out.old
+        ++ replicate a.entry.count (Keep running.now (attributes_over (kept_change a.entry.part) (kept_change b.entry.part)))) }
 {
     match a.part {
         None => out.keep(alloc, a.count, running),
@@ -163,7 +164,8 @@ fn write_update_over<'a>(
     requires ascending { IsAscending changes.now }
     requires fit { IsFitPart b }
     requires room { HasRoomForOne out.old }
-    ensures { OnOk result (out.new ≡ out.old ++ Keep running.now (attributes_over (Update (change_set changes.now)) (part_change b.entry)) ∷ []) }
+    ensures { OnOk result (out.new ≡ out.old ++ Keep running.now (attributes_over (Update (change_set changes.now)) (part_change b.entry))
+        ∷ []) }
 {
     let mine = ChangeView::of(alloc, changes)?;
     match b {
@@ -190,7 +192,8 @@ pub(crate) fn write_under<'a>(
     requires fit_b { IsFitKept b }
     requires fit_a { IsFitKept a }
     requires room { HasRoomFor out.old b.count }
-    ensures { OnOk result (out.new ≡ out.old ++ replicate b.entry.count (Keep running.now (attributes_under (kept_change b.entry.part) (kept_change a.entry.part)))) }
+    ensures { OnOk result (out.new ≡ out.old
+        ++ replicate b.entry.count (Keep running.now (attributes_under (kept_change b.entry.part) (kept_change a.entry.part)))) }
 {
     match a.part {
         None => write_kept(out, alloc, running, b),
@@ -230,7 +233,8 @@ fn write_under_update<'a>(
     requires fit { IsFitPart b }
     requires ascending { IsAscending changes.now }
     requires room { HasRoomForOne out.old }
-    ensures { OnOk result (out.new ≡ out.old ++ Keep running.now (attributes_under (part_change b.entry) (Update (change_set changes.now))) ∷ []) }
+    ensures { OnOk result (out.new ≡ out.old ++ Keep running.now (attributes_under (part_change b.entry) (Update (change_set changes.now)))
+        ∷ []) }
 {
     let mine = ChangeView::of(alloc, changes)?;
     match b {

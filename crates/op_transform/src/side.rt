@@ -54,7 +54,8 @@ impl Side {
         requires fit { IsFitKept kept }
         requires room { HasRoomFor self.old.out (length (contents run)) }
         requires depth { self.old.depth < 2 ^ 63 }
-        ensures { IfOk result (λ t. IsDeletedBehind t names.now changes.now (kept_change kept.entry.part) (contents run.entry) self.old self.new) }
+        ensures { IfOk result (λ t. IsDeletedBehind t names.now changes.now (kept_change kept.entry.part)
+            (contents run.entry) self.old self.new) }
     {
         match kept.part {
             None => self.delete_after(alloc, run, names, changes),
@@ -97,7 +98,8 @@ impl Side {
         requires fit { IsFitPart part }
         requires room { HasRoomFor self.old.out (length (contents run)) }
         requires depth { self.old.depth < 2 ^ 63 }
-        ensures { IfOk result (λ t. IsDeletedBehind t names.now changes.now (part_change part.entry) (contents run.entry) self.old self.new) }
+        ensures { IfOk result (λ t. IsDeletedBehind t names.now changes.now (part_change part.entry)
+            (contents run.entry) self.old self.new) }
     {
         match run {
             ContentRun::Start { kind, attributes } => {

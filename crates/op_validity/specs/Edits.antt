@@ -18,8 +18,10 @@ pub record IsAt (doc : List Item) (done : List Replacement) (from : ℕ) (left :
   pub place : from + length left ≤ length doc
   pub order : InOrder 0 done from
 
-pub record Makes (all : List Action) (doc : List Item) (done : List Replacement) (from : ℕ) (items left : List Item) (more : List Action) : Type 0 where
-  pub run : (out : List Item) → apply all doc ≡ Some out → (rest : List Item) × (apply more left ≡ Some rest) × (all_replaced done (take from doc ++ items ++ rest) ≡ out)
+pub record Makes (all : List Action) (doc : List Item) (done : List Replacement) (from : ℕ) (items left : List Item)
+    (more : List Action) : Type 0 where
+  pub run : (out : List Item) → apply all doc ≡ Some out → (rest : List Item) × (apply more left ≡ Some rest)
+      × (all_replaced done (take from doc ++ items ++ rest) ≡ out)
 
 abbrev pub IsAtPlace : Edits → Type 0
 IsAtPlace e = IsAt e.rope.now e.done.items e.from (ahead e.build.rest)

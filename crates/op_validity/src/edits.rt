@@ -55,7 +55,9 @@ impl<'a> Edits<'a> {
         requires { IsAtPlace self.old }
         ensures rope { self.new.rope.now ≡ self.old.rope.now }
         ensures at { OnOk result (IsAtPlace self.new) }
-        ensures step { OnOk result ((all more : List Action) → MakesAll all self.old (component_actions (change_set running.now) component.now ++ more) → MakesAll all self.new more) }
+        ensures step { OnOk result
+            ((all more : List Action) → MakesAll all self.old (component_actions (change_set running.now) component.now ++ more)
+            → MakesAll all self.new more) }
     {
         match passed_over(running, component) {
             Some(count) => self.pass(alloc, count),
@@ -72,7 +74,9 @@ impl<'a> Edits<'a> {
         requires { IsAtPlace self.old }
         ensures rope { self.new.rope.now ≡ self.old.rope.now }
         ensures at { OnOk result (IsAtPlace self.new) }
-        ensures step { OnOk result ((all more : List Action) → MakesAll all self.old (component_actions (change_set running.now) component.now ++ more) → MakesAll all self.new more) }
+        ensures step { OnOk result
+            ((all more : List Action) → MakesAll all self.old (component_actions (change_set running.now) component.now ++ more)
+            → MakesAll all self.new more) }
     {
         self.build.step(alloc, running, component)?;
         Ok(())
@@ -83,7 +87,8 @@ impl<'a> Edits<'a> {
         requires { IsAtPlace self.old }
         ensures rope { self.new.rope.now ≡ self.old.rope.now }
         ensures at { OnOk result (IsAtPlace self.new) }
-        ensures step { OnOk result ((all more : List Action) → MakesAll all self.old (replicate count (keep none_running) ++ more) → MakesAll all self.new more) }
+        ensures step { OnOk result
+            ((all more : List Action) → MakesAll all self.old (replicate count (keep none_running) ++ more) → MakesAll all self.new more) }
     {
         self.close(alloc)?;
         self.skip(count);
@@ -96,7 +101,8 @@ impl<'a> Edits<'a> {
         requires closed { IsClosed self.old }
         ensures rope { self.new.rope.now ≡ self.old.rope.now }
         ensures at { IsAtPlace self.new }
-        ensures step { (all more : List Action) → MakesAll all self.old (replicate count (keep none_running) ++ more) → MakesAll all self.new more }
+        ensures step { (all more : List Action) → MakesAll all self.old (replicate count (keep none_running) ++ more)
+            → MakesAll all self.new more }
     {
         if count > self.build.rest.len() {
             return;
@@ -145,7 +151,9 @@ impl<'a> Edits<'a> {
     pub fn finish(mut self, alloc: Global) -> Result<Vec<Replacement>, Memory>
         requires { IsAtPlace self }
         ensures order { IfOk result (λ rs. InOrder 0 rs.items (length self.entry.rope.now)) }
-        ensures value { IfOk result (λ rs. (all : List Action) (out : List Item) → MakesAll all self.entry [] → apply all self.entry.rope.now ≡ Some out → all_replaced rs.items self.entry.rope.now ≡ out) }
+        ensures value { IfOk result
+            (λ rs. (all : List Action) (out : List Item) → MakesAll all self.entry [] → apply all self.entry.rope.now ≡ Some out
+            → all_replaced rs.items self.entry.rope.now ≡ out) }
     {
         self.close(alloc)?;
         Ok(self.done)

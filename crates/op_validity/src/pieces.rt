@@ -67,7 +67,8 @@ pub fn apply_rope(alloc: Global, op: &DocOp, rope: &mut Rope) -> Result<(), Chec
 // What has to be replaced in a document in pieces to which the operation applies.
 fn replacements(alloc: Global, op: &DocOp, rope: &Rope) -> Result<Vec<Replacement>, Memory>
     ensures order { IfOk result (λ rs. InOrder 0 rs.items (length rope.now)) }
-    ensures value { IfOk result (λ rs. (out : List Item) → applied (actions op.now) rope.now ≡ Some out → all_replaced rs.items rope.now ≡ out) }
+    ensures value { IfOk result
+        (λ rs. (out : List Item) → applied (actions op.now) rope.now ≡ Some out → all_replaced rs.items rope.now ≡ out) }
 {
     let mut edits = Edits::new(alloc, rope);
     let mut track = Track::new(alloc);

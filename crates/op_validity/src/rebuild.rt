@@ -27,7 +27,8 @@ impl Rebuild<'_> {
         component: &Component,
     ) -> Result<(), Memory>
         ensures { OnOk result ((more : List Action)
-            → Gives (ahead self.old.rest) self.old.items.items (component_actions (change_set running.now) component.now ++ more) (ahead self.new.rest) self.new.items.items more) }
+            → Gives (ahead self.old.rest) self.old.items.items (component_actions (change_set running.now) component.now ++ more)
+            (ahead self.new.rest) self.new.items.items more) }
     {
         match component {
             Component::Retain(count) => self.keep(alloc, running, *count),
@@ -54,7 +55,8 @@ impl Rebuild<'_> {
     #[tactic(auto, using(crate::proofs::Gives::starts))]
     fn keep(&mut self, alloc: Global, running: &Changes, count: u64) -> Result<(), Memory>
         ensures { OnOk result ((more : List Action)
-            → Gives (ahead self.old.rest) self.old.items.items (replicate count (keep (change_set running.now)) ++ more) (ahead self.new.rest) self.new.items.items more) }
+            → Gives (ahead self.old.rest) self.old.items.items (replicate count (keep (change_set running.now)) ++ more)
+            (ahead self.new.rest) self.new.items.items more) }
     {
         let mut left = count;
         while left > 0 {
@@ -66,7 +68,8 @@ impl Rebuild<'_> {
 
     fn delete(&mut self, alloc: Global, running: &Changes, text: &Text) -> Result<(), Memory>
         ensures { OnOk result ((more : List Action)
-            → Gives (ahead self.old.rest) self.old.items.items (map (λ c. deletion (change_set running.now) (Character c)) text.now ++ more) (ahead self.new.rest) self.new.items.items more) }
+            → Gives (ahead self.old.rest) self.old.items.items (map (λ c. deletion (change_set running.now) (Character c)) text.now ++ more)
+            (ahead self.new.rest) self.new.items.items more) }
     {
         let chars = text.to_chars(alloc)?;
         self.delete_each(alloc, running, chars.as_slice())?;
@@ -81,7 +84,9 @@ impl Rebuild<'_> {
         chars: &[char],
     ) -> Result<(), Memory>
         ensures { OnOk result ((more : List Action)
-            → Gives (ahead self.old.rest) self.old.items.items (map (λ c. deletion (change_set running.now) (Character c)) chars.now ++ more) (ahead self.new.rest) self.new.items.items more) }
+            → Gives (ahead self.old.rest) self.old.items.items
+            (map (λ c. deletion (change_set running.now) (Character c)) chars.now ++ more)
+            (ahead self.new.rest) self.new.items.items more) }
     {
         for c in chars {
             self.give(alloc, running, Demand::Character(*c))?;
@@ -91,7 +96,9 @@ impl Rebuild<'_> {
 
     fn insert_text(&mut self, alloc: Global, running: &Changes, text: &Text) -> Result<(), Memory>
         ensures { OnOk result ((more : List Action)
-            → Gives (ahead self.old.rest) self.old.items.items (map (λ c. insertion (change_set running.now) (Character c)) text.now ++ more) (ahead self.new.rest) self.new.items.items more) }
+            → Gives (ahead self.old.rest) self.old.items.items
+            (map (λ c. insertion (change_set running.now) (Character c)) text.now ++ more)
+            (ahead self.new.rest) self.new.items.items more) }
     {
         let chars = text.to_chars(alloc)?;
         self.insert_each(alloc, running, chars.as_slice())?;
@@ -106,7 +113,9 @@ impl Rebuild<'_> {
         chars: &[char],
     ) -> Result<(), Memory>
         ensures { OnOk result ((more : List Action)
-            → Gives (ahead self.old.rest) self.old.items.items (map (λ c. insertion (change_set running.now) (Character c)) chars.now ++ more) (ahead self.new.rest) self.new.items.items more) }
+            → Gives (ahead self.old.rest) self.old.items.items
+            (map (λ c. insertion (change_set running.now) (Character c)) chars.now ++ more)
+            (ahead self.new.rest) self.new.items.items more) }
     {
         for c in chars {
             self.insert(alloc, running, Content::Character(*c))?;
@@ -122,7 +131,8 @@ impl Rebuild<'_> {
         attributes: &Attributes,
     ) -> Result<(), Memory>
         ensures { OnOk result ((more : List Action)
-            → Gives (ahead self.old.rest) self.old.items.items (insertion (change_set running.now) (Start kind.now attributes.now) ∷ more) (ahead self.new.rest) self.new.items.items more) }
+            → Gives (ahead self.old.rest) self.old.items.items (insertion (change_set running.now) (Start kind.now attributes.now) ∷ more)
+            (ahead self.new.rest) self.new.items.items more) }
     {
         let kind = kind.copy(alloc)?;
         let attributes = attributes.copy()?;
@@ -134,7 +144,8 @@ impl Rebuild<'_> {
     #[tactic(auto, using(crate::proofs::Gives::starts))]
     fn insert(&mut self, alloc: Global, running: &Changes, content: Content) -> Result<(), Memory>
         ensures { OnOk result ((more : List Action)
-            → Gives (ahead self.old.rest) self.old.items.items (insertion (change_set running.now) content ∷ more) (ahead self.new.rest) self.new.items.items more) }
+            → Gives (ahead self.old.rest) self.old.items.items (insertion (change_set running.now) content ∷ more)
+            (ahead self.new.rest) self.new.items.items more) }
     {
         let notes = new_notes(alloc, running)?;
         self.items.push(Item { content, notes })?;
@@ -144,7 +155,8 @@ impl Rebuild<'_> {
     // Does what a demand says with the next item.
     fn give(&mut self, alloc: Global, running: &Changes, demand: Demand<'_>) -> Result<(), Memory>
         ensures { OnOk result ((more : List Action)
-            → Gives (ahead self.old.rest) self.old.items.items (demand_action (change_set running.now) demand.entry ∷ more) (ahead self.new.rest) self.new.items.items more) }
+            → Gives (ahead self.old.rest) self.old.items.items (demand_action (change_set running.now) demand.entry ∷ more)
+            (ahead self.new.rest) self.new.items.items more) }
     {
         let Some(item) = self.rest.first() else {
             return Ok(());

@@ -33,7 +33,8 @@ impl Walk<'_> {
         requires fit { IsFit component.now }
         requires bound { self.old.place + length (ahead self.old.rest) ≤ max_count }
         ensures step { (more : List Action) → MatchResult result
-            (λ _. Same self.old.place (ahead self.old.rest) (component_actions (change_set running.now) component.now ++ more) self.new.place (ahead self.new.rest) more)
+            (λ _. Same self.old.place (ahead self.old.rest)
+            (component_actions (change_set running.now) component.now ++ more) self.new.place (ahead self.new.rest) more)
             (λ e. Stops e self.old.place (ahead self.old.rest) (component_actions (change_set running.now) component.now ++ more)) }
         ensures bound { self.new.place + length (ahead self.new.rest) ≤ max_count }
     {
@@ -60,7 +61,8 @@ impl Walk<'_> {
         requires running { IsAscending running.now }
         requires bound { self.old.place + length (ahead self.old.rest) ≤ max_count }
         ensures step { (more : List Action) → MatchResult result
-            (λ _. Same self.old.place (ahead self.old.rest) (replicate count (keep (change_set running.now)) ++ more) self.new.place (ahead self.new.rest) more)
+            (λ _. Same self.old.place (ahead self.old.rest) (replicate count (keep (change_set running.now)) ++ more) self.new.place
+            (ahead self.new.rest) more)
             (λ e. Stops e self.old.place (ahead self.old.rest) (replicate count (keep (change_set running.now)) ++ more)) }
         ensures bound { self.new.place + length (ahead self.new.rest) ≤ max_count }
     {
@@ -75,7 +77,8 @@ impl Walk<'_> {
     fn skip(&mut self, count: u64) -> Result<(), CheckFault>
         requires { self.old.place + length (ahead self.old.rest) ≤ max_count }
         ensures step { (more : List Action) → MatchResult result
-            (λ _. Same self.old.place (ahead self.old.rest) (replicate count (keep none_running) ++ more) self.new.place (ahead self.new.rest) more)
+            (λ _. Same self.old.place (ahead self.old.rest) (replicate count (keep none_running) ++ more) self.new.place
+            (ahead self.new.rest) more)
             (λ e. Stops e self.old.place (ahead self.old.rest) (replicate count (keep none_running) ++ more)) }
         ensures bound { self.new.place + length (ahead self.new.rest) ≤ max_count }
     {
@@ -91,7 +94,8 @@ impl Walk<'_> {
         requires running { IsAscending running.now }
         requires bound { self.old.place + length (ahead self.old.rest) ≤ max_count }
         ensures step { (more : List Action) → MatchResult result
-            (λ _. Same self.old.place (ahead self.old.rest) (replicate count (keep (change_set running.now)) ++ more) self.new.place (ahead self.new.rest) more)
+            (λ _. Same self.old.place (ahead self.old.rest) (replicate count (keep (change_set running.now)) ++ more) self.new.place
+            (ahead self.new.rest) more)
             (λ e. Stops e self.old.place (ahead self.old.rest) (replicate count (keep (change_set running.now)) ++ more)) }
         ensures bound { self.new.place + length (ahead self.new.rest) ≤ max_count }
     {
@@ -108,8 +112,10 @@ impl Walk<'_> {
         requires running { IsAscending running.now }
         requires bound { self.old.place + length (ahead self.old.rest) ≤ max_count }
         ensures step { (more : List Action) → MatchResult result
-            (λ _. Same self.old.place (ahead self.old.rest) (map (λ c. deletion (change_set running.now) (Character c)) text.now ++ more) self.new.place (ahead self.new.rest) more)
-            (λ e. Stops e self.old.place (ahead self.old.rest) (map (λ c. deletion (change_set running.now) (Character c)) text.now ++ more)) }
+            (λ _. Same self.old.place (ahead self.old.rest)
+            (map (λ c. deletion (change_set running.now) (Character c)) text.now ++ more) self.new.place (ahead self.new.rest) more)
+            (λ e. Stops e self.old.place (ahead self.old.rest)
+            (map (λ c. deletion (change_set running.now) (Character c)) text.now ++ more)) }
         ensures bound { self.new.place + length (ahead self.new.rest) ≤ max_count }
     {
         let chars = text.to_chars(alloc)?;
@@ -120,8 +126,10 @@ impl Walk<'_> {
         requires running { IsAscending running.now }
         requires bound { self.old.place + length (ahead self.old.rest) ≤ max_count }
         ensures step { (more : List Action) → MatchResult result
-            (λ _. Same self.old.place (ahead self.old.rest) (map (λ c. deletion (change_set running.now) (Character c)) chars.now ++ more) self.new.place (ahead self.new.rest) more)
-            (λ e. Stops e self.old.place (ahead self.old.rest) (map (λ c. deletion (change_set running.now) (Character c)) chars.now ++ more)) }
+            (λ _. Same self.old.place (ahead self.old.rest)
+            (map (λ c. deletion (change_set running.now) (Character c)) chars.now ++ more) self.new.place (ahead self.new.rest) more)
+            (λ e. Stops e self.old.place (ahead self.old.rest)
+            (map (λ c. deletion (change_set running.now) (Character c)) chars.now ++ more)) }
         ensures bound { self.new.place + length (ahead self.new.rest) ≤ max_count }
     {
         for c in chars {
@@ -136,7 +144,8 @@ impl Walk<'_> {
         requires fit { IsFitDemand demand }
         requires bound { self.old.place + length (ahead self.old.rest) ≤ max_count }
         ensures step { (more : List Action) → MatchResult result
-            (λ _. Same self.old.place (ahead self.old.rest) (demand_action (change_set running.now) demand.entry ∷ more) self.new.place (ahead self.new.rest) more)
+            (λ _. Same self.old.place (ahead self.old.rest) (demand_action (change_set running.now) demand.entry ∷ more) self.new.place
+            (ahead self.new.rest) more)
             (λ e. Stops e self.old.place (ahead self.old.rest) (demand_action (change_set running.now) demand.entry ∷ more)) }
         ensures bound { self.new.place + length (ahead self.new.rest) ≤ max_count }
     {

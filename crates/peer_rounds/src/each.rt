@@ -126,7 +126,8 @@ pub(crate) fn run_all<R: Wait, L: Link, N: Net<Link = L>, T: PeerTurns>(
     requires out { held peers.old ≤ N.out net.old }
     ensures run { OnOk result (HaveRun T.PeerTurns N.Net peers.old peers.new turns.old turns.new net.old net.new) }
     ensures reached { OnOk result (AreReady N.tells (N.asked net.old) peers.old → HaveReached (N.line net.old) (N.line net.new) peers.new) }
-    ensures dialled { OnOk result (AreReady N.tells (N.asked net.old) peers.old → IsTrue N.tells → AreDialled (N.asked net.new) (names peers.new)) }
+    ensures dialled { OnOk result
+        (AreReady N.tells (N.asked net.old) peers.old → IsTrue N.tells → AreDialled (N.asked net.new) (names peers.new)) }
     ensures rises { min (N.line net.old) (2 ^ 64 - 1) ≤ N.line net.new }
     ensures back { IsPrefix (N.back net.old) (N.back net.new) }
     ensures out { N.out net.new + held peers.old ≡ N.out net.old + held peers.new }

@@ -61,6 +61,8 @@ IsHeld hs (Dropped name) = Unit {0}
 
 -- whatever turns send is so of the histories after them, and these go on with the deltas that they had
 pub record SentIsHeld : Type 0 where
-  pub all_held : (p : Pipe) (ts : List Turn) → AreAscending (names_of p.hosted) → All (λ s. IsHeld (after p ts).hosted s.message) (sent p ts)
+  pub all_held : (p : Pipe) (ts : List Turn) → AreAscending (names_of p.hosted)
+      → All (λ s. IsHeld (after p ts).hosted s.message) (sent p ts)
   pub longer : (hs gs : List Hosted) → ((n : Key) → Begins (deltas_in hs n) (deltas_in gs n)) → (m : Message) → IsHeld hs m → IsHeld gs m
-  pub goes_on : (p : Pipe) (ts : List Turn) → AreAscending (names_of p.hosted) → (n : Key) → Begins (deltas_in p.hosted n) (deltas_in (after p ts).hosted n)
+  pub goes_on : (p : Pipe) (ts : List Turn) → AreAscending (names_of p.hosted) → (n : Key)
+      → Begins (deltas_in p.hosted n) (deltas_in (after p ts).hosted n)

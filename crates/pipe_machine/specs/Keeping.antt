@@ -119,7 +119,8 @@ module _ {F D : Type 0} {folder : folder_of.Ghosts F D} {disk : disk_of.Ghosts D
 
   pub record IsTriedTo (a b : Shelf F D folder disk) (after : List Hosted) : Type 0 where
     pub hosted : (hosted_of b ≡ hosted_of a) ⊎ (hosted_of b ≡ after)
-    pub files : IsKept a → IsSettled a → (n : Key) → IfSome (container_in b n) (IsFileOfEither n (deltas_in (hosted_of a) n) (deltas_in after n))
+    pub files : IsKept a → IsSettled a → (n : Key)
+        → IfSome (container_in b n) (IsFileOfEither n (deltas_in (hosted_of a) n) (deltas_in after n))
 
   pub record IsEnded {A : Type 0} (a b : Shelf F D folder disk) (after : List Hosted) (r : Result A TurnFault) : Type 0 where
     pub settled : OnOk r (IsKept a → IsSettled a → IsSettled b)

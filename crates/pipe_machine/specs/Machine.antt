@@ -50,7 +50,8 @@ reply_of hs r = record { hosted = hs; session = r.0; message = r.1 }
 abbrev pub asked : List Hosted → ℕ → Session → Request → Reply
 asked hs t s (ask.Reply m) = reply_of hs (s, m)
 asked hs t s (ask.Attach name from) = reply_of hs (attached (shown_in hs) s name from)
-asked hs t s (ask.Submit name submission) = reply_of (after_submission hs name submission t) (told s name submission.id (answer.Verdict (judged_in hs name submission t).0))
+asked hs t s (ask.Submit name submission) = reply_of (after_submission hs name submission t)
+    (told s name submission.id (answer.Verdict (judged_in hs name submission t).0))
 asked hs t s (ask.Have name from) = reply_of hs (s, Bad bad.NotMessage)
 
 abbrev pub replied_to : List Hosted → ℕ → Taken → Reply
@@ -66,7 +67,11 @@ pub record Answer : Type 0 where
   pub sent : List Sent
 
 abbrev pub seated_answer : List Seat → ℕ → Key → Reply → Answer
-seated_answer ss i name r = record { pipe = record { hosted = r.hosted; seats = with_session i r.session ss }; sent = sent_to name r.message ∷ [] }
+seated_answer ss i name r = record {
+  pipe = record { hosted = r.hosted; seats = with_session i r.session ss };
+  sent = sent_to name r.message
+      ∷ [];
+}
 
 abbrev pub served_at : Pipe → ℕ → Key → Message → ℕ → List Seat → Answer
 served_at p t name m i ss = seated_answer ss i name (replied p.hosted (seat_in i ss).session m t)
@@ -95,7 +100,11 @@ answered p t line = answered_read p t (line_read line)
 -- ---- deliveries
 
 abbrev pub delivered : Pipe → Answer
-delivered p = record { pipe = record { hosted = p.hosted; seats = seats_after (shown_in p.hosted) p.seats }; sent = seats_sent (shown_in p.hosted) p.seats }
+delivered p = record {
+  pipe = record { hosted = p.hosted; seats = seats_after (shown_in p.hosted) p.seats };
+  sent = seats_sent
+      (shown_in p.hosted) p.seats;
+}
 
 -- ---- turns
 

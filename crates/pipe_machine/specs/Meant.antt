@@ -30,7 +30,8 @@ party_in (s ∷ ss) n = cond (same_text n s.name) s.session.party (party_in ss n
 
 abbrev pub IsAckOf : List Hosted → Party → Key → ℕ → ℕ → ℕ → VersionAt → Type 0
 IsAckOf hs Nobody name client number place to = ⊥
-IsAckOf hs (User user) name client number place to = kept (record { author = user; client = client; number = number }) (start_of name) (deltas_in hs name) ≡ Some (record { at = place; to = to })
+IsAckOf hs (User user) name client number place to = kept (record { author = user; client = client; number = number }) (start_of name)
+    (deltas_in hs name) ≡ Some (record { at = place; to = to })
 IsAckOf hs (Domain domain) name client number place to = ⊥
 
 abbrev pub IsAckTo : List Hosted → Party → Message → Type 0

@@ -11,7 +11,8 @@ use Rattle.session_core.specs.News.{deltas_of}
 use Rattle.pipe_machine.specs.declared.lines.Update.{Update}
 
 abbrev pub IsUpdate : Shown → Update → Type 0
-IsUpdate c u = (d : DeltaOf) → slice_get (deltas_of (c.copy u.name.now)) u.place ≡ Some d → u.text.items ≡ compact_text (message_data (message.Update u.name.now d))
+IsUpdate c u = (d : DeltaOf) → slice_get (deltas_of (c.copy u.name.now)) u.place ≡ Some d → u.text.items
+    ≡ compact_text (message_data (message.Update u.name.now d))
 
 abbrev pub IsLast : Shown → Option Update → Type 0
 IsLast c None = Unit {0}

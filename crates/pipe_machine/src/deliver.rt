@@ -51,7 +51,9 @@ fn deliver_to<'a, F: Folder>(
 ) -> Result<Option<Update<'a>>, Memory>
     requires plain { IsPlain seat.old.session }
     requires last { IsLast (shown_in (hosted_of shelf.now)) last }
-    ensures sent { OnOk result (out.new.items ≡ out.old.items ++ lines_of (map (sent_to seat.old.name) (delivered (shown_in (hosted_of shelf.entry.now)) seat.old.session))) }
+    ensures sent { OnOk result
+        (out.new.items ≡ out.old.items
+        ++ lines_of (map (sent_to seat.old.name) (delivered (shown_in (hosted_of shelf.entry.now)) seat.old.session))) }
     ensures after { OnOk result (seat.new ≡ seat_after (shown_in (hosted_of shelf.entry.now)) seat.old) }
     ensures told { OnOk result (is_told (shown_in (hosted_of shelf.entry.now)) seat.new ≡ true) }
     ensures name { seat.new.name ≡ seat.old.name }
@@ -78,8 +80,12 @@ fn deliver_at<'a, F: Folder>(
     requires inside { place < length (seats_in runs.old) }
     requires plain { IsPlain (seat_in place (seats_in runs.old)).session }
     requires last { IsLast (shown_in (hosted_of shelf.now)) last }
-    ensures sent { OnOk result (out.new.items ≡ out.old.items ++ lines_of (map (sent_to (seat_in place (seats_in runs.old)).name) (delivered (shown_in (hosted_of shelf.entry.now)) (seat_in place (seats_in runs.old)).session))) }
-    ensures after { OnOk result (seat_in place (seats_in runs.new) ≡ seat_after (shown_in (hosted_of shelf.entry.now)) (seat_in place (seats_in runs.old))) }
+    ensures sent { OnOk result
+        (out.new.items ≡ out.old.items
+        ++ lines_of (map (sent_to (seat_in place (seats_in runs.old)).name)
+        (delivered (shown_in (hosted_of shelf.entry.now)) (seat_in place (seats_in runs.old)).session))) }
+    ensures after { OnOk result
+        (seat_in place (seats_in runs.new) ≡ seat_after (shown_in (hosted_of shelf.entry.now)) (seat_in place (seats_in runs.old))) }
     ensures told { OnOk result (is_told (shown_in (hosted_of shelf.entry.now)) (seat_in place (seats_in runs.new)) ≡ true) }
     ensures changed { seats_in runs.new ≡ slice_set (seats_in runs.old) place (seat_in place (seats_in runs.new)) }
     ensures name { (seat_in place (seats_in runs.new)).name ≡ (seat_in place (seats_in runs.old)).name }
@@ -107,7 +113,8 @@ fn deliver_each<F: Folder>(
 ) -> Result<(), Memory>
     requires plain { All (λ s. IsPlain s.session) (seats_in runs.old) }
     requires due { AreTheDue (shown_in (hosted_of shelf.now)) 0 places.now (seats_in runs.old) }
-    ensures sent { OnOk result (out.new.items ≡ out.old.items ++ lines_of (seats_sent (shown_in (hosted_of shelf.now)) (seats_in runs.old))) }
+    ensures sent { OnOk result
+        (out.new.items ≡ out.old.items ++ lines_of (seats_sent (shown_in (hosted_of shelf.now)) (seats_in runs.old))) }
     ensures after { OnOk result (seats_in runs.new ≡ seats_after (shown_in (hosted_of shelf.now)) (seats_in runs.old)) }
     ensures told { OnOk result (are_told (shown_in (hosted_of shelf.now)) (seats_in runs.new) ≡ true) }
     ensures plain { All (λ s. IsPlain s.session) (seats_in runs.new) }
@@ -131,8 +138,10 @@ pub fn deliver<F: Folder>(
 ) -> Result<(), Memory>
     requires plain { All (λ s. IsPlain s.session) (seats_in seats.old.runs.items) }
     requires due { AreTheDue (shown_in (hosted_of shelf.now)) 0 places.now (seats_in seats.old.runs.items) }
-    ensures sent { OnOk result (out.new.items ≡ out.old.items ++ lines_of (seats_sent (shown_in (hosted_of shelf.now)) (seats_in seats.old.runs.items))) }
-    ensures after { OnOk result (seats_in seats.new.runs.items ≡ seats_after (shown_in (hosted_of shelf.now)) (seats_in seats.old.runs.items)) }
+    ensures sent { OnOk result
+        (out.new.items ≡ out.old.items ++ lines_of (seats_sent (shown_in (hosted_of shelf.now)) (seats_in seats.old.runs.items))) }
+    ensures after { OnOk result
+        (seats_in seats.new.runs.items ≡ seats_after (shown_in (hosted_of shelf.now)) (seats_in seats.old.runs.items)) }
     ensures told { OnOk result (are_told (shown_in (hosted_of shelf.now)) (seats_in seats.new.runs.items) ≡ true) }
     ensures plain { All (λ s. IsPlain s.session) (seats_in seats.new.runs.items) }
     ensures names { map (λ s. s.name) (seats_in seats.new.runs.items) ≡ map (λ s. s.name) (seats_in seats.old.runs.items) }

@@ -94,7 +94,8 @@ fn push_due(seats: &[Seat], first: usize, due: &Due, places: &mut Vec<usize>) ->
 
 // The places of the due among all seats.
 fn places_among(alloc: Global, seats: &Seats, due: &Due) -> Result<Vec<usize>, Memory>
-    ensures { IfOk result (λ places. (c : Shown) → IsDueAlone c due.now (seats_in seats.now.runs.items) → AreTheDue c 0 places.items (seats_in seats.now.runs.items)) }
+    ensures { IfOk result (λ places. (c : Shown) → IsDueAlone c due.now (seats_in seats.now.runs.items)
+        → AreTheDue c 0 places.items (seats_in seats.now.runs.items)) }
 {
     let mut places = Vec::new(alloc);
     let mut first = 0usize;
@@ -108,7 +109,8 @@ fn places_among(alloc: Global, seats: &Seats, due: &Due) -> Result<Vec<usize>, M
 
 // The place alone, where there is a seat.
 fn place_alone(alloc: Global, seats: &Seats, place: usize) -> Result<Vec<usize>, Memory>
-    ensures { IfOk result (λ places. (c : Shown) → IsDueAlone c (Due.Seat place) (seats_in seats.now.runs.items) → AreTheDue c 0 places.items (seats_in seats.now.runs.items)) }
+    ensures { IfOk result (λ places. (c : Shown) → IsDueAlone c (Due.Seat place) (seats_in seats.now.runs.items)
+        → AreTheDue c 0 places.items (seats_in seats.now.runs.items)) }
 {
     let mut places = Vec::new(alloc);
     if place < seats.count {
@@ -119,7 +121,8 @@ fn place_alone(alloc: Global, seats: &Seats, place: usize) -> Result<Vec<usize>,
 
 /// The places of the seats that are due, ascending.
 pub fn places_due(alloc: Global, seats: &Seats, due: &Due) -> Result<Vec<usize>, Memory>
-    ensures { IfOk result (λ places. (c : Shown) → IsDueAlone c due.now (seats_in seats.now.runs.items) → AreTheDue c 0 places.items (seats_in seats.now.runs.items)) }
+    ensures { IfOk result (λ places. (c : Shown) → IsDueAlone c due.now (seats_in seats.now.runs.items)
+        → AreTheDue c 0 places.items (seats_in seats.now.runs.items)) }
 {
     match due {
         Due::Nobody => Ok(Vec::new(alloc)),

@@ -87,8 +87,11 @@ fn update_with<'a>(
     delta: &AppliedDelta,
     last: Option<Update<'a>>,
 ) -> Result<Update<'a>, Memory>
-    ensures text { IfOk result (λ u. (c : Shown) → IsLast c last.entry → slice_get (deltas_of (c.copy name.entry.now)) place ≡ Some delta.now → u.text.items ≡ compact_text (message_data (Message.Update name.entry.now delta.now))) }
-    ensures last { IfOk result (λ u. (c : Shown) → IsLast c last.entry → slice_get (deltas_of (c.copy name.entry.now)) place ≡ Some delta.now → IsUpdate c u) }
+    ensures text { IfOk result
+        (λ u. (c : Shown) → IsLast c last.entry → slice_get (deltas_of (c.copy name.entry.now)) place ≡ Some delta.now → u.text.items
+        ≡ compact_text (message_data (Message.Update name.entry.now delta.now))) }
+    ensures last { IfOk result
+        (λ u. (c : Shown) → IsLast c last.entry → slice_get (deltas_of (c.copy name.entry.now)) place ≡ Some delta.now → IsUpdate c u) }
 {
     match at_place(last, name, place) {
         Some(last) => Ok(last),
@@ -118,7 +121,9 @@ pub fn push_news<'a>(
     out: &mut Vec<u8>,
 ) -> Result<Option<Update<'a>>, Memory>
     requires { IsShort (message_of news.now) }
-    ensures sent { OnOk result ((c : Shown) → IsLast c last.entry → IsPlaced c news.now → out.new.items ≡ out.old.items ++ line_of (sent_to session.now (message_of news.now))) }
+    ensures sent { OnOk result
+        ((c : Shown) → IsLast c last.entry → IsPlaced c news.now → out.new.items ≡ out.old.items
+        ++ line_of (sent_to session.now (message_of news.now))) }
     ensures last { IfOk result (λ o. (c : Shown) → IsLast c last.entry → IsPlaced c news.now → IsLast c o) }
 {
     match news {

@@ -84,7 +84,8 @@ impl<F: Folder + Drop> PipeMachine<F> {
         ensures sent { OnOk result (out.new.items ≡ out.old.items ++ lines_of (served (pipe_of self.old) time name message).sent) }
         ensures moved { IsMoved (submits message) self.old.shelf self.new.shelf }
         ensures ended { IsEnded self.old.shelf self.new.shelf (served (pipe_of self.old) time name message).pipe.hosted result }
-        ensures due { IfOk result (λ due. are_told (shown_in (hosted_of self.old.shelf)) (seats_in self.old.seats.runs.items) ≡ true → IsDueAlone (shown_in (hosted_of self.new.shelf)) due (seats_in self.new.seats.runs.items)) }
+        ensures due { IfOk result (λ due. are_told (shown_in (hosted_of self.old.shelf)) (seats_in self.old.seats.runs.items) ≡ true
+            → IsDueAlone (shown_in (hosted_of self.new.shelf)) due (seats_in self.new.seats.runs.items)) }
     {
         let changed = changed_by(alloc, &message)?;
         self.behind = true;
@@ -114,7 +115,8 @@ impl<F: Folder + Drop> PipeMachine<F> {
         ensures sent { OnOk result (out.new.items ≡ out.old.items ++ lines_of (answered (pipe_of self.old) time line.now).sent) }
         ensures moved { IsMoved (submits_to line.now) self.old.shelf self.new.shelf }
         ensures ended { IsEnded self.old.shelf self.new.shelf (answered (pipe_of self.old) time line.now).pipe.hosted result }
-        ensures due { IfOk result (λ due. are_told (shown_in (hosted_of self.old.shelf)) (seats_in self.old.seats.runs.items) ≡ true → IsDueAlone (shown_in (hosted_of self.new.shelf)) due (seats_in self.new.seats.runs.items)) }
+        ensures due { IfOk result (λ due. are_told (shown_in (hosted_of self.old.shelf)) (seats_in self.old.seats.runs.items) ≡ true
+            → IsDueAlone (shown_in (hosted_of self.new.shelf)) due (seats_in self.new.seats.runs.items)) }
     {
         match read_line(alloc, line) {
             Ok(line) => {

@@ -17,9 +17,12 @@ pub struct PipeMachine<F: Folder> {
     pub(crate) seats: Seats,
     // Whether a turn failed, after which sessions may lack what they were to be sent.
     pub(crate) behind: bool,
-    ghost plain: { AllByRecursion IsPlainSeat (seats_in seats.runs.items) } by { AllByRecursion-prop IsPlainSeat IsPlainSeat-prop (seats_in seats.runs.items) },
-    ghost ordered: { are_ordered (seats_in seats.runs.items) ≡ true } by { Coded-set coded_bool (are_ordered (seats_in seats.runs.items)) true },
-    ghost told: { behind || are_told (shown_in (hosted_of shelf)) (seats_in seats.runs.items) ≡ true } by { Coded-set coded_bool (behind || are_told (shown_in (hosted_of shelf)) (seats_in seats.runs.items)) true },
+    ghost plain: { AllByRecursion IsPlainSeat (seats_in seats.runs.items) } by { AllByRecursion-prop IsPlainSeat IsPlainSeat-prop
+        (seats_in seats.runs.items) },
+    ghost ordered: { are_ordered (seats_in seats.runs.items)
+        ≡ true } by { Coded-set coded_bool (are_ordered (seats_in seats.runs.items)) true },
+    ghost told: { behind || are_told (shown_in (hosted_of shelf)) (seats_in seats.runs.items)
+        ≡ true } by { Coded-set coded_bool (behind || are_told (shown_in (hosted_of shelf)) (seats_in seats.runs.items)) true },
 }
 
 impl<F: Folder + Drop> Drop for PipeMachine<F> {

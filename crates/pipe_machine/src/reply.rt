@@ -35,7 +35,8 @@ fn attach<F: Folder>(
     from: Option<&HashedVersion>,
 ) -> Result<Reply, Memory>
     requires { has_user session.old ≡ true }
-    ensures reply { IfOk result (λ r. (session.new, reply_message r) ≡ attached (shown_in (hosted_of shelf.now)) session.old name.now (option_copied from.entry)) }
+    ensures reply { IfOk result
+        (λ r. (session.new, reply_message r) ≡ attached (shown_in (hosted_of shelf.now)) session.old name.now (option_copied from.entry)) }
     ensures same { OnErr result (session.new ≡ session.old) }
 {
     shelf.copies_are_hosted();
@@ -52,7 +53,10 @@ fn submit<F: Folder + Drop>(
     time: u64,
 ) -> Result<Reply, TurnFault>
     ensures hosted { OnOk result (hosted_of shelf.new ≡ after_submission (hosted_of shelf.old) name.now submission.now time) }
-    ensures reply { IfOk result (λ r. (session.new, reply_message r) ≡ answered session.old name.now submission.now.id (answer.Verdict (judged_in (hosted_of shelf.old) name.now submission.now time).0)) }
+    ensures reply { IfOk result
+        (λ r. (session.new, reply_message r)
+        ≡ answered session.old name.now submission.now.id
+        (answer.Verdict (judged_in (hosted_of shelf.old) name.now submission.now time).0)) }
     ensures same { OnErr result (session.new ≡ session.old) }
     ensures moved { IsMoved (same_text name.now) shelf.old shelf.new }
     ensures ended { IsEnded shelf.old shelf.new (after_submission (hosted_of shelf.old) name.now submission.now time) result }
@@ -78,7 +82,8 @@ fn answer<F: Folder + Drop>(
     time: u64,
 ) -> Result<Reply, TurnFault>
     requires user { AsksAsUser session.old request }
-    ensures reply { IfOk result (λ r. reply_of (hosted_of shelf.new) (session.new, reply_message r) ≡ asked (hosted_of shelf.old) time session.old request) }
+    ensures reply { IfOk result
+        (λ r. reply_of (hosted_of shelf.new) (session.new, reply_message r) ≡ asked (hosted_of shelf.old) time session.old request) }
     ensures same { OnErr result (session.new ≡ session.old) }
     ensures moved { IsMoved (asks_for request) shelf.old shelf.new }
     ensures ended { IsEnded shelf.old shelf.new (asked (hosted_of shelf.old) time session.old request).hosted result }
@@ -102,7 +107,8 @@ fn reply<F: Folder + Drop>(
     time: u64,
 ) -> Result<Reply, TurnFault>
     requires { IsPlain session.old }
-    ensures reply { IfOk result (λ r. reply_of (hosted_of shelf.new) (session.new, reply_message r) ≡ replied (hosted_of shelf.old) session.old message time) }
+    ensures reply { IfOk result
+        (λ r. reply_of (hosted_of shelf.new) (session.new, reply_message r) ≡ replied (hosted_of shelf.old) session.old message time) }
     ensures plain { IsPlain session.new }
     ensures short { IfOk result (λ r. IsShort (reply_message r)) }
     ensures moved { IsMoved (submits message) shelf.old shelf.new }
@@ -123,13 +129,16 @@ fn reply_among<F: Folder + Drop>(
 ) -> Result<Reply, TurnFault>
     requires inside { place < length (seats_in runs.old) }
     requires plain { IsPlain (seat_in place (seats_in runs.old)).session }
-    ensures reply { IfOk result (λ r. reply_of (hosted_of shelf.new) ((seat_in place (seats_in runs.new)).session, reply_message r) ≡ replied (hosted_of shelf.old) (seat_in place (seats_in runs.old)).session message time) }
+    ensures reply { IfOk result
+        (λ r. reply_of (hosted_of shelf.new) ((seat_in place (seats_in runs.new)).session, reply_message r)
+        ≡ replied (hosted_of shelf.old) (seat_in place (seats_in runs.old)).session message time) }
     ensures changed { seats_in runs.new ≡ with_session place (seat_in place (seats_in runs.new)).session (seats_in runs.old) }
     ensures named { (seat_in place (seats_in runs.new)).name ≡ (seat_in place (seats_in runs.old)).name }
     ensures plain { IsPlain (seat_in place (seats_in runs.new)).session }
     ensures short { IfOk result (λ r. IsShort (reply_message r)) }
     ensures moved { IsMoved (submits message) shelf.old shelf.new }
-    ensures ended { IsEnded shelf.old shelf.new (replied (hosted_of shelf.old) (seat_in place (seats_in runs.old)).session message time).hosted result }
+    ensures ended { IsEnded shelf.old shelf.new
+        (replied (hosted_of shelf.old) (seat_in place (seats_in runs.old)).session message time).hosted result }
 {
     let Some((first, rest)) = runs.split_first_mut() else {
         unreachable!()
@@ -153,13 +162,17 @@ pub fn reply_at<F: Folder + Drop>(
 ) -> Result<Reply, TurnFault>
     requires inside { place < length (seats_in seats.old.runs.items) }
     requires plain { IsPlain (seat_in place (seats_in seats.old.runs.items)).session }
-    ensures reply { IfOk result (λ r. reply_of (hosted_of shelf.new) ((seat_in place (seats_in seats.new.runs.items)).session, reply_message r) ≡ replied (hosted_of shelf.old) (seat_in place (seats_in seats.old.runs.items)).session message time) }
-    ensures changed { seats_in seats.new.runs.items ≡ with_session place (seat_in place (seats_in seats.new.runs.items)).session (seats_in seats.old.runs.items) }
+    ensures reply { IfOk result
+        (λ r. reply_of (hosted_of shelf.new) ((seat_in place (seats_in seats.new.runs.items)).session, reply_message r)
+        ≡ replied (hosted_of shelf.old) (seat_in place (seats_in seats.old.runs.items)).session message time) }
+    ensures changed { seats_in seats.new.runs.items
+        ≡ with_session place (seat_in place (seats_in seats.new.runs.items)).session (seats_in seats.old.runs.items) }
     ensures named { (seat_in place (seats_in seats.new.runs.items)).name ≡ (seat_in place (seats_in seats.old.runs.items)).name }
     ensures plain { IsPlain (seat_in place (seats_in seats.new.runs.items)).session }
     ensures short { IfOk result (λ r. IsShort (reply_message r)) }
     ensures moved { IsMoved (submits message) shelf.old shelf.new }
-    ensures ended { IsEnded shelf.old shelf.new (replied (hosted_of shelf.old) (seat_in place (seats_in seats.old.runs.items)).session message time).hosted result }
+    ensures ended { IsEnded shelf.old shelf.new
+        (replied (hosted_of shelf.old) (seat_in place (seats_in seats.old.runs.items)).session message time).hosted result }
 {
     reply_among(
         alloc,

@@ -124,7 +124,8 @@ fn begin(alloc: Global, runs: &mut Vec<Run>) -> Result<(), Memory>
 /// One more seat, before the one at this place. The error is want of memory.
 pub fn insert_at(alloc: Global, runs: &mut Vec<Run>, place: usize, seat: Seat) -> Result<(), Memory>
     requires inside { place ≤ length (seats_in runs.old.items) }
-    ensures put { OnOk result (seats_in runs.new.items ≡ take place (seats_in runs.old.items) ++ seat ∷ drop place (seats_in runs.old.items)) }
+    ensures put { OnOk result (seats_in runs.new.items ≡ take place (seats_in runs.old.items) ++ seat
+        ∷ drop place (seats_in runs.old.items)) }
     ensures same { OnErr result (seats_in runs.new.items ≡ seats_in runs.old.items) }
 {
     begin(alloc, runs)?;
@@ -175,7 +176,8 @@ impl Seats {
     // One more, before the one at this place. The error is want of memory.
     fn put(&mut self, alloc: Global, place: usize, seat: Seat) -> Result<(), Memory>
         requires inside { place ≤ length (seats_in self.old.runs.items) }
-        ensures put { OnOk result (seats_in self.new.runs.items ≡ take place (seats_in self.old.runs.items) ++ seat ∷ drop place (seats_in self.old.runs.items)) }
+        ensures put { OnOk result (seats_in self.new.runs.items ≡ take place (seats_in self.old.runs.items) ++ seat
+            ∷ drop place (seats_in self.old.runs.items)) }
         ensures same { OnErr result (seats_in self.new.runs.items ≡ seats_in self.old.runs.items) }
     {
         let Some(count) = self.count.checked_add(1) else {

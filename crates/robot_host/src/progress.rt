@@ -187,7 +187,8 @@ impl Progress {
 
     /// Whether each robot that is there went through so many deltas, and no edit is kept.
     pub fn is_settled(&self, seats: &[Seat], deltas: u64) -> bool
-        ensures through { result ≡ true → (r : ℕ) → is_there (robots_by calls seats.now) r ≡ true → number_of self.now.counts.items r ≡ deltas }
+        ensures through { result ≡ true → (r : ℕ) → is_there (robots_by calls seats.now) r ≡ true → number_of self.now.counts.items r
+            ≡ deltas }
         ensures none_kept { result ≡ true → self.now.edits.items ≡ [] }
     {
         for robot in 0..seats.len() {

@@ -94,11 +94,13 @@ abbrev pub is_sendable : SnapshotOf → Bool
 is_sendable s = is_snapshot s.inserted s.state && nat_le (written_len s) max_peer
 
 abbrev pub attached_head : Session → Key → SnapshotOf → Session × Message
-attached_head s name snapshot = if is_sendable snapshot then (with_sent s name snapshot.at.version, Snapshot snapshot) else (s, Unopened name unopened.TooLarge)
+attached_head s name snapshot = if is_sendable snapshot then (with_sent s name snapshot.at.version, Snapshot snapshot) else
+    (s, Unopened name unopened.TooLarge)
 
 abbrev pub attached_hash : Session → Key → VersionAt → VersionAt → Option (List ℕ) → Session × Message
 attached_hash s name from head None = (s, Unopened name (unopened.UnknownVersion head))
-attached_hash s name from head (Some hash) = if pointwise ◌==◌ hash from.hash then (with_sent s name from.version, Opened name from.version) else (s, Unopened name (unopened.WrongHash hash))
+attached_hash s name from head (Some hash) = if pointwise ◌==◌ hash from.hash then
+    (with_sent s name from.version, Opened name from.version) else (s, Unopened name (unopened.WrongHash hash))
 
 abbrev pub attached_seen : Session → Key → Option VersionAt → Option HistoryOf → Session × Message
 attached_seen s name from None = (s, Unopened name unopened.NotParticipant)

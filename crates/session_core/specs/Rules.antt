@@ -149,7 +149,8 @@ abbrev pub submission_of : Key → ℕ → ℕ → VersionAt → List WaveletOp 
 submission_of user client number from ops = record { id = record { author = user; client = client; number = number }; at = from; ops = ops }
 
 abbrev pub submitted_as : Session → Key → ℕ → ℕ → VersionAt → List WaveletOp → Key → Taken
-submitted_as s name client number from ops user = if is_reached s name then (s, ask.Submit name (submission_of user client number from ops)) else refused s bad.NoHost
+submitted_as s name client number from ops user = if is_reached s name then
+    (s, ask.Submit name (submission_of user client number from ops)) else refused s bad.NoHost
 
 abbrev pub submitted : Session → Key → ℕ → ℕ → VersionAt → List WaveletOp → Taken
 submitted s name client number from ops = if is_count client && is_count number

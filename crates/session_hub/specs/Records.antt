@@ -29,7 +29,11 @@ abbrev pub marks_in : Key → ℕ → List Record → List Mark
 marks_in d k rs = founded d k (map mark_of rs)
 
 abbrev pub hosted_code : Coded DeltaOf → Coded Hosted
-hosted_code delta = code_by (List ℕ × List DeltaOf) (coded× (coded_list coded_ℕ) (coded_list delta)) (λ h. (h.name, h.deltas)) (λ p. record { name = p.0; deltas = p.1 }) (λ _. refl)
+hosted_code delta = code_by (List ℕ × List DeltaOf) (coded× (coded_list coded_ℕ) (coded_list delta)) (λ h. (h.name, h.deltas))
+    (λ p. record { name = p.0; deltas = p.1 }) (λ _. refl)
 
 abbrev pub world_code : Coded DeltaOf → Coded Submission → Coded Noted → Coded WorldOf
-world_code delta submission noted = code_by (List DeltaOf × (List Submission × (Bool × List Noted))) (coded× (coded_list delta) (coded× (coded_list submission) (coded× coded_bool (coded_list noted)))) (λ w. (w.replica.deltas, (w.replica.waiting, (w.replica.dropped, w.noted)))) (λ p. record { replica = record { deltas = p.0; waiting = p.1.0; dropped = p.1.1.0 }; noted = p.1.1.1 }) (λ _. refl)
+world_code delta submission noted = code_by (List DeltaOf × (List Submission × (Bool × List Noted)))
+    (coded× (coded_list delta) (coded× (coded_list submission) (coded× coded_bool (coded_list noted))))
+    (λ w. (w.replica.deltas, (w.replica.waiting, (w.replica.dropped, w.noted))))
+    (λ p. record { replica = record { deltas = p.0; waiting = p.1.0; dropped = p.1.1.0 }; noted = p.1.1.1 }) (λ _. refl)

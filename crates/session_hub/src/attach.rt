@@ -67,7 +67,8 @@ impl<F: Folder + Drop> Hub<F> {
         ensures unadded { added_at passes.new (shard_of name.now) ≡ added_at passes.old (shard_of name.now) }
         ensures look { IfOk result (λ a. IsLook (shard_of name.now) (marks_of passes.new (shard_of name.now)) a.look) }
         ensures reply { IfOk result (λ a. (session.new, reply_message a.reply)
-            ≡ attached (shown_at self.now.domain (shard_of name.now) (marks_of passes.new (shard_of name.now))) session.old name.now (option_copied from.entry)) }
+            ≡ attached (shown_at self.now.domain (shard_of name.now) (marks_of passes.new (shard_of name.now))) session.old name.now
+            (option_copied from.entry)) }
         ensures short { IfOk result (λ a. IsShort (reply_message a.reply)) }
         ensures same { OnErr result (session.new ≡ session.old) }
         ensures spent { IfErr result (λ e. (s : Spent) → e ≡ HubFault.Spent s → IsSpentAt passes.new (shard_of name.now) s) }

@@ -15,7 +15,8 @@ impl<F: Folder + Drop> Hub<F> {
     pub fn close(self, passes: Passes<F>) -> Option<Vec<Shard<F>>>
         requires { AreOfHub self passes }
         ensures sixteen { IfSome result (λ shards. length shards.items ≡ 16) }
-        ensures seen { IfSome result (λ shards. (k : ℕ) → IfSome (slice_get shards.items k) (λ s. IsPrefix (marks_of passes k) (entries_of s))) }
+        ensures seen { IfSome result
+            (λ shards. (k : ℕ) → IfSome (slice_get shards.items k) (λ s. IsPrefix (marks_of passes k) (entries_of s))) }
     {
         self.into_cells().close(passes)
     }

@@ -55,8 +55,11 @@ impl<F: Folder + Drop> Hub<F> {
         ensures turned { HaveTurned shard passes.old passes.new }
         ensures unadded { added_at passes.new shard ≡ added_at passes.old shard }
         ensures look { IfOk result (λ d. IsLook shard (marks_of passes.new shard) d.look) }
-        ensures frames { IfOk result (λ d. map (λ v. v.items) d.frames.items ≡ frames_of (delivered (shown_at self.now.domain shard (marks_of passes.new shard)) session.old)) }
-        ensures after { OnOk result (session.new ≡ after_delivery (shown_at self.now.domain shard (marks_of passes.new shard)) session.old) }
+        ensures frames { IfOk result
+            (λ d. map (λ v. v.items) d.frames.items
+            ≡ frames_of (delivered (shown_at self.now.domain shard (marks_of passes.new shard)) session.old)) }
+        ensures after { OnOk result
+            (session.new ≡ after_delivery (shown_at self.now.domain shard (marks_of passes.new shard)) session.old) }
         ensures told { OnOk result (delivered (shown_at self.now.domain shard (marks_of passes.new shard)) session.new ≡ []) }
         ensures spent { IfErr result (λ e. (s : Spent) → e ≡ HubFault.Spent s → IsSpentAt passes.new shard s) }
     {

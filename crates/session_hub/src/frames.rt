@@ -46,7 +46,8 @@ fn applied(alloc: Global, name: &WaveletName, delta: &AppliedDelta) -> Result<Me
 #[tactic(auto, unfolding(shard_marks::specs::Frames::frame_of))]
 fn news_frame(alloc: Global, news: &News, texts: &mut Vec<Text>) -> Result<Vec<u8>, Memory>
     requires { IsShort (message_of news.now) }
-    ensures frame { IfOk result (λ v. (f : Key → List DeltaOf) → AreWritten f texts.old.items → IsPlacedIn f news.now → v.items ≡ frame_of (message_of news.now)) }
+    ensures frame { IfOk result
+        (λ v. (f : Key → List DeltaOf) → AreWritten f texts.old.items → IsPlacedIn f news.now → v.items ≡ frame_of (message_of news.now)) }
     ensures texts { (f : Key → List DeltaOf) → AreWritten f texts.old.items → IsPlacedIn f news.now → AreWritten f texts.new.items }
 {
     match news {
@@ -63,7 +64,9 @@ pub(crate) fn frames(
     texts: &mut Vec<Text>,
 ) -> Result<Vec<Vec<u8>>, Memory>
     requires { All (λ n. IsShort (message_of n)) news.now }
-    ensures frames { IfOk result (λ v. (f : Key → List DeltaOf) → AreWritten f texts.old.items → All (IsPlacedIn f) news.now → map (λ f. f.items) v.items ≡ frames_of (messages_of news.now)) }
+    ensures frames { IfOk result
+        (λ v. (f : Key → List DeltaOf) → AreWritten f texts.old.items → All (IsPlacedIn f) news.now → map (λ f. f.items) v.items
+        ≡ frames_of (messages_of news.now)) }
     ensures texts { (f : Key → List DeltaOf) → AreWritten f texts.old.items → All (IsPlacedIn f) news.now → AreWritten f texts.new.items }
 {
     let mut made = Vec::new(alloc);

@@ -118,7 +118,8 @@ impl<F: Folder + Drop> Shard<F> {
         giving: &Giving,
     ) -> Result<Given, Memory>
         requires own { shard_of name.now ≡ self.old.number }
-        ensures given { IfOk result (IsGivenFrom self.old.domain self.old.number (entries_of self.old) (entries_of self.new) (gift_mark name.now giving.now)) }
+        ensures given { IfOk result
+            (IsGivenFrom self.old.domain self.old.number (entries_of self.old) (entries_of self.new) (gift_mark name.now giving.now)) }
         ensures same { OnErr result (entries_of self.new ≡ entries_of self.old) }
         ensures one { (entries_of self.new ≡ entries_of self.old) ⊎ IsOneMore (entries_of self.old) (entries_of self.new) }
     {
@@ -137,7 +138,8 @@ impl<F: Folder + Drop> Shard<F> {
     ) -> Result<Given, Memory>
         requires own { shard_of name.now ≡ self.old.number }
         requires other { is_hosted_by self.old.domain name.now ≡ false }
-        ensures given { IfOk result (IsGivenFrom self.old.domain self.old.number (entries_of self.old) (entries_of self.new) (gift_mark name.now giving.now)) }
+        ensures given { IfOk result
+            (IsGivenFrom self.old.domain self.old.number (entries_of self.old) (entries_of self.new) (gift_mark name.now giving.now)) }
         ensures same { OnErr result (entries_of self.new ≡ entries_of self.old) }
         ensures one { (entries_of self.new ≡ entries_of self.old) ⊎ IsOneMore (entries_of self.old) (entries_of self.new) }
     {

@@ -39,7 +39,9 @@ impl<F: Folder + Drop> Hub<F> {
         ensures turned { HaveTurned (shard_of name.now) passes.old passes.new }
         ensures unadded { added_at passes.new (shard_of name.now) ≡ added_at passes.old (shard_of name.now) }
         ensures look { IfOk result (IsLook (shard_of name.now) (marks_of passes.new (shard_of name.now))) }
-        ensures after { OnOk result (session.new ≡ had (shown_at self.now.domain (shard_of name.now) (marks_of passes.new (shard_of name.now))) session.old name.now from.now) }
+        ensures after { OnOk result
+            (session.new ≡ had (shown_at self.now.domain (shard_of name.now)
+            (marks_of passes.new (shard_of name.now))) session.old name.now from.now) }
         ensures same { OnErr result (session.new ≡ session.old) }
         ensures spent { IfErr result (λ e. (s : Spent) → e ≡ HubFault.Spent s → IsSpentAt passes.new (shard_of name.now) s) }
     {

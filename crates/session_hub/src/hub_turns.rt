@@ -73,7 +73,8 @@ impl<'a, F: Folder + Drop> HubTurns<'a, F> {
     ) -> Result<Given, TurnFault>
         ensures hub { self.new.hub.now ≡ self.old.hub.now }
         ensures turned { HaveTurned (shard_of name.now) self.old.passes self.new.passes }
-        ensures given { IfOk result (IsGivenBy self.old.hub.now.domain (shard_of name.now) self.old.passes self.new.passes (gift_mark name.now giving.now)) }
+        ensures given { IfOk result
+            (IsGivenBy self.old.hub.now.domain (shard_of name.now) self.old.passes self.new.passes (gift_mark name.now giving.now)) }
         ensures unadded { OnErr result (added_at self.new.passes (shard_of name.now) ≡ added_at self.old.passes (shard_of name.now)) }
         ensures spent { IfErr result (λ e. (s : Spent) → e ≡ TurnFault.Spent s → IsSpentAt self.new.passes (shard_of name.now) s) }
     {
@@ -94,8 +95,10 @@ impl<'a, F: Folder + Drop> HubTurns<'a, F> {
     ) -> Result<Option<Item>, TurnFault>
         ensures hub { self.new.hub.now ≡ self.old.hub.now }
         ensures later { Begins self.old.passes self.new.passes }
-        ensures counts { (k : ℕ) → (loads_at self.new.passes k ≡ loads_at self.old.passes k) × (added_at self.new.passes k ≡ added_at self.old.passes k) }
-        ensures item { IfOk result (λ o. o ≡ slice_get (items_across wanted self.old.hub.now.domain domain.now (marks_of self.new.passes)) place) }
+        ensures counts { (k : ℕ) → (loads_at self.new.passes k ≡ loads_at self.old.passes k)
+            × (added_at self.new.passes k ≡ added_at self.old.passes k) }
+        ensures item { IfOk result
+            (λ o. o ≡ slice_get (items_across wanted self.old.hub.now.domain domain.now (marks_of self.new.passes)) place) }
         ensures spent { IfErr result (λ e. (s : Spent) → e ≡ TurnFault.Spent s → (k : ℕ) × IsSpentAt self.new.passes k s) }
     {
         match self
@@ -127,7 +130,9 @@ impl<'a, F: Folder + Drop> PeerTurns for HubTurns<'a, F> {
     ) -> Result<Absorbed, TurnFault>
         ensures hub { self.new.hub.now ≡ self.old.hub.now }
         ensures turned { HaveTurned (shard_of name.now) self.old.passes self.new.passes }
-        ensures taken { IfOk result (λ a. IsGivenBy self.old.hub.now.domain (shard_of name.now) self.old.passes self.new.passes (Mark.Applied name.now delta.now) (Given.Absorbed a)) }
+        ensures taken { IfOk result
+            (λ a. IsGivenBy self.old.hub.now.domain (shard_of name.now) self.old.passes self.new.passes (Mark.Applied name.now delta.now)
+            (Given.Absorbed a)) }
         ensures unadded { OnErr result (added_at self.new.passes (shard_of name.now) ≡ added_at self.old.passes (shard_of name.now)) }
         ensures spent { IfErr result (λ e. (s : Spent) → e ≡ TurnFault.Spent s → IsSpentAt self.new.passes (shard_of name.now) s) }
     {
@@ -148,7 +153,9 @@ impl<'a, F: Folder + Drop> PeerTurns for HubTurns<'a, F> {
     ) -> Result<bool, TurnFault>
         ensures hub { self.new.hub.now ≡ self.old.hub.now }
         ensures turned { HaveTurned (shard_of name.now) self.old.passes self.new.passes }
-        ensures taken { IfOk result (λ b. IsGivenBy self.old.hub.now.domain (shard_of name.now) self.old.passes self.new.passes (Mark.Answered name.now id.now verdict) (Given.Noted b)) }
+        ensures taken { IfOk result
+            (λ b. IsGivenBy self.old.hub.now.domain (shard_of name.now) self.old.passes self.new.passes
+            (Mark.Answered name.now id.now verdict) (Given.Noted b)) }
         ensures unadded { OnErr result (added_at self.new.passes (shard_of name.now) ≡ added_at self.old.passes (shard_of name.now)) }
         ensures spent { IfErr result (λ e. (s : Spent) → e ≡ TurnFault.Spent s → IsSpentAt self.new.passes (shard_of name.now) s) }
     {
@@ -167,7 +174,8 @@ impl<'a, F: Folder + Drop> PeerTurns for HubTurns<'a, F> {
     ) -> Result<(), TurnFault>
         ensures hub { self.new.hub.now ≡ self.old.hub.now }
         ensures turned { HaveTurned (shard_of name.now) self.old.passes self.new.passes }
-        ensures taken { OnOk result (IsGivenBy self.old.hub.now.domain (shard_of name.now) self.old.passes self.new.passes (Mark.Dropped name.now) Given.Told) }
+        ensures taken { OnOk result
+            (IsGivenBy self.old.hub.now.domain (shard_of name.now) self.old.passes self.new.passes (Mark.Dropped name.now) Given.Told) }
         ensures unadded { OnErr result (added_at self.new.passes (shard_of name.now) ≡ added_at self.old.passes (shard_of name.now)) }
         ensures spent { IfErr result (λ e. (s : Spent) → e ≡ TurnFault.Spent s → IsSpentAt self.new.passes (shard_of name.now) s) }
     {
@@ -187,8 +195,10 @@ impl<'a, F: Folder + Drop> PeerTurns for HubTurns<'a, F> {
     ) -> Result<Option<Relay>, TurnFault>
         ensures hub { self.new.hub.now ≡ self.old.hub.now }
         ensures later { Begins self.old.passes self.new.passes }
-        ensures counts { (k : ℕ) → (loads_at self.new.passes k ≡ loads_at self.old.passes k) × (added_at self.new.passes k ≡ added_at self.old.passes k) }
-        ensures relay { IfOk result (λ o. o ≡ slice_get (relays_across self.old.hub.now.domain domain.now (marks_of self.new.passes)) place) }
+        ensures counts { (k : ℕ) → (loads_at self.new.passes k ≡ loads_at self.old.passes k)
+            × (added_at self.new.passes k ≡ added_at self.old.passes k) }
+        ensures relay { IfOk result
+            (λ o. o ≡ slice_get (relays_across self.old.hub.now.domain domain.now (marks_of self.new.passes)) place) }
         ensures spent { IfErr result (λ e. (s : Spent) → e ≡ TurnFault.Spent s → (k : ℕ) × IsSpentAt self.new.passes k s) }
     {
         match self.seek(rt, alloc, Wanted::Relays, domain, place)? {
@@ -206,8 +216,10 @@ impl<'a, F: Folder + Drop> PeerTurns for HubTurns<'a, F> {
     ) -> Result<Option<CopyAt>, TurnFault>
         ensures hub { self.new.hub.now ≡ self.old.hub.now }
         ensures later { Begins self.old.passes self.new.passes }
-        ensures counts { (k : ℕ) → (loads_at self.new.passes k ≡ loads_at self.old.passes k) × (added_at self.new.passes k ≡ added_at self.old.passes k) }
-        ensures reach { IfOk result (λ o. o ≡ slice_get (reaches_across self.old.hub.now.domain domain.now (marks_of self.new.passes)) place) }
+        ensures counts { (k : ℕ) → (loads_at self.new.passes k ≡ loads_at self.old.passes k)
+            × (added_at self.new.passes k ≡ added_at self.old.passes k) }
+        ensures reach { IfOk result
+            (λ o. o ≡ slice_get (reaches_across self.old.hub.now.domain domain.now (marks_of self.new.passes)) place) }
         ensures spent { IfErr result (λ e. (s : Spent) → e ≡ TurnFault.Spent s → (k : ℕ) × IsSpentAt self.new.passes k s) }
     {
         match self.seek(rt, alloc, Wanted::Reaches, domain, place)? {

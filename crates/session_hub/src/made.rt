@@ -30,7 +30,9 @@ impl<F: Folder + Drop> Hub<F> {
         ensures own { IfOk result (λ made. AreOfHub made.0 made.1) }
         ensures domain { IfOk result (λ made. made.0.domain ≡ domain) }
         ensures server { IfOk result (λ made. server_of made.0 ≡ server domain peers.items) }
-        ensures seen { IfOk result (λ made. (k : ℕ) → k < 16 → marks_of made.1 k ≡ founded domain k (loaded (filter (λ h. is_in k h.name) (hosted_by domain (hosted_of shelf))))) }
+        ensures seen { IfOk result
+            (λ made. (k : ℕ) → k < 16 → marks_of made.1 k
+            ≡ founded domain k (loaded (filter (λ h. is_in k h.name) (hosted_by domain (hosted_of shelf))))) }
         ensures unused { IfOk result (λ made. (k : ℕ) → k < 16 → IsUnused made.1 k) }
     {
         let parts = shelf.divide(alloc)?;

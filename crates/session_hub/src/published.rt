@@ -144,7 +144,8 @@ pub(crate) fn names_for<'a, F: Folder>(
     session: &Session,
     sent: u64,
 ) -> Result<Vec<&'a WaveletName>, Memory>
-    ensures { IfOk result (λ v. AreLookedAt hosted.now.domain.now (hosted_by hosted.now.domain.now (hosted_of hosted.now.shelf.now)) records.entry.now
+    ensures { IfOk result (λ v. AreLookedAt hosted.now.domain.now
+        (hosted_by hosted.now.domain.now (hosted_of hosted.now.shelf.now)) records.entry.now
         session.now sent (map (λ n. n.now) v.items)) }
 {
     if !session.has_peer() {

@@ -69,10 +69,17 @@ impl<F: Folder + Drop> Hub<F> {
         ensures turned { HaveTurned shard passes.old passes.new }
         ensures unadded { added_at passes.new shard ≡ added_at passes.old shard }
         ensures look { IfOk result (λ w. IsLook shard (marks_of passes.new shard) w.look) }
-        ensures round { IfOk result (λ w. IsRoundAt self.now.domain shard (marks_of passes.new shard) (host_as ⟦<dyn Robot as Robot>⟧ host.old) (host_as ⟦<dyn Robot as Robot>⟧ host.new) w.name w.edits.items) }
-        ensures cut { OnErr result (IsRoundCutAt self.now.domain shard (marks_of passes.new shard) (host_as ⟦<dyn Robot as Robot>⟧ host.old) (host_as ⟦<dyn Robot as Robot>⟧ host.new)) }
-        ensures settled { IfOk result (λ w. w.name ≡ None → AreSettledAt self.now.domain shard (marks_of passes.new shard) (host_as ⟦<dyn Robot as Robot>⟧ host.new)) }
-        ensures others { AreUntouchedAt self.now.domain shard (marks_of passes.new shard) (host_as ⟦<dyn Robot as Robot>⟧ host.old) (host_as ⟦<dyn Robot as Robot>⟧ host.new) }
+        ensures round { IfOk result
+            (λ w. IsRoundAt self.now.domain shard (marks_of passes.new shard) (host_as ⟦<dyn Robot as Robot>⟧ host.old)
+            (host_as ⟦<dyn Robot as Robot>⟧ host.new) w.name w.edits.items) }
+        ensures cut { OnErr result
+            (IsRoundCutAt self.now.domain shard (marks_of passes.new shard) (host_as ⟦<dyn Robot as Robot>⟧ host.old)
+            (host_as ⟦<dyn Robot as Robot>⟧ host.new)) }
+        ensures settled { IfOk result
+            (λ w. w.name ≡ None → AreSettledAt self.now.domain shard (marks_of passes.new shard)
+            (host_as ⟦<dyn Robot as Robot>⟧ host.new)) }
+        ensures others { AreUntouchedAt self.now.domain shard (marks_of passes.new shard) (host_as ⟦<dyn Robot as Robot>⟧ host.old)
+            (host_as ⟦<dyn Robot as Robot>⟧ host.new) }
         ensures may { MayTurnAt self.now.domain shard (marks_of passes.new shard) (host_as ⟦<dyn Robot as Robot>⟧ host.new) }
         ensures spent { IfErr result (λ e. (s : Spent) → e ≡ HubFault.Spent s → IsSpentAt passes.new shard s) }
     {

@@ -71,8 +71,11 @@ impl Round {
 // A turn over one history, unless nothing of it is left for the robots. The name is copied first, so that no edit is lost.
 fn turn_over(alloc: Global, host: &mut RobotHost, history: &History) -> Result<Round, Memory>
     requires { MayTurn (host_as ⟦<dyn Robot as Robot>⟧ host.old) history.now }
-    ensures round { IfOk result (λ r. IsRound (host_as ⟦<dyn Robot as Robot>⟧ host.old) (history.now ∷ []) (host_as ⟦<dyn Robot as Robot>⟧ host.new) r.name r.edits.items) }
-    ensures cut { OnErr result (IsRoundCut (host_as ⟦<dyn Robot as Robot>⟧ host.old) (history.now ∷ []) (host_as ⟦<dyn Robot as Robot>⟧ host.new)) }
+    ensures round { IfOk result
+        (λ r. IsRound (host_as ⟦<dyn Robot as Robot>⟧ host.old) (history.now ∷ [])
+        (host_as ⟦<dyn Robot as Robot>⟧ host.new) r.name r.edits.items) }
+    ensures cut { OnErr result
+        (IsRoundCut (host_as ⟦<dyn Robot as Robot>⟧ host.old) (history.now ∷ []) (host_as ⟦<dyn Robot as Robot>⟧ host.new)) }
 {
     if host.is_settled(history) {
         return Ok(Round::none(alloc));
@@ -86,8 +89,12 @@ impl<F: Folder + Drop> Shard<F> {
     /// Turns of the robots over what the domain hosts, in byte order of names, until one gives edits. The error is want of memory.
     pub(crate) fn robot_turn(&self, alloc: Global, host: &mut RobotHost) -> Result<Round, Memory>
         requires { MayTurnAt self.now.domain self.now.number (entries_of self.now) (host_as ⟦<dyn Robot as Robot>⟧ host.old) }
-        ensures round { IfOk result (λ r. IsRoundAt self.now.domain self.now.number (entries_of self.now) (host_as ⟦<dyn Robot as Robot>⟧ host.old) (host_as ⟦<dyn Robot as Robot>⟧ host.new) r.name r.edits.items) }
-        ensures cut { OnErr result (IsRoundCutAt self.now.domain self.now.number (entries_of self.now) (host_as ⟦<dyn Robot as Robot>⟧ host.old) (host_as ⟦<dyn Robot as Robot>⟧ host.new)) }
+        ensures round { IfOk result
+            (λ r. IsRoundAt self.now.domain self.now.number (entries_of self.now) (host_as ⟦<dyn Robot as Robot>⟧ host.old)
+            (host_as ⟦<dyn Robot as Robot>⟧ host.new) r.name r.edits.items) }
+        ensures cut { OnErr result
+            (IsRoundCutAt self.now.domain self.now.number (entries_of self.now) (host_as ⟦<dyn Robot as Robot>⟧ host.old)
+            (host_as ⟦<dyn Robot as Robot>⟧ host.new)) }
     {
         let copies = HostedCopies {
             domain: &self.domain,

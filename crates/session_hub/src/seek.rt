@@ -35,7 +35,8 @@ impl<F: Folder + Drop> Hub<F> {
         ensures own { AreOfHub self.now passes.new }
         ensures turned { HaveTurned shard passes.old passes.new }
         ensures unadded { added_at passes.new shard ≡ added_at passes.old shard }
-        ensures sought { IfOk result (IsSought (items_of wanted domain.now (copied self.now.domain shard (marks_of passes.new shard))) place) }
+        ensures sought { IfOk result
+            (IsSought (items_of wanted domain.now (copied self.now.domain shard (marks_of passes.new shard))) place) }
         ensures spent { IfErr result (λ e. (s : Spent) → e ≡ HubFault.Spent s → IsSpentAt passes.new shard s) }
     {
         let at = shard as usize;

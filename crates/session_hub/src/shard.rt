@@ -34,12 +34,20 @@ pub struct Shard<F: Folder> {
     pub(crate) records: Vec<Record>,
     // Texts of updates that sessions were sent, for those that are still to be sent them.
     pub(crate) texts: Vec<Text>,
-    ghost replay: { hosted_by domain (hosted_of shelf) ≡ replayed domain number (marks_in domain number records.items) } by { Coded-set (coded_list (hosted_code delta_row.the_row.coded)) (hosted_by domain (hosted_of shelf)) (replayed domain number (marks_in domain number records.items)) },
-    ghost copies: { worlds_of replicas ≡ copied domain number (marks_in domain number records.items) } by { Coded-set (code (coded_list coded_ℕ) (world_code delta_row.the_row.coded submission_row.the_row.coded noted_row.the_row.coded)) (worlds_of replicas) (copied domain number (marks_in domain number records.items)) },
+    ghost replay: { hosted_by domain (hosted_of shelf)
+        ≡ replayed domain number (marks_in domain number records.items) } by { Coded-set (coded_list (hosted_code delta_row.the_row.coded))
+            (hosted_by domain (hosted_of shelf)) (replayed domain number (marks_in domain number records.items)) },
+    ghost copies: { worlds_of replicas
+        ≡ copied domain number (marks_in domain number records.items) } by { Coded-set
+            (code (coded_list coded_ℕ) (world_code delta_row.the_row.coded submission_row.the_row.coded noted_row.the_row.coded))
+            (worlds_of replicas) (copied domain number (marks_in domain number records.items)) },
     ghost own: { list_all (is_own_mark domain number) (marks_in domain number records.items) ≡ true },
     ghost sound: { are_sound (hosted_by domain (hosted_of shelf)) ≡ true },
     ghost counted: { min (fault_count (marks_in domain number records.items)) most_faults ≤ faults_of shelf },
-    ghost written: { AreWritten (deltas_among domain (hosted_by domain (hosted_of shelf)) (worlds_of replicas)) texts.items } by { Coded-set (coded_list (coded_option (coded_list coded_ℕ))) (map (λ w. update_in (deltas_among domain (hosted_by domain (hosted_of shelf)) (worlds_of replicas)) w.name w.place) texts.items) (map (λ w. Some w.bytes.items) texts.items) },
+    ghost written: { AreWritten (deltas_among domain (hosted_by domain (hosted_of shelf)) (worlds_of replicas)) texts.items } by { Coded-set
+        (coded_list (coded_option (coded_list coded_ℕ)))
+        (map (λ w. update_in (deltas_among domain (hosted_by domain (hosted_of shelf)) (worlds_of replicas)) w.name w.place) texts.items)
+        (map (λ w. Some w.bytes.items) texts.items) },
 }
 
 impl<F: Folder + Drop> Drop for Shard<F> {

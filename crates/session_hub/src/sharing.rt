@@ -28,7 +28,8 @@ impl<F: Folder + Drop> Hub<F> {
         requires { AreOfHub self.now passes.old × AreOfHub self.now other }
         ensures own { AreOfHub self.now passes.new }
         ensures later { Begins passes.old passes.new × Begins other passes.new }
-        ensures counts { (k : ℕ) → k < 16 → (loads_at passes.new k ≡ loads_at passes.old k) × (added_at passes.new k ≡ added_at passes.old k) }
+        ensures counts { (k : ℕ) → k < 16 → (loads_at passes.new k ≡ loads_at passes.old k)
+            × (added_at passes.new k ≡ added_at passes.old k) }
     {
         self.cells.join(passes, other);
     }
@@ -40,7 +41,8 @@ impl<F: Folder + Drop> Hub<F> {
         ensures own { AreOfHub self.now passes.new }
         ensures others { AreOthersSame shard passes.old passes.new }
         ensures later { BeginsAt passes.old passes.new shard }
-        ensures counts { (loads_at passes.new shard ≡ loads_at passes.old shard + 1) × (added_at passes.new shard ≡ added_at passes.old shard) }
+        ensures counts { (loads_at passes.new shard ≡ loads_at passes.old shard + 1)
+            × (added_at passes.new shard ≡ added_at passes.old shard) }
         ensures tells { Tells sent (length (marks_of passes.new shard)) result }
     {
         let length = self.cells.head(passes, shard as usize);

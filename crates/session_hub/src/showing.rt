@@ -30,7 +30,8 @@ impl<F: Folder + Drop> Shard<F> {
         from: Option<&HashedVersion>,
     ) -> Result<Reply, Memory>
         requires { has_user session.old ≡ true }
-        ensures reply { IfOk result (λ r. (session.new, reply_message r) ≡ attached (copies_at self.now) session.old name.now (option_copied from.entry)) }
+        ensures reply { IfOk result
+            (λ r. (session.new, reply_message r) ≡ attached (copies_at self.now) session.old name.now (option_copied from.entry)) }
         ensures short { IfOk result (λ r. IsShort (reply_message r)) }
         ensures same { OnErr result (session.new ≡ session.old) }
     {

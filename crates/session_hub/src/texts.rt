@@ -83,7 +83,8 @@ fn keep(
     text: &[u8],
     texts: &mut Vec<Text>,
 ) -> Result<(), Memory>
-    ensures { (f : Key → List DeltaOf) → AreWritten f texts.old.items → update_in f name.now place ≡ Some text.now → AreWritten f texts.new.items }
+    ensures { (f : Key → List DeltaOf) → AreWritten f texts.old.items → update_in f name.now place ≡ Some text.now
+        → AreWritten f texts.new.items }
 {
     if text.len() > LONGEST {
         return Ok(());
@@ -105,8 +106,11 @@ pub(crate) fn update_text(
     delta: &AppliedDelta,
     texts: &mut Vec<Text>,
 ) -> Result<Vec<u8>, Memory>
-    ensures text { IfOk result (λ v. (f : Key → List DeltaOf) → AreWritten f texts.old.items → slice_get (f name.now) place ≡ Some delta.now → v.items ≡ frame_of (Message.Update name.now delta.now)) }
-    ensures kept { (f : Key → List DeltaOf) → AreWritten f texts.old.items → slice_get (f name.now) place ≡ Some delta.now → AreWritten f texts.new.items }
+    ensures text { IfOk result
+        (λ v. (f : Key → List DeltaOf) → AreWritten f texts.old.items → slice_get (f name.now) place ≡ Some delta.now → v.items
+        ≡ frame_of (Message.Update name.now delta.now)) }
+    ensures kept { (f : Key → List DeltaOf) → AreWritten f texts.old.items → slice_get (f name.now) place ≡ Some delta.now
+        → AreWritten f texts.new.items }
 {
     match find(texts.as_slice(), name, place) {
         Some(text) => Vec::from_slice(alloc, text.bytes.as_slice()),

@@ -80,7 +80,9 @@ pub(crate) fn attach<F: Folder + Drop, R: Wait>(
     ensures looked { loads pass.new ≡ loads pass.old }
     ensures unadded { added pass.new ≡ added pass.old }
     ensures length { IfOk result (λ r. r.0 ≡ length (seen pass.new)) }
-    ensures reply { IfOk result (λ r. (d : Key) (k : ℕ) → is_founded d k (seen pass.old) ≡ true → (session.new, reply_message r.1) ≡ attached (shown_at d k (seen pass.new)) session.old name.now (option_copied from.entry)) }
+    ensures reply { IfOk result
+        (λ r. (d : Key) (k : ℕ) → is_founded d k (seen pass.old) ≡ true → (session.new, reply_message r.1)
+        ≡ attached (shown_at d k (seen pass.new)) session.old name.now (option_copied from.entry)) }
     ensures short { IfOk result (λ r. IsShort (reply_message r.1)) }
     ensures same { OnErr result (session.new ≡ session.old) }
     ensures fault { IfErr result (IsFault pass.new) }
@@ -110,7 +112,9 @@ pub(crate) fn have<F: Folder + Drop, R: Wait>(
     ensures looked { loads pass.new ≡ loads pass.old }
     ensures unadded { added pass.new ≡ added pass.old }
     ensures length { IfOk result (λ l. l ≡ length (seen pass.new)) }
-    ensures after { OnOk result ((d : Key) (k : ℕ) → is_founded d k (seen pass.old) ≡ true → session.new ≡ had (shown_at d k (seen pass.new)) session.old name.now from.now) }
+    ensures after { OnOk result
+        ((d : Key) (k : ℕ) → is_founded d k (seen pass.old) ≡ true → session.new
+        ≡ had (shown_at d k (seen pass.new)) session.old name.now from.now) }
     ensures same { OnErr result (session.new ≡ session.old) }
     ensures fault { IfErr result (IsFault pass.new) }
 {
@@ -140,9 +144,14 @@ pub(crate) fn deliver<F: Folder + Drop, R: Wait>(
     ensures looked { loads pass.new ≡ loads pass.old }
     ensures unadded { added pass.new ≡ added pass.old }
     ensures length { IfOk result (λ r. r.0 ≡ length (seen pass.new)) }
-    ensures frames { IfOk result (λ r. (d : Key) (k : ℕ) → is_founded d k (seen pass.old) ≡ true → map (λ v. v.items) r.1.items ≡ frames_of (delivered (shown_at d k (seen pass.new)) session.old)) }
-    ensures after { OnOk result ((d : Key) (k : ℕ) → is_founded d k (seen pass.old) ≡ true → session.new ≡ after_delivery (shown_at d k (seen pass.new)) session.old) }
-    ensures told { OnOk result ((d : Key) (k : ℕ) → is_founded d k (seen pass.old) ≡ true → delivered (shown_at d k (seen pass.new)) session.new ≡ []) }
+    ensures frames { IfOk result
+        (λ r. (d : Key) (k : ℕ) → is_founded d k (seen pass.old) ≡ true → map (λ v. v.items) r.1.items
+        ≡ frames_of (delivered (shown_at d k (seen pass.new)) session.old)) }
+    ensures after { OnOk result
+        ((d : Key) (k : ℕ) → is_founded d k (seen pass.old) ≡ true → session.new
+        ≡ after_delivery (shown_at d k (seen pass.new)) session.old) }
+    ensures told { OnOk result
+        ((d : Key) (k : ℕ) → is_founded d k (seen pass.old) ≡ true → delivered (shown_at d k (seen pass.new)) session.new ≡ []) }
     ensures fault { IfErr result (IsFault pass.new) }
 {
     let mut guard = pass.enter(rt, cell)?;
@@ -168,8 +177,13 @@ pub(crate) fn robot_turn<F: Folder + Drop, R: Wait>(
     ensures looked { loads pass.new ≡ loads pass.old }
     ensures unadded { added pass.new ≡ added pass.old }
     ensures length { IfOk result (λ r. r.0 ≡ length (seen pass.new)) }
-    ensures round { IfOk result (λ r. (d : Key) (k : ℕ) → is_founded d k (seen pass.old) ≡ true → IsRoundAt d k (seen pass.new) (host_as ⟦<dyn Robot as Robot>⟧ host.old) (host_as ⟦<dyn Robot as Robot>⟧ host.new) r.1.name r.1.edits.items) }
-    ensures cut { OnErr result ((d : Key) (k : ℕ) → is_founded d k (seen pass.old) ≡ true → IsRoundCutAt d k (seen pass.new) (host_as ⟦<dyn Robot as Robot>⟧ host.old) (host_as ⟦<dyn Robot as Robot>⟧ host.new)) }
+    ensures round { IfOk result
+        (λ r. (d : Key) (k : ℕ) → is_founded d k (seen pass.old) ≡ true
+        → IsRoundAt d k (seen pass.new) (host_as ⟦<dyn Robot as Robot>⟧ host.old)
+        (host_as ⟦<dyn Robot as Robot>⟧ host.new) r.1.name r.1.edits.items) }
+    ensures cut { OnErr result
+        ((d : Key) (k : ℕ) → is_founded d k (seen pass.old) ≡ true
+        → IsRoundCutAt d k (seen pass.new) (host_as ⟦<dyn Robot as Robot>⟧ host.old) (host_as ⟦<dyn Robot as Robot>⟧ host.new)) }
     ensures fault { IfErr result (IsFault pass.new) }
 {
     let mut guard = pass.enter(rt, cell)?;
@@ -194,7 +208,9 @@ pub(crate) fn give<F: Folder + Drop, R: Wait>(
     ensures own { IsOf cell.now pass.new }
     ensures later { IsPrefix (seen pass.old) (seen pass.new) }
     ensures looked { loads pass.new ≡ loads pass.old }
-    ensures given { IfOk result (λ a. (d : Key) → is_founded d (shard_of name.now) (seen pass.old) ≡ true → IsGivenIn pass.old pass.new d (shard_of name.now) (gift_mark name.now giving.now) a) }
+    ensures given { IfOk result
+        (λ a. (d : Key) → is_founded d (shard_of name.now) (seen pass.old) ≡ true
+        → IsGivenIn pass.old pass.new d (shard_of name.now) (gift_mark name.now giving.now) a) }
     ensures unadded { OnErr result (added pass.new ≡ added pass.old) }
     ensures fault { IfErr result (IsFault pass.new) }
 {
@@ -219,7 +235,9 @@ pub(crate) fn seek<F: Folder + Drop, R: Wait>(
     ensures later { IsPrefix (seen pass.old) (seen pass.new) }
     ensures looked { loads pass.new ≡ loads pass.old }
     ensures unadded { added pass.new ≡ added pass.old }
-    ensures sought { IfOk result (λ s. (d : Key) (k : ℕ) → is_founded d k (seen pass.old) ≡ true → IsSought (items_of wanted domain.now (copied d k (seen pass.new))) place s) }
+    ensures sought { IfOk result
+        (λ s. (d : Key) (k : ℕ) → is_founded d k (seen pass.old) ≡ true
+        → IsSought (items_of wanted domain.now (copied d k (seen pass.new))) place s) }
     ensures fault { IfErr result (IsFault pass.new) }
 {
     let mut guard = pass.enter(rt, cell)?;

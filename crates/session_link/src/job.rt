@@ -97,7 +97,8 @@ impl<L: Link, F: Folder + Drop, C: Clock + Drop, G: Gate + Drop> LinkJob<L, F, C
 
     // The parts of a job, whose type keeps what a session needs.
     fn into_parts(self) -> (Arc<Hub<F>, Global>, Passes<F>, L, C, G, u64)
-        ensures { (result.0 ≡ self.hub) × (result.1 ≡ self.passes) × (result.2 ≡ self.link) × (result.3 ≡ self.clock) × (result.4 ≡ self.gate) × (result.5 ≡ self.number) }
+        ensures { (result.0 ≡ self.hub) × (result.1 ≡ self.passes) × (result.2 ≡ self.link) × (result.3 ≡ self.clock)
+            × (result.4 ≡ self.gate) × (result.5 ≡ self.number) }
     {
         let LinkJob {
             hub,
@@ -115,7 +116,8 @@ impl<L: Link, F: Folder + Drop, C: Clock + Drop, G: Gate + Drop> Job for LinkJob
     type End = LinkEnd<L, F>;
 
     ghost may_give = { λ j e. AreOfHub (arc_value j.hub) e.passes × Begins j.passes e.passes
-        × (IsTrue L.tells → (after : ℕ → ℕ) × IsEnded (server_of (arc_value j.hub)) j.passes e.passes C.tells (C.readings j.clock) after (L.events e.link) e.cause)
+        × (IsTrue L.tells → (after : ℕ → ℕ)
+        × IsEnded (server_of (arc_value j.hub)) j.passes e.passes C.tells (C.readings j.clock) after (L.events e.link) e.cause)
         × (e.cause ≡ Closed → L.closed e.link ≡ true) × (e.cause ≡ Failed → Rose (L.faults j.link) (L.faults e.link)) };
 
     #[tactic(auto, using(session_steps::proofs::Serving::no_events))]

@@ -208,7 +208,8 @@ fn reply<R: Wait, F: Folder + Drop, C: Clock, G: Gate>(
     ensures quiet { OnOk result (AreUnopened hub.now.domain client.new.session client.new.opened) }
     ensures replied { IfOk result (λ r. HasReplied C.Clock (server_of hub.now) passes.old passes.new clock.old clock.new
         (client.old.session, request) client.new.session (option_map reply_message r)) }
-    ensures halted { OnErr result (HasHalted C.Clock (server_of hub.now) passes.old passes.new clock.old clock.new (client.old.session, request)) }
+    ensures halted { OnErr result
+        (HasHalted C.Clock (server_of hub.now) passes.old passes.new clock.old clock.new (client.old.session, request)) }
     ensures short { IfOk result (λ r. IfSome r (λ m. IsShort (reply_message m))) }
     ensures cause { IfErr result (λ c. (c ≢ EndCause.Closed) × (c ≢ EndCause.Failed)) }
     ensures spent { IfErr result (λ c. (s : Spent) → c ≡ EndCause.Spent s → turn_limit ≤ s.ticket) }
@@ -275,7 +276,8 @@ pub(crate) fn reply_to<R: Wait, F: Folder + Drop, C: Clock, G: Gate>(
     ensures quiet { OnOk result (AreUnopened hub.now.domain client.new.session client.new.opened) }
     ensures replied { IfOk result (λ r. HasReplied C.Clock (server_of hub.now) passes.old passes.new clock.old clock.new
         (taken_bytes client.old.session bytes.now) client.new.session (option_map reply_message r)) }
-    ensures halted { OnErr result (HasHalted C.Clock (server_of hub.now) passes.old passes.new clock.old clock.new (taken_bytes client.old.session bytes.now)) }
+    ensures halted { OnErr result
+        (HasHalted C.Clock (server_of hub.now) passes.old passes.new clock.old clock.new (taken_bytes client.old.session bytes.now)) }
     ensures short { IfOk result (λ r. IfSome r (λ m. IsShort (reply_message m))) }
     ensures cause { IfErr result (λ c. (c ≢ EndCause.Closed) × (c ≢ EndCause.Failed)) }
     ensures spent { IfErr result (λ c. (s : Spent) → c ≡ EndCause.Spent s → turn_limit ≤ s.ticket) }

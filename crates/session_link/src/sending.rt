@@ -19,7 +19,9 @@ fn send_one<L: Link>(
     place: usize,
 ) -> Result<(), LinkFault>
     requires { place < length texts.now }
-    ensures ok { IsTrue L.tells → OnOk result (sent (L.events link.new) ++ texts_of (drop (place + 1) texts.now) ≡ sent (L.events link.old) ++ texts_of (drop place texts.now)) }
+    ensures ok { IsTrue L.tells
+        → OnOk result (sent (L.events link.new) ++ texts_of (drop (place + 1) texts.now) ≡ sent (L.events link.old)
+        ++ texts_of (drop place texts.now)) }
     ensures err { IsTrue L.tells → OnErr result (sent (L.events link.new) ≡ sent (L.events link.old)) }
     ensures more { IsTrue L.tells → IsPrefix (sent (L.events link.old)) (sent (L.events link.new)) }
     ensures received { IsTrue L.tells → received (L.events link.new) ≡ received (L.events link.old) }
@@ -41,7 +43,9 @@ pub(crate) fn send_all<L: Link>(
     texts: &[Vec<u8>],
 ) -> Result<(), LinkFault>
     ensures ok { IsTrue L.tells → OnOk result (sent (L.events link.new) ≡ sent (L.events link.old) ++ texts_of texts.now) }
-    ensures err { IsTrue L.tells → OnErr result (IsPrefix (sent (L.events link.old)) (sent (L.events link.new)) × IsPrefix (sent (L.events link.new)) (sent (L.events link.old) ++ texts_of texts.now)) }
+    ensures err { IsTrue L.tells
+        → OnErr result (IsPrefix (sent (L.events link.old)) (sent (L.events link.new))
+        × IsPrefix (sent (L.events link.new)) (sent (L.events link.old) ++ texts_of texts.now)) }
     ensures received { IsTrue L.tells → received (L.events link.new) ≡ received (L.events link.old) }
     ensures polls { IsTrue L.tells → poll_count (L.events link.new) ≡ poll_count (L.events link.old) }
     ensures failed { IfErr result (λ e. e ≡ Failed → Rose (L.faults link.old) (L.faults link.new)) }

@@ -31,7 +31,8 @@ use wave_outside::{Clock, Folder, Gate, Link, Polled};
 #[tactic(auto, using(session_steps::proofs::Events::received_same, session_steps::proofs::Events::polls_same, session_steps::proofs::Events::sent_text))]
 fn send_reply<L: Link>(alloc: Global, link: &mut L, reply: Option<Reply>) -> Result<(), EndCause>
     requires { IfSome reply (λ r. IsShort (reply_message r)) }
-    ensures sent { IsTrue L.tells → OnOk result (sent (L.events link.new) ≡ sent (L.events link.old) ++ reply_frames (option_map reply_message reply)) }
+    ensures sent { IsTrue L.tells
+        → OnOk result (sent (L.events link.new) ≡ sent (L.events link.old) ++ reply_frames (option_map reply_message reply)) }
     ensures unsent { IsTrue L.tells → OnErr result (sent (L.events link.new) ≡ sent (L.events link.old)) }
     ensures received { IsTrue L.tells → received (L.events link.new) ≡ received (L.events link.old) }
     ensures polls { IsTrue L.tells → poll_count (L.events link.new) ≡ poll_count (L.events link.old) }
@@ -82,7 +83,8 @@ fn look<R: Wait, F: Folder + Drop, L: Link, C: Clock, G: Gate>(
         → IfErr result (λ c. HasEnded C.Clock L.Link o (server_of hub.now) passes.new link.new clock.new c) }
     ensures polls { IsTrue L.tells → poll_count (L.events link.new) ≤ poll_count (L.events link.old) + 1 }
     ensures closed { IfErr result (λ c. c ≡ EndCause.Closed → L.closed link.new ≡ true) }
-    ensures unclosed { L.closed link.old ≡ false → MatchResult result (λ _. L.closed link.new ≡ false) (λ c. c ≢ EndCause.Closed → L.closed link.new ≡ false) }
+    ensures unclosed { L.closed link.old ≡ false
+        → MatchResult result (λ _. L.closed link.new ≡ false) (λ c. c ≢ EndCause.Closed → L.closed link.new ≡ false) }
     ensures failed { IfErr result (λ c. c ≡ EndCause.Failed → Rose (L.faults link.old) (L.faults link.new)) }
     ensures spent { IfErr result (λ c. (s : Spent) → c ≡ EndCause.Spent s → turn_limit ≤ s.ticket) }
     ensures faults { L.faults link.old ≤ L.faults link.new }
@@ -140,7 +142,8 @@ fn turn<R: Wait, F: Folder + Drop, L: Link, C: Clock, G: Gate>(
     ensures ended { (o : Origin) → GoesOn C.Clock L.Link o (server_of hub.now) passes.old link.old clock.old client.old.session
         → IfErr result (λ c. HasEnded C.Clock L.Link o (server_of hub.now) passes.new link.new clock.new c) }
     ensures closed { IfErr result (λ c. c ≡ EndCause.Closed → L.closed link.new ≡ true) }
-    ensures unclosed { L.closed link.old ≡ false → MatchResult result (λ _. L.closed link.new ≡ false) (λ c. c ≢ EndCause.Closed → L.closed link.new ≡ false) }
+    ensures unclosed { L.closed link.old ≡ false
+        → MatchResult result (λ _. L.closed link.new ≡ false) (λ c. c ≢ EndCause.Closed → L.closed link.new ≡ false) }
     ensures failed { IfErr result (λ c. c ≡ EndCause.Failed → Rose (L.faults link.old) (L.faults link.new)) }
     ensures spent { IfErr result (λ c. (s : Spent) → c ≡ EndCause.Spent s → turn_limit ≤ s.ticket) }
     ensures faults { L.faults link.old ≤ L.faults link.new }

@@ -59,16 +59,19 @@ HaveLooked loads es now fs = (k : ℕ) → k < 16 → loads k + poll_count fs �
 
 -- ---- sessions
 
-pub record IsReaching (v : ServerOf) (marks : ℕ → List Mark) (begun : ℕ → ℕ) (es : List LinkEvent) (s : Session) (read : List ℕ) (gained : ℕ) : Type 0 where
+pub record IsReaching (v : ServerOf) (marks : ℕ → List Mark) (begun : ℕ → ℕ) (es : List LinkEvent) (s : Session) (read : List ℕ)
+    (gained : ℕ) : Type 0 where
   pub serving : IsServing v marks begun es s read gained
   pub reached : (k : ℕ) → last_length begun k serving.steps ≤ length (marks k)
 
-pub record HasWorked (v : ServerOf) (marks now : ℕ → List Mark) (asked : Session × Request) (read : List ℕ) (gained : ℕ) (s : Session) (m : Option Message) : Type 0 where
+pub record HasWorked (v : ServerOf) (marks now : ℕ → List Mark) (asked : Session × Request) (read : List ℕ) (gained : ℕ) (s : Session)
+    (m : Option Message) : Type 0 where
   pub look : Option Look
   pub reading : Option ℕ
   pub work : Work
   pub reading_is : read ≡ reading_list reading
-  pub done : (begun : ℕ → ℕ) (ss : List LinkStep) → ((k : ℕ) → last_length begun k ss ≤ length (marks k)) → IsAsked v now begun ss asked look reading work
+  pub done : (begun : ℕ → ℕ) (ss : List LinkStep) → ((k : ℕ) → last_length begun k ss ≤ length (marks k))
+      → IsAsked v now begun ss asked look reading work
   pub within : (l : Look) → look ≡ Some l → l.length ≤ length (now l.shard)
   pub session : work.session ≡ s
   pub frames : work.frames ≡ reply_frames m
@@ -94,17 +97,22 @@ module _ {T K : Type 0} (clock : clock_of.Ghosts K) where
   origin_of ps c = record { begun = λ k. length (marks_of ps k); readings = clock.readings c; added = total 16 (λ k. added_at ps k) }
 
   abbrev pub HasReplied : ServerOf → Passes T Mark → Passes T Mark → K → K → Session × Request → Session → Option Message → Type 0
-  HasReplied v ps qs c e asked s m = BySince (origin_of ps c) qs e (λ read gained. HasWorked v (marks_of ps) (marks_of qs) asked read gained s m)
+  HasReplied v ps qs c e asked s m = BySince (origin_of ps c) qs e
+      (λ read gained. HasWorked v (marks_of ps) (marks_of qs) asked read gained s m)
 
   abbrev pub HasHalted : ServerOf → Passes T Mark → Passes T Mark → K → K → Session × Request → Type 0
-  HasHalted v ps qs c e asked = BySince (origin_of ps c) qs e (λ read gained. IsUnasked read gained ⊎ ((s : Session) × ((m : Option Message) × HasWorked v (marks_of ps) (marks_of qs) asked read gained s m)))
+  HasHalted v ps qs c e asked = BySince (origin_of ps c) qs e
+      (λ read gained. IsUnasked read gained ⊎
+      ((s : Session) × ((m : Option Message) × HasWorked v (marks_of ps) (marks_of qs) asked read gained s m)))
 
   module _ {L : Type 0} (link : link_of.Ghosts L) where
     abbrev pub GoesOn : Origin → ServerOf → Passes T Mark → L → K → Session → Type 0
-    GoesOn o v ps l c s = IsTrue link.tells → BySince o ps c (λ read gained. IsReaching v (marks_of ps) o.begun (link.events l) s read gained)
+    GoesOn o v ps l c s = IsTrue link.tells
+        → BySince o ps c (λ read gained. IsReaching v (marks_of ps) o.begun (link.events l) s read gained)
 
     abbrev pub HasBroken : Origin → ServerOf → Passes T Mark → L → K → Type 0
     HasBroken o v ps l c = IsTrue link.tells → BySince o ps c (λ read gained. IsBroken v (marks_of ps) o.begun (link.events l) read gained)
 
     abbrev pub HasEnded : Origin → ServerOf → Passes T Mark → L → K → EndCause → Type 0
-    HasEnded o v ps l c cause = IsTrue link.tells → BySince o ps c (λ read gained. IsOver v (marks_of ps) o.begun (link.events l) read gained cause)
+    HasEnded o v ps l c cause = IsTrue link.tells
+        → BySince o ps c (λ read gained. IsOver v (marks_of ps) o.begun (link.events l) read gained cause)

@@ -16,7 +16,8 @@ pub record AreTaken (before after : ℕ → ℕ) (readings : List ℕ) : Type 0 
   pub each : (i t : ℕ) → slice_get readings i ≡ Some t → t ≡ before i
   pub rest : (i : ℕ) → after i ≡ before (length readings + i)
 
-pub record IsEnded {T : Type 0} (v : ServerOf) (ps qs : Passes T Mark) (clock_tells : Bool) (before after : ℕ → ℕ) (es : List LinkEvent) (c : EndCause) : Type 0 where
+pub record IsEnded {T : Type 0} (v : ServerOf) (ps qs : Passes T Mark) (clock_tells : Bool) (before after : ℕ → ℕ) (es : List LinkEvent)
+    (c : EndCause) : Type 0 where
   pub readings : List ℕ
   pub added : ℕ
   pub over : IsOver v (marks_of qs) (λ k. length (marks_of ps k)) es readings added c

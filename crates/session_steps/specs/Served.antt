@@ -65,7 +65,8 @@ module _ (v : ServerOf) (marks : ℕ → List Mark) (begun : ℕ → ℕ) where
     pub unread : List (List ℕ)
     pub received : progress.received ++ unread ≡ received es
     pub one_message : length unread ≤ 1
-    pub sent_before : (st : LinkStep) (ss : List LinkStep) → steps ≡ st ∷ ss → (before : Progress) × IsWalk ss before × IsPrefix before.sent (sent es)
+    pub sent_before : (st : LinkStep) (ss : List LinkStep) → steps ≡ st ∷ ss → (before : Progress) × IsWalk ss before
+        × IsPrefix before.sent (sent es)
     pub sent : IsPrefix (sent es) progress.sent
     pub untold : List ℕ
     pub readings_are : readings ≡ progress.readings ++ untold

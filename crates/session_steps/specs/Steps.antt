@@ -74,7 +74,8 @@ module _ (v : ServerOf) (marks : ℕ → List Mark) (begun : ℕ → ℕ) (ss : 
 
   -- ---- replies, by what was asked for
 
-  pub record IsOpened (s : Session) (name : Key) (from : Option VersionAt) (look : Option Look) (reading : Option ℕ) (w : Work) : Type 0 where
+  pub record IsOpened (s : Session) (name : Key) (from : Option VersionAt) (look : Option Look) (reading : Option ℕ)
+      (w : Work) : Type 0 where
     pub at : Look
     pub cut : List Mark
     pub message : Message
@@ -85,7 +86,8 @@ module _ (v : ServerOf) (marks : ℕ → List Mark) (begun : ℕ → ℕ) (ss : 
     pub frames : w.frames ≡ frame_of message ∷ []
     pub added : w.added ≡ 0
 
-  pub record IsSubmitted (s : Session) (name : Key) (submission : Submission) (look : Option Look) (reading : Option ℕ) (w : Work) : Type 0 where
+  pub record IsSubmitted (s : Session) (name : Key) (submission : Submission) (look : Option Look) (reading : Option ℕ)
+      (w : Work) : Type 0 where
     pub at : Look
     pub cut : List Mark
     pub time : ℕ

@@ -59,7 +59,8 @@ impl<'a, F: Folder> ShardCopies<'a, F> {
     /// in the world.
     pub fn are_shown(&self)
         ensures same { IsSameShown (shown_kept self.now.hosted.domain.now self.now.hosted.shelf.now self.now.replicas.now)
-            (shown_among self.now.hosted.domain.now (hosted_by self.now.hosted.domain.now (hosted_of self.now.hosted.shelf.now)) (worlds_of self.now.replicas.now)) }
+            (shown_among self.now.hosted.domain.now (hosted_by self.now.hosted.domain.now (hosted_of self.now.hosted.shelf.now))
+            (worlds_of self.now.replicas.now)) }
         ensures deltas { HaveDeltas (hosted_by self.now.hosted.domain.now (hosted_of self.now.hosted.shelf.now)) }
         ensures ascending { AreAscending (names_of (hosted_by self.now.hosted.domain.now (hosted_of self.now.hosted.shelf.now))) }
     {

@@ -95,7 +95,8 @@ pub record IsJudged (v : ServerOf) (k : ℕ) (ms ns : List Mark) (n : Key) (s : 
   pub longer : length ns ≡ length ms + gained
   pub answer : IsAnswer v k ns n s t a gained
 
-pub record IsAnswered {T : Type 0} (v : ServerOf) (k : ℕ) (ps qs : Passes T Mark) (n : Key) (s : Submission) (t : ℕ) (a : SubmitAnswer) : Type 0 where
+pub record IsAnswered {T : Type 0} (v : ServerOf) (k : ℕ) (ps qs : Passes T Mark) (n : Key) (s : Submission) (t : ℕ)
+    (a : SubmitAnswer) : Type 0 where
   pub gained : ℕ
   pub added : added_at qs k ≡ added_at ps k + gained
   pub grown : length (seen_at ps k) + gained ≤ length (seen_at qs k)

@@ -30,4 +30,6 @@ abbrev pub AreMembersBack : State → Type 0
 AreMembersBack s = with_members (items_of (map (member_data s) (keys s.roles))) ≡ Some (record { roles = s.roles; documents = empty })
 
 abbrev pub AreDocumentsBack : State → Type 0
-AreDocumentsBack s = (r : Map Role) → with_documents (record { roles = r; documents = empty }) (items_of (map (document_data s) (keys s.documents))) ≡ Some (record { roles = r; documents = s.documents })
+AreDocumentsBack s = (r : Map Role)
+    → with_documents (record { roles = r; documents = empty }) (items_of (map (document_data s) (keys s.documents)))
+    ≡ Some (record { roles = r; documents = s.documents })

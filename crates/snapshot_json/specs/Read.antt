@@ -43,7 +43,8 @@ opened s e = option_and_then (not_empty e.0) (apply_act s (Mutates e.0 (actions 
 module _ {X : Type 0} (read : Data → Option (Key × X)) (step : State → Key × X → Option State) where
   abbrev pub states_from : State → Option Key → Items → Option State
   states_from s last no_items = Some s
-  states_from s last (item d ds) = option_and_then (λ e. if is_next last e.0 then option_and_then (λ t. states_from t (Some e.0) ds) (step s e) else None) (read d)
+  states_from s last (item d ds) = option_and_then
+      (λ e. if is_next last e.0 then option_and_then (λ t. states_from t (Some e.0) ds) (step s e) else None) (read d)
 
 abbrev pub with_members : Items → Option State
 with_members ds = states_from member_of joined empty_state None ds
@@ -52,5 +53,6 @@ abbrev pub with_documents : State → Items → Option State
 with_documents s ds = states_from document_of opened s None ds
 
 abbrev pub state_of : Data → Option State
-state_of d = option_and_then (λ members. option_and_then (λ documents. option_and_then (λ s. with_documents s documents) (with_members members))
+state_of d = option_and_then
+    (λ members. option_and_then (λ documents. option_and_then (λ s. with_documents s documents) (with_members members))
     (in_member as_array (codes "documents") d)) (in_member as_array (codes "participants") d)

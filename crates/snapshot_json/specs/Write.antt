@@ -23,7 +23,8 @@ abbrev pub member_data : State → Key → Data
 member_data s a = object (member (codes "address") (string a) (member (codes "role") (role_data (unwrap_or (role_of s a) Full)) no_members))
 
 abbrev pub document_data : State → Key → Data
-document_data s d = object (member (codes "name") (string d) (member (codes "operation") (op_data (insertion_of (document_of s d))) no_members))
+document_data s d = object
+    (member (codes "name") (string d) (member (codes "operation") (op_data (insertion_of (document_of s d))) no_members))
 
 abbrev pub members_data : State → Data
 members_data s = list_data (member_data s) (keys s.roles)

@@ -188,7 +188,8 @@ fn both_in(
     members: &[Value],
     documents: &[Value],
 ) -> Result<Option<WaveletState>, Memory>
-    ensures { IfOk result (λ s. s ≡ option_and_then (λ t. with_documents t (items_view documents.now)) (with_members (items_view members.now))) }
+    ensures { IfOk result (λ s. s
+        ≡ option_and_then (λ t. with_documents t (items_view documents.now)) (with_members (items_view members.now))) }
 {
     match members_in(alloc, members)? {
         Some(state) => documents_in(alloc, state, documents),

@@ -95,7 +95,8 @@ impl StagedLink {
 
     // Ends the turn that was on.
     fn end_turn(&mut self)
-        ensures { (self.new.link ≡ self.old.link) × (self.new.faults ≡ self.old.faults) × (self.new.looks ≡ self.old.looks) × (self.new.has_closed ≡ self.old.has_closed) }
+        ensures { (self.new.link ≡ self.old.link) × (self.new.faults ≡ self.old.faults) × (self.new.looks ≡ self.old.looks)
+            × (self.new.has_closed ≡ self.old.has_closed) }
     {
         if let Some(turn) = self.on {
             self.stage.end(turn.number);
@@ -113,7 +114,8 @@ impl StagedLink {
 
     // Begins the next turn, if one is left.
     fn next_turn(&mut self)
-        ensures { (self.new.link ≡ self.old.link) × (self.new.faults ≡ self.old.faults) × (self.new.looks ≡ self.old.looks) × (self.new.has_closed ≡ self.old.has_closed) }
+        ensures { (self.new.link ≡ self.old.link) × (self.new.faults ≡ self.old.faults) × (self.new.looks ≡ self.old.looks)
+            × (self.new.has_closed ≡ self.old.has_closed) }
     {
         let next = self.turns.pop();
         if let Some(turn) = next {

@@ -71,7 +71,8 @@ impl StagedNet {
 
     // Takes the room to put one more link back.
     fn reserve(&mut self) -> Result<(), AllocError>
-        ensures back { (self.new.back.items ≡ self.old.back.items) × (self.new.out ≡ self.old.out) × (self.new.accepted ≡ self.old.accepted) }
+        ensures back { (self.new.back.items ≡ self.old.back.items) × (self.new.out ≡ self.old.out)
+            × (self.new.accepted ≡ self.old.accepted) }
         ensures same { (self.new.door ≡ self.old.door) × (self.new.line ≡ self.old.line) × (self.new.looks ≡ self.old.looks) }
         ensures room { OnOk result ((vec_len self.new.back + self.new.out + 1 ≤ vec_capacity self.new.back) × (self.new.out + 1 < 2 ^ 64)) }
     {

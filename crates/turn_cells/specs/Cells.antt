@@ -39,7 +39,8 @@ module _ {T E : Type 0} where
   IsOfAt-prop None b = λ x y. absurd x
 
   pub AreOf-prop : (c : Cells T E) (ps : Passes T E) → IsProp (AreOf c ps)
-  AreOf-prop c ps = ×_prop (Coded-set coded_ℕ _ _) (λ f g i k l. IsOfAt-prop (slice_get c.list.items k) (slice_get ps.list.items k) (f k l) (g k l) i)
+  AreOf-prop c ps = ×_prop (Coded-set coded_ℕ _ _)
+      (λ f g i k l. IsOfAt-prop (slice_get c.list.items k) (slice_get ps.list.items k) (f k l) (g k l) i)
 
   -- ---- one place
 

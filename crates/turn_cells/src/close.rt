@@ -25,7 +25,8 @@ impl<T: Logged> Cells<T> {
     pub fn close(self, passes: Passes<T>) -> Option<Vec<T>>
         requires { AreOf self passes }
         ensures sixteen { IfSome result (λ values. length values.items ≡ 16) }
-        ensures seen { IfSome result (λ values. (k : ℕ) (v : T) → slice_get values.items k ≡ Some v → IsPrefix (seen_at passes k) (T.entries v)) }
+        ensures seen { IfSome result
+            (λ values. (k : ℕ) (v : T) → slice_get values.items k ≡ Some v → IsPrefix (seen_at passes k) (T.entries v)) }
     {
         let Cells { mut list, mut room } = self;
         let Passes { list: mut passes } = passes;

@@ -28,7 +28,8 @@ impl<T: Logged> Cells<T> {
         requires { AreOf self.now passes.old × AreOf self.now other }
         ensures own { AreOf self.now passes.new }
         ensures later { Begins passes.old passes.new × Begins other passes.new }
-        ensures counts { (k : ℕ) → k < 16 → (loads_at passes.new k ≡ loads_at passes.old k) × (added_at passes.new k ≡ added_at passes.old k) }
+        ensures counts { (k : ℕ) → k < 16 → (loads_at passes.new k ≡ loads_at passes.old k)
+            × (added_at passes.new k ≡ added_at passes.old k) }
     {
         let Passes { mut list } = other;
         while let Some(pass) = list.pop() {
@@ -47,7 +48,8 @@ impl<T: Logged> Cells<T> {
         ensures later { BeginsAt passes.old passes.new place }
         ensures length { result ≡ length (seen_at passes.new place) }
         ensures bound { length (seen_at passes.old place) ≤ result }
-        ensures counts { (loads_at passes.new place ≡ loads_at passes.old place + 1) × (added_at passes.new place ≡ added_at passes.old place) }
+        ensures counts { (loads_at passes.new place ≡ loads_at passes.old place + 1)
+            × (added_at passes.new place ≡ added_at passes.old place) }
         ensures ticket { ticket_at passes.new place ≡ ticket_at passes.old place }
     {
         self.list[place].head(&mut passes.list[place])

@@ -41,7 +41,8 @@ module _ {T E : Type 0} where
 
   -- the look after a join
   abbrev pub Settles : ℕ → Place T E → Place T E → Type 0
-  Settles id s s' = (v : View E) × (xs : List E) × Stands s id v (Told xs) × (s' ≡ looked s 0 id (record v { seen = longer_of v.seen xs; stage = Out }))
+  Settles id s s' = (v : View E) × (xs : List E) × Stands s id v (Told xs)
+      × (s' ≡ looked s 0 id (record v { seen = longer_of v.seen xs; stage = Out }))
 
   -- the seat whose ticket is served takes the value out, and has seen its entries
   abbrev pub Takes : (T → List E) → ℕ → Place T E → Place T E → Type 0

@@ -16,7 +16,8 @@ module _ {T E : Type 0} where
 
   -- the ticket word, which is the seat's own ticket where it is the word last read
   abbrev pub TellsDraw : Step (Option T) → Sat T E → ℕ → Sat T E → Type 0
-  TellsDraw st m n m' = MatchBool (n == st.first) (m' ≡ (record m.0 { ticket = n; stage = Waits n }, m.1)) (m' ≡ (record m.0 { ticket = n }, m.1))
+  TellsDraw st m n m' = MatchBool (n == st.first) (m' ≡ (record m.0 { ticket = n; stage = Waits n }, m.1))
+      (m' ≡ (record m.0 { ticket = n }, m.1))
 
   -- whether the seat's ticket is served
   abbrev pub TellsServing : Step (Option T) → Sat T E → ℕ → Sat T E → Type 0
@@ -24,7 +25,8 @@ module _ {T E : Type 0} where
 
   -- the history of the length found
   abbrev pub TellsHead : Step (Option T) → Sat T E → ℕ → Sat T E → Type 0
-  TellsHead st m n m' = (m' ≡ (record m.0 { seen = m'.0.seen; loads = m.0.loads + 1 }, m.1)) × IsPrefix m.0.seen m'.0.seen × (length m'.0.seen ≡ n)
+  TellsHead st m n m' = (m' ≡ (record m.0 { seen = m'.0.seen; loads = m.0.loads + 1 }, m.1)) × IsPrefix m.0.seen m'.0.seen
+      × (length m'.0.seen ≡ n)
 
   -- the value, whose entries are now seen
   abbrev pub TellsTaken : (T → List E) → Step (Option T) → Sat T E → ℕ → Sat T E → Type 0

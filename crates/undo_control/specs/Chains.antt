@@ -43,7 +43,8 @@ changed c acts = option_and_then (λ t. option_map (λ p. record { state = t; en
 -- the first entry that can't pass what is left of the acts meets too many items there
 abbrev pub IsCrowded : List (List Act) → List Act → Type 0
 IsCrowded [] acts = ⊥
-IsCrowded (entry ∷ rest) acts = ((k : ℕ) × (bounded_grid entry acts ≡ Err (k, TooLarge))) ⊎ ((p : Lists) × (past entry acts ≡ Some p) × IsCrowded rest p.1)
+IsCrowded (entry ∷ rest) acts = ((k : ℕ) × (bounded_grid entry acts ≡ Err (k, TooLarge))) ⊎
+    ((p : Lists) × (past entry acts ≡ Some p) × IsCrowded rest p.1)
 
 -- ---- an undo
 

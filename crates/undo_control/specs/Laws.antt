@@ -30,13 +30,15 @@ UndoKeeps = (c d : ChainOf) → IsInTurn c → undone c ≡ Some d → IsInTurn 
 -- ---- a change made by others
 
 abbrev pub ChangeIsTaken : Type 0
-ChangeIsTaken = (c : ChainOf) (acts : List Act) (t : State) → IsInTurn c → run c.state acts ≡ Some t → ((d : ChainOf) × (changed c acts ≡ Some d)) ⊎ IsCrowded c.entries acts
+ChangeIsTaken = (c : ChainOf) (acts : List Act) (t : State) → IsInTurn c → run c.state acts ≡ Some t
+    → ((d : ChainOf) × (changed c acts ≡ Some d)) ⊎ IsCrowded c.entries acts
 
 abbrev pub CrowdIsRefused : Type 0
 CrowdIsRefused = (c : ChainOf) (acts : List Act) → IsCrowded c.entries acts → changed c acts ≡ None
 
 abbrev pub ChangeHasRoom : Type 0
-ChangeHasRoom = (n : ℕ) (c : ChainOf) (acts : List Act) (t : State) → IsSmall n c.state → n + (inserted_all c.entries + inserted acts) ≤ max_count → IsInTurn c → run c.state acts ≡ Some t
+ChangeHasRoom = (n : ℕ) (c : ChainOf) (acts : List Act) (t : State) → IsSmall n c.state → n + (inserted_all c.entries + inserted acts)
+    ≤ max_count → IsInTurn c → run c.state acts ≡ Some t
     → (d : ChainOf) × (changed c acts ≡ Some d)
 
 -- ---- how many items entries insert
@@ -48,7 +50,8 @@ abbrev pub max_back : ℕ
 max_back = 5497558138880
 
 abbrev pub EditIsLight : Type 0
-EditIsLight = (n m : ℕ) (c d : ChainOf) (acts : List Act) → IsSmall n c.state → length acts ≤ 2 → n + (n + inserted acts) ≤ m → IsLight m c → edited c acts ≡ Some d → IsLight m d
+EditIsLight = (n m : ℕ) (c d : ChainOf) (acts : List Act) → IsSmall n c.state → length acts ≤ 2 → n + (n + inserted acts) ≤ m → IsLight m c
+    → edited c acts ≡ Some d → IsLight m d
 
 abbrev pub ChangeIsLight : Type 0
 ChangeIsLight = (m : ℕ) (c d : ChainOf) (acts : List Act) → IsInTurn c → IsLight m c → changed c acts ≡ Some d → IsLight m d
@@ -60,5 +63,6 @@ AreShort c [] = Unit {0}
 AreShort c (acts ∷ more) = (length (inverse_acts c.state acts) ≤ 1000) × ((d : ChainOf) → edited c acts ≡ Some d → AreShort d more)
 
 abbrev pub UndosTakeBack : Type 0
-UndosTakeBack = (c d : ChainOf) (edits : List (List Act)) → IsWhole c.state → length c.entries ≤ max_entries → length edits ≤ max_entries → AreShort c edits → edited_all c edits ≡ Some d
+UndosTakeBack = (c d : ChainOf) (edits : List (List Act)) → IsWhole c.state → length c.entries ≤ max_entries → length edits ≤ max_entries
+    → AreShort c edits → edited_all c edits ≡ Some d
     → undone_times (length edits) d ≡ Some (record { state = c.state; entries = take (max_entries - length edits) c.entries })

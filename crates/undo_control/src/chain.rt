@@ -148,7 +148,8 @@ impl UndoChain {
 
     // The entries past the operations; None where these aren't valid, or meet one with which they are over too many items.
     fn past(&self, alloc: Global, ops: &Ops) -> Result<Option<Vec<Ops>>, Memory>
-        ensures { IfOk result (λ o. MatchOption o (changed (chain_of self.now) (meanings ops.now) ≡ None) (λ es. IsPast (chain_of self.now) (meanings ops.now) es.items)) }
+        ensures { IfOk result (λ o. MatchOption o (changed (chain_of self.now) (meanings ops.now) ≡ None)
+            (λ es. IsPast (chain_of self.now) (meanings ops.now) es.items)) }
     {
         if !ops.is_structured() {
             return Ok(None);

@@ -8,7 +8,9 @@ use Rattle.wave_base.specs.Grammar.{is_word, is_user, is_id, is_domain, dot, sla
 use Rattle.wave_base.specs.declared.scanner.Alphabet.TheVariants.{Label}
 
 abbrev pub IsDomain : List ℕ → Type 0
-IsDomain t = (label : List ℕ) × ((labels : List (List ℕ)) × ((length t ≤ 255) × (list_all (is_word Label) (label ∷ labels) ≡ true) × (t ≡ join_with_byte dot (label ∷ labels))))
+IsDomain t = (label : List ℕ)
+    × ((labels : List (List ℕ))
+    × ((length t ≤ 255) × (list_all (is_word Label) (label ∷ labels) ≡ true) × (t ≡ join_with_byte dot (label ∷ labels))))
 
 abbrev pub IsAddress : List ℕ → List ℕ → List ℕ → Type 0
 IsAddress user domain t = (is_user user ≡ true) × (is_domain domain ≡ true) × (t ≡ user ++ at_sign ∷ domain)

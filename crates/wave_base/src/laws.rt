@@ -19,6 +19,8 @@ pub fn addresses_have_two_parts()
 /// together so is a name with that host.
 #[tactic(auto, using(crate::proofs::Made::name_apart))]
 pub fn wavelet_names_have_four_parts()
-    ensures apart { (t : List ℕ) → is_wavelet_name t ≡ true → (wave_domain wave_id id : List ℕ) × IsWaveletName wave_domain wave_id (host_of t) id t }
-    ensures made { (wave_domain wave_id domain id t : List ℕ) → IsWaveletName wave_domain wave_id domain id t → (is_wavelet_name t ≡ true) × (host_of t ≡ domain) }
+    ensures apart { (t : List ℕ) → is_wavelet_name t ≡ true → (wave_domain wave_id id : List ℕ)
+        × IsWaveletName wave_domain wave_id (host_of t) id t }
+    ensures made { (wave_domain wave_id domain id t : List ℕ) → IsWaveletName wave_domain wave_id domain id t → (is_wavelet_name t ≡ true)
+        × (host_of t ≡ domain) }
 {}

@@ -22,7 +22,8 @@ pub record TakenOf : Type 0 where
   pub deltas : List DeltaOf
 
 abbrev pub taken_code : Coded DeltaOf → Coded TakenOf
-taken_code delta = code_by (Key × List DeltaOf) (coded× (coded_list coded_ℕ) (coded_list delta)) (λ t. (t.name, t.deltas)) (λ p. record { name = p.0; deltas = p.1 }) (λ _. refl)
+taken_code delta = code_by (Key × List DeltaOf) (coded× (coded_list coded_ℕ) (coded_list delta)) (λ t. (t.name, t.deltas))
+    (λ p. record { name = p.0; deltas = p.1 }) (λ _. refl)
 
 abbrev pub Histories : Type 0
 Histories = Map TakenOf

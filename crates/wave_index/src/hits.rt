@@ -56,7 +56,8 @@ fn put_hit(
     word: &Word,
     hits: &mut Vec<Hit>,
 ) -> Result<(), Memory>
-    ensures { OnOk result (hits.new.items ≡ hits.old.items ++ cond (is_hit state.now word.now document.now) (hit_at name.now document.now ∷ []) []) }
+    ensures { OnOk result (hits.new.items ≡ hits.old.items
+        ++ cond (is_hit state.now word.now document.now) (hit_at name.now document.now ∷ []) []) }
 {
     if is_hit(alloc, state, document, word)? {
         let name = name.copy(alloc)?;
@@ -74,7 +75,8 @@ pub(crate) fn put_hits(
     word: &Word,
     hits: &mut Vec<Hit>,
 ) -> Result<(), Memory>
-    ensures { OnOk result (hits.new.items ≡ hits.old.items ++ map (hit_at name.now) (filter (is_hit state.now word.now) (keys state.now.documents))) }
+    ensures { OnOk result (hits.new.items ≡ hits.old.items
+        ++ map (hit_at name.now) (filter (is_hit state.now word.now) (keys state.now.documents))) }
 {
     let documents = state.document_names(alloc)?;
     for document in documents.as_slice() {
@@ -94,7 +96,8 @@ pub(crate) fn put_held(
     hits: &mut Vec<Hit>,
 ) -> Result<(), Memory>
     requires { (w d : Key) → count_in places.now w name.now d ≡ counted state.now w d }
-    ensures { OnOk result (hits.new.items ≡ hits.old.items ++ map (hit_at name.now) (filter (is_hit state.now word.now) (keys state.now.documents))) }
+    ensures { OnOk result (hits.new.items ≡ hits.old.items
+        ++ map (hit_at name.now) (filter (is_hit state.now word.now) (keys state.now.documents))) }
 {
     for document in places.holders(alloc, word, name)?.as_slice() {
         let name = name.copy(alloc)?;

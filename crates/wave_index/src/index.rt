@@ -55,7 +55,11 @@ impl Model for Index {
 
     ghost view = { λ i. from_entries i.wavelets.entries };
 
-    ghost invariant = { λ i. record { named : AreNamed (from_entries i.wavelets.entries); words : CountsAs i.words.places (counts_in (from_entries i.wavelets.entries)) } };
+    ghost invariant = { λ i. record {
+      named : AreNamed (from_entries i.wavelets.entries);
+      words : CountsAs i.words.places
+          (counts_in (from_entries i.wavelets.entries));
+    } };
 }
 
 impl Index {

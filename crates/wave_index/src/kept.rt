@@ -62,7 +62,8 @@ fn move_words(
     document: &DocumentName,
     way: Way,
 ) -> Result<(), Memory>
-    ensures { OnOk result ((w n d : Key) → count_in places.new w n d ≡ moved way (count_in places.old w n d) (cond (same_text name.now n && same_text document.now d) (occurrences w words.now) 0)) }
+    ensures { OnOk result ((w n d : Key) → count_in places.new w n d
+        ≡ moved way (count_in places.old w n d) (cond (same_text name.now n && same_text document.now d) (occurrences w words.now) 0)) }
 {
     match way {
         Way::Out => {
@@ -83,7 +84,9 @@ fn move_document(
     ops: &[WaveletOp],
     way: Way,
 ) -> Result<(), Memory>
-    ensures { OnOk result ((w n d : Key) → count_in places.new w n d ≡ moved way (count_in places.old w n d) (cond (same_text name.now n && same_text document.now d) (touched state.now ops.now w d) 0)) }
+    ensures { OnOk result ((w n d : Key) → count_in places.new w n d
+        ≡ moved way (count_in places.old w n d)
+        (cond (same_text name.now n && same_text document.now d) (touched state.now ops.now w d) 0)) }
 {
     if is_manifest(document) {
         return Ok(());
@@ -104,7 +107,8 @@ fn move_first(
 ) -> Result<(), Memory>
     requires { place < length ops.now }
     ensures { OnOk result ((w n d : Key) → count_in places.new w n d
-        ≡ moved way (count_in places.old w n d) (cond (same_text name.now n && is_first d ops.now place) (touched state.now ops.now w d) 0)) }
+        ≡ moved way (count_in places.old w n d)
+        (cond (same_text name.now n && is_first d ops.now place) (touched state.now ops.now w d) 0)) }
 {
     let WaveletOp::Mutate { document, .. } = &ops[place] else {
         return Ok(());
@@ -124,7 +128,8 @@ fn move_all(
     ops: &[WaveletOp],
     way: Way,
 ) -> Result<(), Memory>
-    ensures { OnOk result ((w n d : Key) → count_in places.new w n d ≡ moved way (count_in places.old w n d) (cond (same_text name.now n) (touched state.now ops.now w d) 0)) }
+    ensures { OnOk result ((w n d : Key) → count_in places.new w n d
+        ≡ moved way (count_in places.old w n d) (cond (same_text name.now n) (touched state.now ops.now w d) 0)) }
 {
     for place in 0..ops.len() {
         move_first(alloc, places, name, state, ops, place, way)?;
@@ -141,7 +146,8 @@ fn shifted(
     ops: &[WaveletOp],
     way: Way,
 ) -> Option<WordPlaces>
-    ensures { IfSome result (λ p. (w n d : Key) → count_in p w n d ≡ moved way (count_in places w n d) (cond (same_text name.now n) (touched state.now ops.now w d) 0)) }
+    ensures { IfSome result (λ p. (w n d : Key) → count_in p w n d
+        ≡ moved way (count_in places w n d) (cond (same_text name.now n) (touched state.now ops.now w d) 0)) }
 {
     match move_all(alloc, &mut places, name, state, ops, way) {
         Ok(()) => Some(places),

@@ -83,9 +83,11 @@ impl Wavelet {
         ensures refused { IfErr result (IsRefused (history_of self.old) delta.now) }
         ensures same { OnErr result (self.new ≡ self.old) }
         ensures named { self.new.name ≡ self.old.name }
-        ensures words_ok { OnOk result ((f : Key → Key → Key → ℕ) → IsOf f self.old.name (point_of self.old).state → CountsAs words.old.places f
+        ensures words_ok { OnOk result
+            ((f : Key → Key → Key → ℕ) → IsOf f self.old.name (point_of self.old).state → CountsAs words.old.places f
             → CountsAs words.new.places (λ w n d. cond (same_text self.old.name n) (counted (point_of self.new).state w d) (f w n d))) }
-        ensures words_err { OnErr result ((f : Key → Key → Key → ℕ) → IsOf f self.old.name (point_of self.old).state → CountsAs words.old.places f
+        ensures words_err { OnErr result
+            ((f : Key → Key → Key → ℕ) → IsOf f self.old.name (point_of self.old).state → CountsAs words.old.places f
             → CountsAs words.new.places f) }
     {
         let end = end_of(delta);

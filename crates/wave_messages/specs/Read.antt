@@ -72,7 +72,8 @@ to_session session (Err k) = Err (Some session, k)
 
 -- a session and a message that stand alone in the object
 abbrev pub framed : Data → Option (List ℕ × Data)
-framed d = if has_members 2 d then option_and_then (λ session. option_and_then (λ m. Some (session, m)) (get (codes "message") d)) (named_session d) else None
+framed d = if has_members 2 d then option_and_then (λ session. option_and_then (λ m. Some (session, m)) (get (codes "message") d))
+    (named_session d) else None
 
 abbrev pub line_in : Option (List ℕ) → Option (List ℕ × Data) → Result (List ℕ × Message) Refused
 line_in named None = Err (named, NotMessage)

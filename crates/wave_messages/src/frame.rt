@@ -23,7 +23,8 @@ fn push_around(session: &SessionName, message: &[u8], out: &mut Vec<u8>) -> Resu
 /// sessions is written once. The error is want of memory.
 #[tactic(auto, using(crate::proofs::Frames::framed_is))]
 pub fn push_framed(session: &SessionName, message: &[u8], out: &mut Vec<u8>) -> Result<(), Memory>
-    ensures { OnOk result ((m : Data) → message.now ≡ compact_text m → out.new.items ≡ out.old.items ++ (compact_text (line_data session.now m) ++ 10 ∷ [])) }
+    ensures { OnOk result ((m : Data) → message.now ≡ compact_text m → out.new.items ≡ out.old.items
+        ++ (compact_text (line_data session.now m) ++ 10 ∷ [])) }
 {
     let _id = session.text();
     push_around(session, message, out)

@@ -64,7 +64,8 @@ fn framed<'v>(alloc: Global, value: &'v Value) -> Result<Option<(SessionName, &'
 // The message of a session, as its value is judged.
 fn to_session(alloc: Global, session: SessionName, value: &Value) -> Result<Line, LineFault>
     ensures ok { IfOk result (λ line. to_session session (judged (view value.now)) ≡ Ok (line.session, line.message)) }
-    ensures refused { IfErr result (λ e. (s : Option (List ℕ)) (k : Kind) → e ≡ LineFault.Bad s k → to_session session (judged (view value.now)) ≡ Err (s, k)) }
+    ensures refused { IfErr result
+        (λ e. (s : Option (List ℕ)) (k : Kind) → e ≡ LineFault.Bad s k → to_session session (judged (view value.now)) ≡ Err (s, k)) }
 {
     match judged(alloc, value) {
         Ok(message) => Ok(Line { session, message }),

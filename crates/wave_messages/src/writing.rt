@@ -34,7 +34,8 @@ pub fn write(alloc: Global, message: &Message) -> Result<Vec<u8>, Memory>
     requires { IsShort message.now }
     ensures value { IfOk result (λ bytes. bytes.items ≡ compact_text (message_data message.now)) }
     ensures back { IfOk result (λ _. InRange message.now → IsReadBack message.now) }
-    ensures read { IfOk result (λ bytes. InRange message.now → (limit : ℕ) → length bytes.items ≤ limit → read_of bytes.items limit ≡ Ok message.now) }
+    ensures read { IfOk result
+        (λ bytes. InRange message.now → (limit : ℕ) → length bytes.items ≤ limit → read_of bytes.items limit ≡ Ok message.now) }
 {
     let value = message_value(alloc, message)?;
     compact(alloc, &value)
@@ -54,7 +55,9 @@ fn line_value(alloc: Global, session: &str, message: Value) -> Result<Value, Mem
 pub fn write_line(alloc: Global, session: &str, message: &Message) -> Result<Vec<u8>, Memory>
     requires { IsShort message.now }
     ensures value { IfOk result (λ bytes. bytes.items ≡ compact_text (line_data session.now (message_data message.now))) }
-    ensures read { IfOk result (λ bytes. is_id session.now ≡ true → InRange message.now → length bytes.items ≤ max_client → line_read bytes.items ≡ Ok (session.now, message.now)) }
+    ensures read { IfOk result
+        (λ bytes. is_id session.now ≡ true → InRange message.now → length bytes.items ≤ max_client → line_read bytes.items
+        ≡ Ok (session.now, message.now)) }
 {
     let message = message_value(alloc, message)?;
     let line = line_value(alloc, session, message)?;

@@ -103,7 +103,8 @@ impl MemoryNet {
     // The next offer of the list.
     fn next_offer(&mut self) -> Option<Accepted<MemoryLink>>
         ensures back { (self.new.back ≡ self.old.back) × (self.new.out ≡ self.old.out) × (self.new.accepted ≡ self.old.accepted) }
-        ensures same { (self.new.door ≡ self.old.door) × (self.new.line ≡ self.old.line) × (self.new.looks ≡ self.old.looks) × (self.new.asked ≡ self.old.asked) }
+        ensures same { (self.new.door ≡ self.old.door) × (self.new.line ≡ self.old.line) × (self.new.looks ≡ self.old.looks)
+            × (self.new.asked ≡ self.old.asked) }
     {
         self.accepts.pop()
     }
@@ -111,15 +112,18 @@ impl MemoryNet {
     // The next link of those that can be dialled.
     fn next_dial(&mut self) -> Option<MemoryLink>
         ensures back { (self.new.back ≡ self.old.back) × (self.new.out ≡ self.old.out) × (self.new.accepted ≡ self.old.accepted) }
-        ensures same { (self.new.door ≡ self.old.door) × (self.new.line ≡ self.old.line) × (self.new.looks ≡ self.old.looks) × (self.new.asked ≡ self.old.asked) }
+        ensures same { (self.new.door ≡ self.old.door) × (self.new.line ≡ self.old.line) × (self.new.looks ≡ self.old.looks)
+            × (self.new.asked ≡ self.old.asked) }
     {
         self.dials.pop()
     }
 
     // Takes the room to put one more link back.
     fn reserve(&mut self) -> Result<(), AllocError>
-        ensures back { (self.new.back.items ≡ self.old.back.items) × (self.new.out ≡ self.old.out) × (self.new.accepted ≡ self.old.accepted) }
-        ensures same { (self.new.door ≡ self.old.door) × (self.new.line ≡ self.old.line) × (self.new.looks ≡ self.old.looks) × (self.new.asked ≡ self.old.asked) }
+        ensures back { (self.new.back.items ≡ self.old.back.items) × (self.new.out ≡ self.old.out)
+            × (self.new.accepted ≡ self.old.accepted) }
+        ensures same { (self.new.door ≡ self.old.door) × (self.new.line ≡ self.old.line) × (self.new.looks ≡ self.old.looks)
+            × (self.new.asked ≡ self.old.asked) }
         ensures room { OnOk result ((vec_len self.new.back + self.new.out + 1 ≤ vec_capacity self.new.back) × (self.new.out + 1 < 2 ^ 64)) }
     {
         let Some(more) = self.out.checked_add(1) else {

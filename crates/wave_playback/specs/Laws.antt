@@ -21,5 +21,6 @@ run_each s [] = Some s
 run_each s (acts ∷ more) = option_and_then (λ t. run_each t more) (run s acts)
 
 abbrev pub LeadBack : Type 0
-LeadBack = (name : List ℕ) (before behind : List DeltaOf) (p : Point) → IsLegal name (before ++ behind) → replay (start name) before ≡ Some p
+LeadBack = (name : List ℕ) (before behind : List DeltaOf) (p : Point) → IsLegal name (before ++ behind) → replay (start name) before
+    ≡ Some p
     → run_each (end_of name (before ++ behind)).state (inverses p.state behind) ≡ Some p.state

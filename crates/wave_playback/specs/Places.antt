@@ -23,7 +23,8 @@ pub record IsThere (h : HistoryOf) (k v : ℕ) (s : State) : Type 0 where
   pub state : state_after h.deltas k ≡ Some s
 
 abbrev pub IsBack : List DeltaOf → ℕ → Option (List WaveletOp) → Type 0
-IsBack ds k o = IfSome o (λ ops. (s t : State) → state_after ds k ≡ Some s → state_after ds (suc k) ≡ Some t → run t (meanings ops) ≡ Some s)
+IsBack ds k o = IfSome o (λ ops. (s t : State) → state_after ds k ≡ Some s → state_after ds (suc k) ≡ Some t → run t (meanings ops)
+    ≡ Some s)
 
 abbrev pub AreBacks : List DeltaOf → List (Option (List WaveletOp)) → Type 0
 AreBacks ds backs = (k : ℕ) (o : Option (List WaveletOp)) → slice_get backs k ≡ Some o → IsBack ds k o

@@ -64,7 +64,8 @@ fn push_addresses(
     state: &WaveletState,
     addresses: &[&Address],
 ) -> Result<(), Memory>
-    ensures { OnOk result (string_bytes out.new ≡ string_bytes out.old ++ flat_map (participant_text state.now) (map (λ a. a.now) addresses.now)) }
+    ensures { OnOk result (string_bytes out.new ≡ string_bytes out.old
+        ++ flat_map (participant_text state.now) (map (λ a. a.now) addresses.now)) }
 {
     for address in addresses {
         push_participant(out, state, address)?;
@@ -239,7 +240,8 @@ fn push_named(
     nodes: &[Node],
     names: &[&DocumentName],
 ) -> Result<(), Memory>
-    ensures { OnOk result (string_bytes out.new ≡ string_bytes out.old ++ flat_map (document_line state.now nodes.now) (map (λ n. n.now) names.now)) }
+    ensures { OnOk result (string_bytes out.new ≡ string_bytes out.old
+        ++ flat_map (document_line state.now nodes.now) (map (λ n. n.now) names.now)) }
 {
     for name in names {
         push_other(alloc, out, state, nodes, name)?;
@@ -253,7 +255,8 @@ fn push_others(
     state: &WaveletState,
     nodes: &[Node],
 ) -> Result<(), Memory>
-    ensures { OnOk result (string_bytes out.new ≡ string_bytes out.old ++ flat_map (document_line state.now nodes.now) (keys state.now.documents)) }
+    ensures { OnOk result (string_bytes out.new ≡ string_bytes out.old
+        ++ flat_map (document_line state.now nodes.now) (keys state.now.documents)) }
 {
     let names = state.document_names(alloc)?;
     push_named(alloc, out, state, nodes, names.as_slice())

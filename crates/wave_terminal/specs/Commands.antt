@@ -16,7 +16,9 @@ abbrev pub goto_of : List ℕ → Option Command
 goto_of line = cond (is_word (take 5 line) (codes "goto ")) (option_map Goto (number (drop 5 line))) None
 
 abbrev pub command_of : List ℕ → Option Command
-command_of line = cond (is_word line (codes "next")) (Some Next) (cond (is_word line (codes "back")) (Some Back) (cond (is_word line (codes "show")) (Some Show) (cond (is_word line (codes "quit")) (Some Quit) (goto_of line))))
+command_of line = cond (is_word line (codes "next")) (Some Next)
+    (cond (is_word line (codes "back")) (Some Back)
+    (cond (is_word line (codes "show")) (Some Show) (cond (is_word line (codes "quit")) (Some Quit) (goto_of line))))
 
 abbrev pub max_kept : ℕ
 max_kept = 64

@@ -25,7 +25,9 @@ impl Begun {
 
     /// One byte more of the line.
     pub fn keep<M: CommandMachine>(&mut self, machine: &M, byte: u8) -> Result<(), Memory>
-        ensures line { OnOk result (self.new.line.items ≡ cond (M.machine.keeps (length self.old.line.items)) (self.old.line.items ++ byte ∷ []) self.old.line.items) }
+        ensures line { OnOk result
+            (self.new.line.items ≡ cond (M.machine.keeps (length self.old.line.items))
+            (self.old.line.items ++ byte ∷ []) self.old.line.items) }
         ensures quit { self.new.quit ≡ self.old.quit }
     {
         if machine.keeps(self.line.len()) {

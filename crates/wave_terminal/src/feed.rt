@@ -18,7 +18,8 @@ const GATHERED: usize = 1 << 16;
 // Writes what waits, where that is much.
 fn write_many<W: Sink>(sink: &mut W, out: &mut Vec<u8>) -> Result<(), Failed>
     ensures ok { OnOk result (IsMovedOn (W.written sink.old) (W.written sink.new) out.old.items out.new.items) }
-    ensures err { OnErr result ((k : ℕ) × (k < length out.old.items) × Appends (W.written sink.old) (W.written sink.new) (take k out.old.items)) }
+    ensures err { OnErr result
+        ((k : ℕ) × (k < length out.old.items) × Appends (W.written sink.old) (W.written sink.new) (take k out.old.items)) }
     ensures cause { HasCause (W.faults sink.old) (W.faults sink.new) result }
 {
     if out.len() < GATHERED {
@@ -38,8 +39,10 @@ fn feed_bytes<M: CommandMachine, W: Sink>(
     bytes: &[u8],
 ) -> Result<(), Stop>
     requires { 0 < length bytes.now }
-    ensures ok { OnOk result (IsFed M.machine (course_of (M.state machine.old) begun.old) (course_of (M.state machine.new) begun.new) (W.written sink.old) (W.written sink.new) bytes.now) }
-    ensures err { IfErr result (IsFedInPart M.machine (course_of (M.state machine.old) begun.old) (W.written sink.old) (W.written sink.new) bytes.now) }
+    ensures ok { OnOk result (IsFed M.machine (course_of (M.state machine.old) begun.old) (course_of (M.state machine.new) begun.new)
+        (W.written sink.old) (W.written sink.new) bytes.now) }
+    ensures err { IfErr result
+        (IsFedInPart M.machine (course_of (M.state machine.old) begun.old) (W.written sink.old) (W.written sink.new) bytes.now) }
     ensures later { W.faults sink.old ≤ W.faults sink.new }
     ensures failed { IsErrOf result Stop.Sink → Rose (W.faults sink.old) (W.faults sink.new) }
 {
@@ -61,8 +64,10 @@ fn feed_end<M: CommandMachine, W: Sink>(
     bytes: &[u8],
 ) -> Result<(), Stop>
     requires { length bytes.now ≡ 0 }
-    ensures ok { OnOk result (IsFed M.machine (course_of (M.state machine.old) begun.old) (course_of (M.state machine.new) begun.new) (W.written sink.old) (W.written sink.new) bytes.now) }
-    ensures err { IfErr result (IsFedInPart M.machine (course_of (M.state machine.old) begun.old) (W.written sink.old) (W.written sink.new) bytes.now) }
+    ensures ok { OnOk result (IsFed M.machine (course_of (M.state machine.old) begun.old) (course_of (M.state machine.new) begun.new)
+        (W.written sink.old) (W.written sink.new) bytes.now) }
+    ensures err { IfErr result
+        (IsFedInPart M.machine (course_of (M.state machine.old) begun.old) (W.written sink.old) (W.written sink.new) bytes.now) }
     ensures later { W.faults sink.old ≤ W.faults sink.new }
     ensures failed { IsErrOf result Stop.Sink → Rose (W.faults sink.old) (W.faults sink.new) }
 {
@@ -81,8 +86,10 @@ pub(crate) fn feed<M: CommandMachine, W: Sink>(
     sink: &mut W,
     bytes: &[u8],
 ) -> Result<(), Stop>
-    ensures ok { OnOk result (IsFed M.machine (course_of (M.state machine.old) begun.old) (course_of (M.state machine.new) begun.new) (W.written sink.old) (W.written sink.new) bytes.now) }
-    ensures err { IfErr result (IsFedInPart M.machine (course_of (M.state machine.old) begun.old) (W.written sink.old) (W.written sink.new) bytes.now) }
+    ensures ok { OnOk result (IsFed M.machine (course_of (M.state machine.old) begun.old) (course_of (M.state machine.new) begun.new)
+        (W.written sink.old) (W.written sink.new) bytes.now) }
+    ensures err { IfErr result
+        (IsFedInPart M.machine (course_of (M.state machine.old) begun.old) (W.written sink.old) (W.written sink.new) bytes.now) }
     ensures later { W.faults sink.old ≤ W.faults sink.new }
     ensures failed { IsErrOf result Stop.Sink → Rose (W.faults sink.old) (W.faults sink.new) }
 {

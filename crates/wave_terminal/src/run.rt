@@ -27,8 +27,11 @@ fn pump<M: CommandMachine, S: Source, W: Sink>(
     buffer: &mut [u8],
 ) -> Result<usize, Stop>
     requires { 0 < length buffer.old }
-    ensures ok { IfOk result (IsPumped M.machine (course_of (M.state machine.old) begun.old) (course_of (M.state machine.new) begun.new) (S.left source.old) (S.left source.new) (W.written sink.old) (W.written sink.new)) }
-    ensures err { IfErr result (IsCut M.machine (course_of (M.state machine.old) begun.old) (length buffer.old) (S.left source.old) (S.left source.new) (W.written sink.old) (W.written sink.new)) }
+    ensures ok { IfOk result (IsPumped M.machine (course_of (M.state machine.old) begun.old) (course_of (M.state machine.new) begun.new)
+        (S.left source.old) (S.left source.new) (W.written sink.old) (W.written sink.new)) }
+    ensures err { IfErr result
+        (IsCut M.machine (course_of (M.state machine.old) begun.old) (length buffer.old) (S.left source.old) (S.left source.new)
+        (W.written sink.old) (W.written sink.new)) }
     ensures small { IfOk result (λ count. count ≤ length buffer.old) }
     ensures source_later { S.faults source.old ≤ S.faults source.new }
     ensures sink_later { W.faults sink.old ≤ W.faults sink.new }
@@ -51,7 +54,8 @@ fn run<M: CommandMachine, S: Source, W: Sink>(
     source: &mut S,
     sink: &mut W,
 ) -> Result<(), Stop>
-    ensures obeyed { IsObeyed M.machine (M.state machine.old) (S.left source.old) (S.left source.new) (W.written sink.old) (W.written sink.new) (status_of result) }
+    ensures obeyed { IsObeyed M.machine (M.state machine.old) (S.left source.old) (S.left source.new) (W.written sink.old)
+        (W.written sink.new) (status_of result) }
     ensures source_later { S.faults source.old ≤ S.faults source.new }
     ensures sink_later { W.faults sink.old ≤ W.faults sink.new }
     ensures source_failed { IsErrOf result Stop.Source → Rose (S.faults source.old) (S.faults source.new) }
@@ -87,7 +91,8 @@ pub fn run_commands<M: CommandMachine, S: Source, W: Sink>(
     source: &mut S,
     sink: &mut W,
 ) -> u8
-    ensures obeyed { IsObeyed M.machine (M.state machine.old) (S.left source.old) (S.left source.new) (W.written sink.old) (W.written sink.new) result }
+    ensures obeyed { IsObeyed M.machine (M.state machine.old) (S.left source.old) (S.left source.new) (W.written sink.old)
+        (W.written sink.new) result }
     ensures source_failed { result ≡ 3 → Rose (S.faults source.old) (S.faults source.new) }
     ensures sink_failed { result ≡ 4 → Rose (W.faults sink.old) (W.faults sink.new) }
     ensures known { IsCommandStatus result }

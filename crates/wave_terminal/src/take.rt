@@ -34,7 +34,8 @@ pub(crate) fn take_byte<M: CommandMachine>(
     out: &mut Vec<u8>,
 ) -> Result<(), Memory>
     ensures text { OnOk result (out.new.items ≡ out.old.items ++ said M.machine (course_of (M.state machine.old) begun.old) byte) }
-    ensures goes { OnOk result (course_of (M.state machine.new) begun.new ≡ step M.machine (course_of (M.state machine.old) begun.old) byte) }
+    ensures goes { OnOk result
+        (course_of (M.state machine.new) begun.new ≡ step M.machine (course_of (M.state machine.old) begun.old) byte) }
 {
     if begun.quit {
         return Ok(());

@@ -101,15 +101,18 @@ abbrev pub OnlyGrows : Type 0
 OnlyGrows = (name : Key) (events more : List Event) → IsBegin (world_of name events).host (world_of name (events ++ more)).host
 
 abbrev pub DeltaIsTaken : Type 0
-DeltaIsTaken = (name : Key) (events : List Event) (k : ClientOf) (f : FollowerOf) (d : DeltaOf) → (world_of name events).followers k ≡ Some f → Mem d (world_of name events).deltas → d.from.version ≡ f.here.at.version
+DeltaIsTaken = (name : Key) (events : List Event) (k : ClientOf) (f : FollowerOf) (d : DeltaOf) → (world_of name events).followers k
+    ≡ Some f → Mem d (world_of name events).deltas → d.from.version ≡ f.here.at.version
     → (g : FollowerOf) × (receive f d ≡ (Advanced, g)) × IsMoved f g d
 
 abbrev pub DeltaIsAbsorbed : Type 0
-DeltaIsAbsorbed = (name : Key) (events : List Event) (at : Key) (p : Point) (d : DeltaOf) → Mem d (world_of name events).deltas → replay (start name) ((world_of name events).replicas at).deltas ≡ Some p → d.from.version ≡ p.at.version
+DeltaIsAbsorbed = (name : Key) (events : List Event) (at : Key) (p : Point) (d : DeltaOf) → Mem d (world_of name events).deltas
+    → replay (start name) ((world_of name events).replicas at).deltas ≡ Some p → d.from.version ≡ p.at.version
     → (r : ReplicaOf) × (absorb name ((world_of name events).replicas at) d ≡ Some r)
 
 abbrev pub KeptIsAnswered : Type 0
-KeptIsAnswered = (name : Key) (events : List Event) (d : DeltaOf) (s : Submission) (reading : ℕ) → Mem d (world_of name events).host → s.id ≡ d.id
+KeptIsAnswered = (name : Key) (events : List Event) (d : DeltaOf) (s : Submission) (reading : ℕ) → Mem d (world_of name events).host → s.id
+    ≡ d.id
     → (at : ℕ) × (to : VersionAt) × (judge name (world_of name events).host s reading ≡ (Ack at to, None))
 
 abbrev pub IsFair : Verdict → Type 0
@@ -122,7 +125,8 @@ IsFair (Invalid index) = ⊥
 IsFair (Full head) = Unit {0}
 
 abbrev pub FollowerIsHeard : Type 0
-FollowerIsHeard = (name : Key) (events : List Event) (k : ClientOf) (f : FollowerOf) (s : Submission) (reading : ℕ) → (world_of name events).followers k ≡ Some f → Mem s (world_of name events).submissions → client_of s.id ≡ k
+FollowerIsHeard = (name : Key) (events : List Event) (k : ClientOf) (f : FollowerOf) (s : Submission) (reading : ℕ)
+    → (world_of name events).followers k ≡ Some f → Mem s (world_of name events).submissions → client_of s.id ≡ k
     → IsFair (judge name (world_of name events).host s reading).0
 
 -- ---- restarts
@@ -135,8 +139,10 @@ pub record IsOneEvent (name : Key) (events : List Event) (d : DeltaOf) : Type 0 
   pub host : (world_of name (events ++ event ∷ [])).host ≡ (world_of name events).host ++ d ∷ []
   pub converged : IsConverged name (world_of name (events ++ event ∷ []))
   -- its id submitted again is answered by what is kept, and adds nothing
-  pub again : (s : Submission) (reading : ℕ) → s.id ≡ d.id → (at : ℕ) × (to : VersionAt) × (judge name ((world_of name events).host ++ d ∷ []) s reading ≡ (Ack at to, None))
+  pub again : (s : Submission) (reading : ℕ) → s.id ≡ d.id → (at : ℕ) × (to : VersionAt)
+      × (judge name ((world_of name events).host ++ d ∷ []) s reading ≡ (Ack at to, None))
 
 abbrev pub AcceptedIsOneEvent : Type 0
-AcceptedIsOneEvent = (name : Key) (events : List Event) (s : Submission) (reading : ℕ) (v : Verdict) (d : DeltaOf) → Mem s (world_of name events).submissions → judge name (world_of name events).host s reading ≡ (v, Some d)
+AcceptedIsOneEvent = (name : Key) (events : List Event) (s : Submission) (reading : ℕ) (v : Verdict) (d : DeltaOf)
+    → Mem s (world_of name events).submissions → judge name (world_of name events).host s reading ≡ (v, Some d)
     → IsOneEvent name events d

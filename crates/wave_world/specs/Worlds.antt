@@ -142,7 +142,12 @@ pooled ds None = ds
 pooled ds (Some d) = d ∷ ds
 
 abbrev pub host_answers : World → Submission → Judged → World
-host_answers w s j = record w { host = grown w.host j.1; deltas = pooled w.deltas j.1; answers = record { id = s.id; verdict = j.0 } ∷ w.answers }
+host_answers w s j = record w {
+  host = grown w.host j.1;
+  deltas = pooled w.deltas j.1;
+  answers = record { id = s.id; verdict = j.0 }
+      ∷ w.answers;
+}
 
 abbrev pub host_takes : Key → World → ℕ → Option Submission → World
 host_takes name w reading None = w
@@ -160,11 +165,15 @@ acked w i (Some k) = record w { answers = record { id = i; verdict = Ack k.at k.
 
 abbrev pub happens : Key → World → Event → World
 happens name w (Starts k) = cond (is_none (w.followers k) && not (has_client k w.submissions)) (set_follower w k (new_follower name k)) w
-happens name w (Edits k acts text) = cond (is_count (length acts)) (to_follower w k (option_and_then (λ f. result_ok (edit f acts)) (w.followers k))) w
+happens name w (Edits k acts text) = cond (is_count (length acts))
+    (to_follower w k (option_and_then (λ f. result_ok (edit f acts)) (w.followers k))) w
 happens name w (Submits k) = submitted w k (option_and_then (λ f. result_ok (submit f)) (w.followers k))
-happens name w (TakesDelta k which) = to_follower w k (option_and_then (λ f. option_map (λ d. (receive f d).1) (slice_get w.deltas which)) (w.followers k))
-happens name w (TakesRefusal k which) = to_follower w k (option_and_then (λ f. option_map (λ a. take_answer f a) (slice_get w.answers which)) (w.followers k))
-happens name w (TakesSnapshot k which) = to_follower w k (option_and_then (λ f. option_map (λ p. (take_snapshot f p).1) (slice_get w.snapshots which)) (w.followers k))
+happens name w (TakesDelta k which) = to_follower w k
+    (option_and_then (λ f. option_map (λ d. (receive f d).1) (slice_get w.deltas which)) (w.followers k))
+happens name w (TakesRefusal k which) = to_follower w k
+    (option_and_then (λ f. option_map (λ a. take_answer f a) (slice_get w.answers which)) (w.followers k))
+happens name w (TakesSnapshot k which) = to_follower w k
+    (option_and_then (λ f. option_map (λ p. (take_snapshot f p).1) (slice_get w.snapshots which)) (w.followers k))
 happens name w (Drops k) = to_follower w k (option_map dropped (w.followers k))
 happens name w (Pools s text) = cond (is_count (length s.ops) && is_none (w.followers (client_of s.id))) (pool w (Some s)) w
 happens name w (HostTakes which reading) = host_takes name w reading (slice_get w.submissions which)

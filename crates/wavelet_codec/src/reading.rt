@@ -77,7 +77,8 @@ pub fn read_applied(
     ensures is { IfOk result IsDelta }
     ensures bytes { IfOk result (λ d. bytes.now ≡ delta_bytes d) }
     ensures hash { IfOk result (λ d. d.from.hash ≡ hash.now) }
-    ensures again { (d : DeltaOf) → IsDelta d → d.from.hash ≡ hash.now → bytes.now ≡ delta_bytes d → MatchResult result (λ r. r ≡ d) (λ e. e ≡ Memory) }
+    ensures again { (d : DeltaOf) → IsDelta d → d.from.hash ≡ hash.now → bytes.now ≡ delta_bytes d
+        → MatchResult result (λ r. r ≡ d) (λ e. e ≡ Memory) }
     ensures refused { IfErr result (IsRefused bytes.now) }
 {
     delta_at(alloc, bytes, hash)

@@ -21,7 +21,8 @@ history_of c = c.wavelet
 abbrev pub journal_of : {K : Type 0} {disk : Ghosts K} → Container K disk → Option (Journal K disk)
 journal_of c = c.journal
 
-abbrev pub OfBoth : {K : Type 0} {disk : Ghosts K} → Option (Journal K disk) → Option (Journal K disk) → (Journal K disk → Journal K disk → Type 0) → Type 0
+abbrev pub OfBoth : {K : Type 0} {disk : Ghosts K} → Option (Journal K disk) → Option (Journal K disk)
+    → (Journal K disk → Journal K disk → Type 0) → Type 0
 OfBoth None None P = Unit {0}
 OfBoth None (Some j) P = ⊥
 OfBoth (Some i) None P = ⊥

@@ -74,7 +74,8 @@ refusal head base acts (Some after) = Full head
 
 -- at the base after the first k deltas
 abbrev pub IsRefusal : HistoryOf → Submission → ℕ → Verdict → Type 0
-IsRefusal h s k v = (base : Point) → replay (start h.name) (take k h.deltas) ≡ Some base → v ≡ refusal (head_of h).at base.state (meanings s.ops) (run base.state (meanings s.ops))
+IsRefusal h s k v = (base : Point) → replay (start h.name) (take k h.deltas) ≡ Some base → v
+    ≡ refusal (head_of h).at base.state (meanings s.ops) (run base.state (meanings s.ops))
 
 -- what is found at the state after the first k deltas: None where the acts are valid there
 abbrev pub IsInvalidAt : HistoryOf → ℕ → List Act → Option ℕ → Type 0

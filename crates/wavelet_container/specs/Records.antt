@@ -36,10 +36,13 @@ pub record HasIllegal (name : List ℕ) (offset : ℕ) (records : List (List ℕ
   pub gate : offset ≡ length (opened name (records_of front))
 
 abbrev pub IsDamagedHistory : List ℕ → ℕ → List ℕ → Type 0
-IsDamagedHistory name offset file = IsDamaged name offset file ⊎ ((records : List (List ℕ)) × StandsFor name records file × HasIllegal name offset records)
+IsDamagedHistory name offset file = IsDamaged name offset file ⊎
+    ((records : List (List ℕ)) × StandsFor name records file × HasIllegal name offset records)
 
 abbrev pub HistoryIsOne : Type 0
-HistoryIsOne = (name file : List ℕ) (ds es : List DeltaOf) → length file < 2 ^ 64 → StandsForHistory name ds file → StandsForHistory name es file → ds ≡ es
+HistoryIsOne = (name file : List ℕ) (ds es : List DeltaOf) → length file < 2 ^ 64 → StandsForHistory name ds file
+    → StandsForHistory name es file → ds ≡ es
 
 abbrev pub HistoryIsWhole : Type 0
-HistoryIsWhole = (name file : List ℕ) (ds : List DeltaOf) (offset : ℕ) → length file < 2 ^ 64 → StandsForHistory name ds file → IsDamagedHistory name offset file → ⊥
+HistoryIsWhole = (name file : List ℕ) (ds : List DeltaOf) (offset : ℕ) → length file < 2 ^ 64 → StandsForHistory name ds file
+    → IsDamagedHistory name offset file → ⊥

@@ -116,22 +116,35 @@ impl<K: Disk> Container<K> {
         time: u64,
     ) -> Result<Verdict, SubmitFault>
         ensures verdict { IfOk result (λ v. v ≡ (judged (history_of self.old) submission.now time).0) }
-        ensures grown { OnOk result (IsGrownBy (history_of self.old) (judged (history_of self.old) submission.now time).1 (history_of self.new)) }
+        ensures grown { OnOk result
+            (IsGrownBy (history_of self.old) (judged (history_of self.old) submission.now time).1 (history_of self.new)) }
         ensures same { OnErr result (IsSameHistory (history_of self.old) (history_of self.new)) }
 
-        ensures stored { OfBoth (journal_of self.old) (journal_of self.new) (λ i j. IsStored (history_of self.old) i → IsStored (history_of self.new) j) }
-        ensures any_moment { OfBoth (journal_of self.old) (journal_of self.new) (λ i j. IsStored (history_of self.old) i → Moments (history_of self.old) submission.now time i j) }
-        ensures every_image { OnOk result (OfBoth (journal_of self.old) (journal_of self.new) (λ i j. IsStored (history_of self.old) i → EachImage j (StandsForHistory (history_of self.new).name (history_of self.new).deltas))) }
-        ensures nothing_left { IsErrOf result SubmitFault.Memory → OfBoth (journal_of self.old) (journal_of self.new) (λ i j. IsStored (history_of self.old) i → EachImage j (StandsForHistory (history_of self.new).name (history_of self.new).deltas)) }
+        ensures stored { OfBoth (journal_of self.old) (journal_of self.new)
+            (λ i j. IsStored (history_of self.old) i → IsStored (history_of self.new) j) }
+        ensures any_moment { OfBoth (journal_of self.old) (journal_of self.new)
+            (λ i j. IsStored (history_of self.old) i → Moments (history_of self.old) submission.now time i j) }
+        ensures every_image { OnOk result
+            (OfBoth (journal_of self.old) (journal_of self.new)
+            (λ i j. IsStored (history_of self.old) i
+            → EachImage j (StandsForHistory (history_of self.new).name (history_of self.new).deltas))) }
+        ensures nothing_left { IsErrOf result SubmitFault.Memory
+            → OfBoth (journal_of self.old) (journal_of self.new)
+            (λ i j. IsStored (history_of self.old) i
+            → EachImage j (StandsForHistory (history_of self.new).name (history_of self.new).deltas)) }
         ensures done { OnOk result (OfBoth (journal_of self.old) (journal_of self.new) (λ i j. needs_repair j ≡ false)) }
-        ensures untouched { IsErrOf result SubmitFault.Memory → OfBoth (journal_of self.old) (journal_of self.new) (λ i j. needs_repair j ≡ false) }
+        ensures untouched { IsErrOf result SubmitFault.Memory
+            → OfBoth (journal_of self.old) (journal_of self.new) (λ i j. needs_repair j ≡ false) }
         ensures late { IsErrOf result SubmitFault.Memory → LooksAtOps (judged (history_of self.old) submission.now time) }
         ensures within { OfBoth (journal_of self.old) (journal_of self.new) (λ i j. IsStored (history_of self.old) i → left_over i ≡ []
-            → IsWithin (history_of self.old).name (history_of self.old).deltas (λ d. (judged (history_of self.old) submission.now time).1 ≡ Some d) j) }
-        ensures left_over { OfBoth (journal_of self.old) (journal_of self.new) (λ i j. IsLeftOver (left_over i) (judged (history_of self.old) submission.now time).1 (left_over j)) }
+            → IsWithin (history_of self.old).name (history_of self.old).deltas
+            (λ d. (judged (history_of self.old) submission.now time).1 ≡ Some d) j) }
+        ensures left_over { OfBoth (journal_of self.old) (journal_of self.new)
+            (λ i j. IsLeftOver (left_over i) (judged (history_of self.old) submission.now time).1 (left_over j)) }
 
         ensures later { OfBoth (journal_of self.old) (journal_of self.new) (λ i j. (on_disk i).faults ≤ (on_disk j).faults) }
-        ensures failed { IsErrOf result SubmitFault.DiskFault → OfBoth (journal_of self.old) (journal_of self.new) (λ i j. Rose (on_disk i) (on_disk j)) }
+        ensures failed { IsErrOf result SubmitFault.DiskFault
+            → OfBoth (journal_of self.old) (journal_of self.new) (λ i j. Rose (on_disk i) (on_disk j)) }
         ensures disk { IsErrOf result SubmitFault.DiskFault → IsSome (journal_of self.old) }
     {
         match &mut self.journal {

@@ -75,7 +75,8 @@ fn push_all(alloc: Global, history: &mut History, records: &[Stored]) -> Result<
     ensures name { history.new.name ≡ history.old.name }
     ensures records { OnOk result (records_of history.new.deltas ≡ bytes_of records.now) }
     ensures spelled { OnOk result (AllByRecursion IsDelta history.new.deltas) }
-    ensures damaged { IfErr result (λ e. (offset : ℕ) → e ≡ LoadFault.Damaged offset → HasIllegal history.old.name offset (bytes_of records.now)) }
+    ensures damaged { IfErr result
+        (λ e. (offset : ℕ) → e ≡ LoadFault.Damaged offset → HasIllegal history.old.name offset (bytes_of records.now)) }
     ensures no_disk { IsErrOf result LoadFault.DiskFault → ⊥ }
 {
     for stored in records {
@@ -145,9 +146,11 @@ impl<K: Disk> Container<K> {
         ensures synced { IfOk result (λ c. IfSome (journal_of c) (λ j. LeavesJust (K.view disk).seen (on_disk j))) }
         ensures read { IfOk result (λ c. IfSome (journal_of c) (λ j. OnlyRead (K.view disk) (on_disk j))) }
 
-        ensures again { IsTrue K.tells → (ds : List DeltaOf) → StandsForHistory name ds (K.view disk).seen → MatchResult result (λ c. (history_of c).deltas ≡ ds) (λ r. (offset : ℕ) → r.fault ≢ LoadFault.Damaged offset) }
+        ensures again { IsTrue K.tells → (ds : List DeltaOf) → StandsForHistory name ds (K.view disk).seen
+            → MatchResult result (λ c. (history_of c).deltas ≡ ds) (λ r. (offset : ℕ) → r.fault ≢ LoadFault.Damaged offset) }
 
-        ensures damaged { IfErr result (λ r. (offset : ℕ) → r.fault ≡ LoadFault.Damaged offset → IsTrue K.tells → IsDamagedHistory name offset (K.view disk).seen) }
+        ensures damaged { IfErr result
+            (λ r. (offset : ℕ) → r.fault ≡ LoadFault.Damaged offset → IsTrue K.tells → IsDamagedHistory name offset (K.view disk).seen) }
         ensures handed_back { IfErr result (λ r. OnlyRead (K.view disk) (K.view r.disk)) }
         ensures failed { IfErr result (λ r. r.fault ≡ LoadFault.DiskFault → Rose (K.view disk) (K.view r.disk)) }
     {

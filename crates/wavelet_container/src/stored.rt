@@ -46,7 +46,8 @@ fn prepared(
 // One record more.
 fn append<K: Disk>(alloc: Global, journal: &mut Journal<K>, bytes: &[u8]) -> Result<(), AddFault>
     requires whole { needs_repair journal.old ≡ false }
-    ensures any_moment { WhereHeld journal.old (λ name records. LeavesOnly (on_disk journal.old) (on_disk journal.new) (StandsForEither name records (bytes.now ∷ []))) }
+    ensures any_moment { WhereHeld journal.old
+        (λ name records. LeavesOnly (on_disk journal.old) (on_disk journal.new) (StandsForEither name records (bytes.now ∷ []))) }
     ensures ok { OnOk result (WhereHeld journal.old (λ name records. IsJournal name (records ++ bytes.now ∷ []) journal.new)) }
     ensures done { OnOk result (needs_repair journal.new ≡ false) }
     ensures err { OnErr result (WhereHeld journal.old (λ name records. IsJournal name records journal.new)) }
@@ -76,7 +77,8 @@ fn store<K: Disk>(
     ensures grown { OnOk result (IsGrown wavelet.old delta wavelet.new) }
     ensures same { OnErr result (IsSameHistory wavelet.old wavelet.new) }
     ensures refused { IsErrOf result AddFault.NotLegal → IsLegal wavelet.old.name (wavelet.old.deltas ++ delta ∷ []) → ⊥ }
-    ensures moved { (added : Option DeltaOf) → (IsNext wavelet.old.name wavelet.old.deltas delta → added ≡ Some delta) → IsMoved wavelet.old wavelet.new journal.old journal.new added }
+    ensures moved { (added : Option DeltaOf) → (IsNext wavelet.old.name wavelet.old.deltas delta → added ≡ Some delta)
+        → IsMoved wavelet.old wavelet.new journal.old journal.new added }
     ensures done { OnOk result (needs_repair journal.new ≡ false) }
     ensures unwritten { IsErrOf result AddFault.NotLegal → needs_repair journal.new ≡ false }
     ensures untouched { IsErrOf result AddFault.Memory → needs_repair journal.new ≡ false }

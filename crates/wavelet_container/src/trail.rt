@@ -47,7 +47,8 @@ pub(crate) struct Tried {
 impl Trail {
     /// The state after so many deltas, none of which can be taken back.
     pub fn at(alloc: Global, state: WaveletState, place: usize) -> Trail
-        ensures { (ds : List DeltaOf) → place ≤ length ds → state_after ds place ≡ Some state → IsTrail ds result × (place_of result ≡ place) }
+        ensures { (ds : List DeltaOf) → place ≤ length ds → state_after ds place ≡ Some state → IsTrail ds result
+            × (place_of result ≡ place) }
     {
         Trail {
             state,

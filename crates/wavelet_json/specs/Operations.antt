@@ -87,7 +87,8 @@ role_data ReadOnly = string (codes "read")
 abbrev pub op_data : WaveletOp → Data
 op_data NoOp = object (member (codes "type") (string (codes "noop")) no_members)
 op_data (Add address) = object (member (codes "participant") (string address) (member (codes "type") (string (codes "add")) no_members))
-op_data (Remove address) = object (member (codes "participant") (string address) (member (codes "type") (string (codes "remove")) no_members))
+op_data (Remove address) = object
+    (member (codes "participant") (string address) (member (codes "type") (string (codes "remove")) no_members))
 op_data (Mutate document op) = object (member (codes "document") (string document) (member (codes "operation") (written.op_data op)
     (member (codes "type") (string (codes "mutate")) no_members)))
 op_data (SetRole address old new) = object (member (codes "new") (role_data new) (member (codes "old") (role_data old)

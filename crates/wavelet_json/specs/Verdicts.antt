@@ -39,7 +39,8 @@ abbrev pub refusal_of : ℕ → Data → Option Verdict
 refusal_of others d = option_and_then (λ kind. refusal_named others kind d) (in_member as_str (codes "reason") d)
 
 abbrev pub ack_of : ℕ → Data → Option Verdict
-ack_of others d = of_members (others + 3) d (option_and_then (λ place. option_map (λ to. Ack place to) (version_of d)) (in_member count_of (codes "at") d))
+ack_of others d = of_members (others + 3) d
+    (option_and_then (λ place. option_map (λ to. Ack place to) (version_of d)) (in_member count_of (codes "at") d))
 
 abbrev pub answer_of : Data → Option Verdict
 answer_of d = if is_some (get (codes "reason") d) then refusal_of 0 d else ack_of 0 d

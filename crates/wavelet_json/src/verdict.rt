@@ -51,7 +51,8 @@ fn plain(value: &Value, count: usize, verdict: Verdict) -> Option<Verdict>
 }
 
 fn invalid(value: &Value, count: usize) -> Option<Verdict>
-    ensures { result ≡ of_members count (view value.now) (option_map Verdict.Invalid (in_member index_of (codes "index") (view value.now))) }
+    ensures { result ≡ of_members count (view value.now)
+        (option_map Verdict.Invalid (in_member index_of (codes "index") (view value.now))) }
 {
     if !has_members(value, count) {
         return None;
@@ -63,7 +64,8 @@ fn invalid(value: &Value, count: usize) -> Option<Verdict>
 }
 
 fn wrong_hash(alloc: Global, value: &Value, count: usize) -> Result<Option<Verdict>, Memory>
-    ensures { IfOk result (λ verdict. verdict ≡ of_members count (view value.now) (option_map Verdict.WrongHash (in_member hash_of (codes "hash") (view value.now)))) }
+    ensures { IfOk result (λ verdict. verdict
+        ≡ of_members count (view value.now) (option_map Verdict.WrongHash (in_member hash_of (codes "hash") (view value.now)))) }
 {
     match hash_of_members(alloc, value, count)? {
         Some(host) => Ok(Some(Verdict::WrongHash { host })),
@@ -159,7 +161,8 @@ fn plain_reason(value: &Value, count: usize, reason: UnopenedReason) -> Option<U
 }
 
 fn wrong_hash_there(alloc: Global, value: &Value) -> Result<Option<UnopenedReason>, Memory>
-    ensures { IfOk result (λ reason. reason ≡ of_members 4 (view value.now) (option_map UnopenedReason.WrongHash (in_member hash_of (codes "hash") (view value.now)))) }
+    ensures { IfOk result (λ reason. reason
+        ≡ of_members 4 (view value.now) (option_map UnopenedReason.WrongHash (in_member hash_of (codes "hash") (view value.now)))) }
 {
     match hash_of_members(alloc, value, 4)? {
         Some(host) => Ok(Some(UnopenedReason::WrongHash { host })),

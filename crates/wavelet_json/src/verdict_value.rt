@@ -16,7 +16,8 @@ use wavelet_op::Verdict;
 
 fn put_hash(alloc: Global, members: &mut Map<String, Value>, hash: &[u8; 32]) -> Result<(), Memory>
     ensures good { OnOk result (IsGoodHash hash.now) }
-    ensures value { OnOk result (members_view members.new.entries ≡ put_data (codes "hash") (bytes_data hash.now) (members_view members.old.entries)) }
+    ensures value { OnOk result
+        (members_view members.new.entries ≡ put_data (codes "hash") (bytes_data hash.now) (members_view members.old.entries)) }
 {
     let hash = hash_value(alloc, hash)?;
     put(members, alloc, "hash", hash)

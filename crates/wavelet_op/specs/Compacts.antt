@@ -29,7 +29,8 @@ join (Mutates d f) (Mutates c s) = cond (same_text d c) (Some (mutation d (compo
 join a b = None
 
 unfoldable pub bounded_join : Act → Act → Option (Result Act Unfit)
-bounded_join (Mutates d f) (Mutates c s) = cond (same_text d c) (Some (cond (nat_le (together f s) max_count) (mutation d (compose f s)) (Err OverLimit))) None
+bounded_join (Mutates d f) (Mutates c s) = cond (same_text d c)
+    (Some (cond (nat_le (together f s) max_count) (mutation d (compose f s)) (Err OverLimit))) None
 bounded_join a b = None
 
 abbrev pub act_front : {A E : Type 0} → A → Result (List A) E → Result (List A) E

@@ -69,4 +69,5 @@ abbrev pub BoundedCompactIsExact : Type 0
 BoundedCompactIsExact = (acts fewer : List Act) → bounded_compact acts ≡ Ok fewer → compact acts ≡ Some fewer
 
 abbrev pub PassAppends : Type 0
-PassAppends = (acts : List Act) (first more : List (List Act)) → pass acts (first ++ more) ≡ option_and_then (λ passed. pass passed more) (pass acts first)
+PassAppends = (acts : List Act) (first more : List (List Act)) → pass acts (first ++ more)
+    ≡ option_and_then (λ passed. pass passed more) (pass acts first)

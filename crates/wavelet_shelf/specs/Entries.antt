@@ -160,5 +160,6 @@ module _ {K : Type 0} {disk : Ghosts K} where
   FitsFolder-prop room None e = Coded-set coded_bool _ _
   FitsFolder-prop room (Some f) e = Coded-set coded_bool _ _
 
-  pub FitFolder-prop : {F : Type 0} (room : F → List ℕ → Bool) (folder : Option F) (es : List (Key × Filed K disk)) → IsProp (FitFolder room folder es)
+  pub FitFolder-prop : {F : Type 0} (room : F → List ℕ → Bool) (folder : Option F) (es : List (Key × Filed K disk))
+      → IsProp (FitFolder room folder es)
   FitFolder-prop room folder es = AllByRecursion-prop _ (FitsFolder-prop room folder) es

@@ -78,12 +78,14 @@ module _ {F D : Type 0} (folder : folder_of.Ghosts F D) (disk : disk_of.Ghosts D
   IsUnmadeIn m (Some f) None = ⊥
   IsUnmadeIn m (Some f) (Some g) = IsTrue folder.tells → IsUnmade disk.view (folder.files f m) (folder.files g m)
 
-pub record IsFirstAmong {F D : Type 0} (folder : folder_of.Ghosts F D) (disk : disk_of.Ghosts D) (f : F) (names : List (List ℕ)) (m : List ℕ) (offset : ℕ) : Type 0 where
+pub record IsFirstAmong {F D : Type 0} (folder : folder_of.Ghosts F D) (disk : disk_of.Ghosts D) (f : F) (names : List (List ℕ))
+    (m : List ℕ) (offset : ℕ) : Type 0 where
   pub named : is_file_name m ≡ true
   pub refused : IsRefusedFile disk.view (folder.files f m) m offset
   pub first : (l : List ℕ) → is_among names l ≡ true → slice_cmp nat_cmp l m ≡ Less → IsSound disk.view (folder.files f l) l
 
-pub record IsFileBack {F D : Type 0} (folder : folder_of.Ghosts F D) (disk : disk_of.Ghosts D) (before after : F) (m : List ℕ) : Type 0 where
+pub record IsFileBack {F D : Type 0} (folder : folder_of.Ghosts F D) (disk : disk_of.Ghosts D) (before after : F)
+    (m : List ℕ) : Type 0 where
   pub back : IsTrue disk.tells → IsSome (folder.files before m) → IsAsBefore disk.view (folder.files before m) (folder.files after m)
   pub others : IsTrue disk.tells → IsElsewhere m (folder.files before) (folder.files after)
 
@@ -104,7 +106,8 @@ module _ {F D : Type 0} (folder : folder_of.Ghosts F D) {disk : disk_of.Ghosts D
 
   pub record ArePutBack (before after : F) (es : List (Key × Filed D disk)) : Type 0 where
     pub back : IsTrue disk.tells → AreFiledApart es → AllByRecursion (IsBack after) es
-    pub others : IsTrue disk.tells → (m : List ℕ) → AllByRecursion (λ e. m ≢ file_name_of e.0) es → folder.files after m ≡ folder.files before m
+    pub others : IsTrue disk.tells → (m : List ℕ) → AllByRecursion (λ e. m ≢ file_name_of e.0) es → folder.files after m
+        ≡ folder.files before m
     pub room : IsSame (folder.room before) (folder.room after)
     pub still : IsStill folder before after
     pub counted : min (folder.faults after) most_faults ≡ min (folder.faults before + faults_in es) most_faults
@@ -140,10 +143,12 @@ module _ {F D : Type 0} (folder : folder_of.Ghosts F D) {disk : disk_of.Ghosts D
   abbrev pub faults_with : F → List (Key × Filed D disk) → ℕ
   faults_with f es = min (folder.faults f + faults_in es) most_faults
 
-  pub record IsFileStep (before after : F) (m : List ℕ) (es es' : List (Key × Filed D disk)) (r : Result (Unit {0}) ShelfFault) : Type 0 where
+  pub record IsFileStep (before after : F) (m : List ℕ) (es es' : List (Key × Filed D disk))
+      (r : Result (Unit {0}) ShelfFault) : Type 0 where
     pub read : OnOk r (IsFileRead before after m es es')
     pub back : OnErr r ((es' ≡ es) × IsFileBack folder disk before after m)
-    pub damaged : IfErr r (λ e. IfSome (damage_of e) (λ d. (d.0 ≡ m) × (IsTrue disk.tells → IsRefusedFile disk.view (folder.files before m) m d.1)))
+    pub damaged : IfErr r (λ e. IfSome (damage_of e)
+        (λ d. (d.0 ≡ m) × (IsTrue disk.tells → IsRefusedFile disk.view (folder.files before m) m d.1)))
     pub later : faults_with before es ≤ faults_with after es'
     pub failed : IsErrOf r Failed → Rose (faults_with before es) (faults_with after es')
 
@@ -153,17 +158,21 @@ module _ {F D : Type 0} (folder : folder_of.Ghosts F D) {disk : disk_of.Ghosts D
     pub apart : (n m : Key) → IsSome (found es n) → IsSome (found es m) → file_name_of n ≡ file_name_of m → n ≡ m
     pub among : (n : Key) → IsSome (found es n) → is_among done (file_name_of n) ≡ true
     pub untouched : IsTrue disk.tells → (m : List ℕ) → is_among done m ≡ false → folder.files after m ≡ folder.files before m
-    pub as_before : IsTrue disk.tells → (m : List ℕ) → ((n : Key) → IsSome (found es n) → m ≢ file_name_of n) → IsAsBefore disk.view (folder.files before m) (folder.files after m)
+    pub as_before : IsTrue disk.tells → (m : List ℕ) → ((n : Key) → IsSome (found es n) → m ≢ file_name_of n)
+        → IsAsBefore disk.view (folder.files before m) (folder.files after m)
     pub read : IsTrue disk.tells → (n : Key) → IfSome (found es n) (IsReadFrom (folder.files before (file_name_of n)))
     pub held : IsTrue disk.tells → AreHeld es
     pub safe : IsTrue disk.tells → AreSafe es
 
   pub record IsLoading (before after : F) (es : List (Key × Filed D disk)) (done : List (List ℕ)) : Type 0 where
     pub looked : IsLooked before after es done
-    pub each : IsTrue disk.tells → (n : Key) (ds : List DeltaOf) → is_wavelet_name n ≡ true → ds ≢ [] → is_among done (file_name_of n) ≡ true → IfSome (folder.files before (file_name_of n)) (λ d. StandsForHistory n ds (disk.view d).seen → deltas_in (hosting es) n ≡ ds)
+    pub each : IsTrue disk.tells → (n : Key) (ds : List DeltaOf) → is_wavelet_name n ≡ true → ds ≢ [] → is_among done (file_name_of n)
+        ≡ true → IfSome (folder.files before (file_name_of n))
+        (λ d. StandsForHistory n ds (disk.view d).seen → deltas_in (hosting es) n ≡ ds)
     pub sound : IsTrue disk.tells → (m : List ℕ) → is_among done m ≡ true → IsSound disk.view (folder.files before m) m
 
-  pub record IsAllStep (before after : F) (es : List (Key × Filed D disk)) (names : List (List ℕ)) (r : Result (Unit {0}) ShelfFault) : Type 0 where
+  pub record IsAllStep (before after : F) (es : List (Key × Filed D disk)) (names : List (List ℕ))
+      (r : Result (Unit {0}) ShelfFault) : Type 0 where
     pub done : List (List ℕ)
     pub looked : IsLooked before after es done
     pub loading : OnOk r (IsLoading before after es names)
@@ -179,6 +188,7 @@ module _ {F D : Type 0} (folder : folder_of.Ghosts F D) {disk : disk_of.Ghosts D
     pub apart : OnOk r ((n m : Key) → IsSome (found es n) → IsSome (found es m) → file_name_of n ≡ file_name_of m → n ≡ m)
     pub damaged : IfErr r (λ e. IfSome (damage_of e) (λ d. IsTrue disk.tells → IsFirstRefused disk.view (folder.files before) d.0 d.1))
     pub none : OnErr r (es ≡ [])
-    pub as_before : IsTrue disk.tells → (m : List ℕ) → ((n : Key) → IsSome (found es n) → m ≢ file_name_of n) → IsAsBefore disk.view (folder.files before m) (folder.files after m)
+    pub as_before : IsTrue disk.tells → (m : List ℕ) → ((n : Key) → IsSome (found es n) → m ≢ file_name_of n)
+        → IsAsBefore disk.view (folder.files before m) (folder.files after m)
     pub later : faults_with before [] ≤ faults_with after es
     pub failed : IsErrOf r Failed → Rose (faults_with before []) (faults_with after es)

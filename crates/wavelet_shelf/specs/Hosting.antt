@@ -85,6 +85,7 @@ HaveDeltas [] = Unit {0}
 HaveDeltas (h ∷ hs) = (h.deltas ≢ []) × HaveDeltas hs
 
 pub record GrowsAlone : Type 0 where
-  pub there : (hs : List Hosted) (n : Key) (d : DeltaOf) → AreAscending (names_of hs) → deltas_in (grown_in hs n d) n ≡ deltas_in hs n ++ d ∷ []
+  pub there : (hs : List Hosted) (n : Key) (d : DeltaOf) → AreAscending (names_of hs) → deltas_in (grown_in hs n d) n ≡ deltas_in hs n ++ d
+      ∷ []
   pub others : (hs : List Hosted) (n : Key) (d : DeltaOf) (m : Key) → m ≢ n → deltas_in (grown_in hs n d) m ≡ deltas_in hs m
   pub ascending : (hs : List Hosted) (n : Key) (d : DeltaOf) → AreAscending (names_of hs) → AreAscending (names_of (grown_in hs n d))

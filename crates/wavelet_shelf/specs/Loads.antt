@@ -43,7 +43,8 @@ abbrev pub IsRefusedAs : List ℕ → ℕ → List ℕ → List ℕ → Type 0
 IsRefusedAs file offset bytes name = (IsOwnName name file × IsDamagedHistory name offset bytes) ⊎ ((IsOwnName name file → ⊥) × (offset ≡ 0))
 
 abbrev pub IsRefused : List ℕ → ℕ → List ℕ → Type 0
-IsRefused file offset bytes = (HasBrokenHeader bytes × (offset ≡ 0)) ⊎ ((name : List ℕ) × HasName (Some name) bytes × IsRefusedAs file offset bytes name)
+IsRefused file offset bytes = (HasBrokenHeader bytes × (offset ≡ 0)) ⊎
+    ((name : List ℕ) × HasName (Some name) bytes × IsRefusedAs file offset bytes name)
 
 module _ {K : Type 0} (view : K → DiskView) where
   pub record StandsAs (name : Key) (ds : List DeltaOf) (f : DiskView) : Type 0 where
@@ -55,7 +56,8 @@ module _ {K : Type 0} (view : K → DiskView) where
   IsStoredFile (Some f) name ds = StandsAs name ds (view f)
 
   pub record HasAll (files : List ℕ → Option K) (hs : List Hosted) : Type 0 where
-    pub each : (n : Key) (ds : List DeltaOf) → is_wavelet_name n ≡ true → ds ≢ [] → IfSome (files (file_name_of n)) (λ f. StandsForHistory n ds (view f).seen → deltas_in hs n ≡ ds)
+    pub each : (n : Key) (ds : List DeltaOf) → is_wavelet_name n ≡ true → ds ≢ []
+        → IfSome (files (file_name_of n)) (λ f. StandsForHistory n ds (view f).seen → deltas_in hs n ≡ ds)
 
   abbrev pub IsRefusedFile : Option K → List ℕ → ℕ → Type 0
   IsRefusedFile None file offset = ⊥

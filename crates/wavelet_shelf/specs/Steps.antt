@@ -40,7 +40,9 @@ module _ {K : Type 0} {disk : disk_of.Ghosts K} where
     pub late : IsErrOf r Memory → LooksAtOps (judged (history_of c) s t)
     pub untouched : IsErrOf r Memory → IsHeld c → IsSafe after
     pub within : IsHeld c → IsSafe c → IsFileWithin (history_of c).name (history_of c).deltas (judged (history_of c) s t).1 after
-    pub moments : IsHeld c → IsSafe c → IsWrittenOn (Some c) (Some after) (StandsForOneMore (history_of c).name (history_of c).deltas (λ d. (judged (history_of c) s t).1 ≡ Some d))
+    pub moments : IsHeld c → IsSafe c
+        → IsWrittenOn (Some c) (Some after)
+        (StandsForOneMore (history_of c).name (history_of c).deltas (λ d. (judged (history_of c) s t).1 ≡ Some d))
     pub later : faults_of c ≤ faults_of after
     pub failed : IsErrOf r DiskFault → Rose (faults_of c) (faults_of after)
     pub filed : IsErrOf r DiskFault → IsSome (journal_of c)
@@ -63,7 +65,8 @@ module _ {K : Type 0} {disk : disk_of.Ghosts K} where
     pub plain : journal_of before ≡ None
     pub taken : IsTaken s t before c (Ok v)
 
-  pub record IsAnswered (n : Key) (s : Submission) (t : ℕ) (es after : List (Key × Filed K disk)) (r : Result Verdict SubmitFault) : Type 0 where
+  pub record IsAnswered (n : Key) (s : Submission) (t : ℕ) (es after : List (Key × Filed K disk))
+      (r : Result Verdict SubmitFault) : Type 0 where
     pub old : Filed K disk
     pub new : Filed K disk
     pub was : lookup (pointwise ◌==◌ n) es ≡ Some old
@@ -83,7 +86,8 @@ module _ {F D : Type 0} {folder : folder_of.Ghosts F D} {disk : disk_of.Ghosts D
     pub settled : OnOk r (IsKept a → IsSettled a → IsSettled b)
     pub late : IsErrOf r Memory → LooksAtOps (judged_in (hosted_of a) n s t)
     pub untouched : IsErrOf r Memory → IsKept a → IsSettled a → IsSettled b
-    pub within : IsKept a → IsSettled a → IfSome (container_in b n) (IsFileWithin n (deltas_in (hosted_of a) n) (judged_in (hosted_of a) n s t).1)
+    pub within : IsKept a → IsSettled a
+        → IfSome (container_in b n) (IsFileWithin n (deltas_in (hosted_of a) n) (judged_in (hosted_of a) n s t).1)
     pub moments : IsKept a → IsSettled a → IsWrittenOn (container_in a n) (container_in b n) (IsOneMoreOf a n s t)
     pub later : fault_count a ≤ fault_count b
     pub failed : IsErrOf r DiskFault → Rose (fault_count a) (fault_count b)

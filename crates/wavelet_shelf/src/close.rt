@@ -19,9 +19,15 @@ impl<F: Folder + Drop> Shelf<F> {
     /// Puts every disk back, and gives the folder, which counts their faults; None exactly where there is no folder.
     pub fn close(self) -> Option<F>
         ensures folder { IsSome result ↔ IsSome (in_folder self) }
-        ensures back { IfSome result (λ f. IsTrue F.Disk.tells → AreApart self → (n : Key) → IfSome (container_in self n) (λ c. IfSome (journal_of c) (λ j. IsPutBack F.Disk.view (on_disk j) (F.files f (file_name_of n))))) }
-        ensures stored { IfSome result (λ f. IsKept self → IsSettled self → AreApart self → (n : Key) → IfSome (container_in self n) (λ c. IsStoredFile F.Disk.view (F.files f (file_name_of n)) n (history_of c).deltas)) }
-        ensures others { IfSome result (λ f. IsTrue F.Disk.tells → IfSome (in_folder self) (λ g. (m : List ℕ) → (HasFile self m → ⊥) → F.files f m ≡ F.files g m)) }
+        ensures back { IfSome result
+            (λ f. IsTrue F.Disk.tells → AreApart self → (n : Key)
+            → IfSome (container_in self n)
+            (λ c. IfSome (journal_of c) (λ j. IsPutBack F.Disk.view (on_disk j) (F.files f (file_name_of n))))) }
+        ensures stored { IfSome result
+            (λ f. IsKept self → IsSettled self → AreApart self → (n : Key)
+            → IfSome (container_in self n) (λ c. IsStoredFile F.Disk.view (F.files f (file_name_of n)) n (history_of c).deltas)) }
+        ensures others { IfSome result
+            (λ f. IsTrue F.Disk.tells → IfSome (in_folder self) (λ g. (m : List ℕ) → (HasFile self m → ⊥) → F.files f m ≡ F.files g m)) }
         ensures still { IfSome result (λ f. IfSome (in_folder self) (λ g. IsStill F.Folder g f)) }
         ensures counted { IfSome result (λ f. min (F.faults f) (2 ^ 64 - 1) ≡ fault_count self) }
     {

@@ -32,15 +32,25 @@ impl<F: Folder + Drop> Shelf<F> {
         requires folder { IsSome (in_folder self.old) }
         requires empty { entries_of self.old ≡ [] }
 
-        ensures read { OnOk result (IsTrue F.Disk.tells → IfSome (in_folder self.old) (λ f. (n : Key) → IfSome (container_in self.new n) (λ c. IsReadFrom (F.files f (file_name_of n)) c))) }
-        ensures all { OnOk result (IsTrue F.Disk.tells → IfSome (in_folder self.old) (λ f. HasAll F.Disk.view (F.files f) (hosted_of self.new))) }
-        ensures sound { OnOk result (IsTrue F.Disk.tells → IfSome (in_folder self.old) (λ f. (m : List ℕ) → IsSound F.Disk.view (F.files f m) m)) }
+        ensures read { OnOk result
+            (IsTrue F.Disk.tells → IfSome (in_folder self.old)
+            (λ f. (n : Key) → IfSome (container_in self.new n) (λ c. IsReadFrom (F.files f (file_name_of n)) c))) }
+        ensures all { OnOk result (IsTrue F.Disk.tells
+            → IfSome (in_folder self.old) (λ f. HasAll F.Disk.view (F.files f) (hosted_of self.new))) }
+        ensures sound { OnOk result
+            (IsTrue F.Disk.tells → IfSome (in_folder self.old) (λ f. (m : List ℕ) → IsSound F.Disk.view (F.files f m) m)) }
         ensures kept { OnOk result (IsTrue F.Disk.tells → IsKept self.new × IsSettled self.new) }
         ensures apart { OnOk result (AreApart self.new) }
 
-        ensures damaged { IfErr result (λ e. IfSome (damage_of e) (λ d. IsTrue F.Disk.tells → IfSome (in_folder self.old) (λ f. IsFirstRefused F.Disk.view (F.files f) d.0 d.1))) }
+        ensures damaged { IfErr result
+            (λ e. IfSome (damage_of e)
+            (λ d. IsTrue F.Disk.tells → IfSome (in_folder self.old) (λ f. IsFirstRefused F.Disk.view (F.files f) d.0 d.1))) }
         ensures none { OnErr result (entries_of self.new ≡ []) }
-        ensures as_before { IsTrue F.Disk.tells → IfSome (in_folder self.old) (λ f. IfSome (in_folder self.new) (λ g. (m : List ℕ) → ((n : Key) → IsSome (container_in self.new n) → m ≢ file_name_of n) → IsAsBefore F.Disk.view (F.files f m) (F.files g m))) }
+        ensures as_before { IsTrue F.Disk.tells
+            → IfSome (in_folder self.old)
+            (λ f. IfSome (in_folder self.new)
+            (λ g. (m : List ℕ) → ((n : Key) → IsSome (container_in self.new n) → m ≢ file_name_of n)
+            → IsAsBefore F.Disk.view (F.files f m) (F.files g m))) }
 
         ensures folder { IsSome (in_folder self.new) }
         ensures still { IsStillIn F.Folder (in_folder self.old) (in_folder self.new) }
@@ -79,8 +89,10 @@ fn load_from<F: Folder>(
 
 // The names of the files, in byte order, each once.
 fn names_of<F: Folder>(alloc: Global, folder: &mut F) -> Result<Vec<String>, ShelfFault>
-    ensures there { IfOk result (λ v. IsTrue F.Disk.tells → AllByRecursion (λ n. IsSome (F.files folder.new n)) (map string_bytes v.items)) }
-    ensures all { IfOk result (λ v. IsTrue F.Disk.tells → (m : List ℕ) → IsSome (F.files folder.old m) → is_among (map string_bytes v.items) m ≡ true) }
+    ensures there { IfOk result
+        (λ v. IsTrue F.Disk.tells → AllByRecursion (λ n. IsSome (F.files folder.new n)) (map string_bytes v.items)) }
+    ensures all { IfOk result (λ v. IsTrue F.Disk.tells → (m : List ℕ) → IsSome (F.files folder.old m)
+        → is_among (map string_bytes v.items) m ≡ true) }
     ensures distinct { IfOk result (λ v. AreAscending (map string_bytes v.items)) }
     ensures files { IsTrue F.Disk.tells → IsSame (F.files folder.old) (F.files folder.new) }
     ensures room { IsSame (F.room folder.old) (F.room folder.new) }
@@ -143,10 +155,12 @@ fn look_at<F: Folder>(
     requires apart { (n : Key) → IsSome (found containers.old.map.entries n) → name.now ≢ file_name_of n }
     ensures room { HaveRoom (F.room folder.new) containers.new.map.entries }
     ensures ok { OnOk result (IsSkipped F.Folder folder.old folder.new name.now containers.old.map.entries containers.new.map.entries ⊎ IsFileRead F.Folder folder.old folder.new name.now containers.old.map.entries containers.new.map.entries) }
-    ensures err { IfErr result (λ e. IsFileStep F.Folder folder.old folder.new name.now containers.old.map.entries containers.new.map.entries (Err e)) }
+    ensures err { IfErr result
+        (λ e. IsFileStep F.Folder folder.old folder.new name.now containers.old.map.entries containers.new.map.entries (Err e)) }
     ensures named { OnErr result (is_file_name name.now ≡ true) }
     ensures still { IsStill F.Folder folder.old folder.new }
-    ensures later { faults_with F.Folder folder.old containers.old.map.entries ≤ faults_with F.Folder folder.new containers.new.map.entries }
+    ensures later { faults_with F.Folder folder.old containers.old.map.entries
+        ≤ faults_with F.Folder folder.new containers.new.map.entries }
 {
     if is_file_name(name) {
         load_file(alloc, folder, containers, name)

@@ -70,8 +70,11 @@ fn open_as<K: Disk>(
 
 // The same where this is its wavelet.
 fn read<K: Disk>(alloc: Global, disk: K, name: WaveletName) -> Result<Opened<K>, LoadRefused<K>>
-    ensures ok { IfOk result (λ o. (m : List ℕ) → IsOwnName name m → (IsTrue K.tells → HasName (Some name) (K.view disk).seen) → IsOpened m (K.view disk) o) }
-    ensures err { IfErr result (λ r. (m : List ℕ) → IsOwnName name m → (IsTrue K.tells → HasName (Some name) (K.view disk).seen) → IsUnopened K.Disk m (K.view disk) r) }
+    ensures ok { IfOk result (λ o. (m : List ℕ) → IsOwnName name m → (IsTrue K.tells → HasName (Some name) (K.view disk).seen)
+        → IsOpened m (K.view disk) o) }
+    ensures err { IfErr result
+        (λ r. (m : List ℕ) → IsOwnName name m → (IsTrue K.tells → HasName (Some name) (K.view disk).seen)
+        → IsUnopened K.Disk m (K.view disk) r) }
 {
     let Ok(key) = name.copy(alloc) else {
         return Err(LoadRefused {

@@ -45,23 +45,29 @@ impl<F: Folder + Drop> Shelf<F> {
         ensures grown { OnOk result (hosted_of self.new ≡ after_submission (hosted_of self.old) name.now submission.now time) }
         ensures same { OnErr result (hosted_of self.new ≡ hosted_of self.old) }
         ensures others { (m : Key) → m ≢ name.now → container_in self.new m ≡ container_in self.old m }
-        ensures begun { IsSome (container_in self.new name.now) → IsSome (container_in self.old name.now) ⊎ IsSome (judged_in (hosted_of self.old) name.now submission.now time).1 }
+        ensures begun { IsSome (container_in self.new name.now)
+            → IsSome (container_in self.old name.now) ⊎ IsSome (judged_in (hosted_of self.old) name.now submission.now time).1 }
 
         ensures kept { IsKept self.old → IsKept self.new }
         ensures stored { OnOk result (IsKept self.old → IfSome (container_in self.new name.now) IsSafe) }
         ensures settled { OnOk result (IsKept self.old → IsSettled self.old → IsSettled self.new) }
         ensures untouched { IsErrOf result SubmitFault.Memory → IsKept self.old → IsSettled self.old → IsSettled self.new }
         ensures within { IsKept self.old → IsSettled self.old
-            → IfSome (container_in self.new name.now) (IsFileWithin name.now (deltas_in (hosted_of self.old) name.now) (judged_in (hosted_of self.old) name.now submission.now time).1) }
+            → IfSome (container_in self.new name.now)
+            (IsFileWithin name.now (deltas_in (hosted_of self.old) name.now)
+            (judged_in (hosted_of self.old) name.now submission.now time).1) }
         ensures late { IsErrOf result SubmitFault.Memory → LooksAtOps (judged_in (hosted_of self.old) name.now submission.now time) }
-        ensures apart { AreApart self.old → ((m : Key) → IsSome (container_in self.old m) → file_name_of m ≡ file_name_of name.now → m ≡ name.now) → AreApart self.new }
+        ensures apart { AreApart self.old
+            → ((m : Key) → IsSome (container_in self.old m) → file_name_of m ≡ file_name_of name.now → m ≡ name.now) → AreApart self.new }
 
         ensures moments { IsKept self.old → IsSettled self.old
-            → IsWrittenOn (container_in self.old name.now) (container_in self.new name.now) (IsOneMoreOf self.old name.now submission.now time) }
+            → IsWrittenOn (container_in self.old name.now) (container_in self.new name.now)
+            (IsOneMoreOf self.old name.now submission.now time) }
         ensures folder { IsUsedIn F.Folder (IsNewFile self.old name.now submission.now time) (in_folder self.old) (in_folder self.new) }
         ensures later { fault_count self.old ≤ fault_count self.new }
         ensures failed { IsErrOf result SubmitFault.DiskFault → Rose (fault_count self.old) (fault_count self.new) }
-        ensures unmade { container_in self.new name.now ≡ None → IsUnmadeIn F.Folder F.Disk.Disk (file_name_of name.now) (in_folder self.old) (in_folder self.new) }
+        ensures unmade { container_in self.new name.now ≡ None
+            → IsUnmadeIn F.Folder F.Disk.Disk (file_name_of name.now) (in_folder self.old) (in_folder self.new) }
         ensures disk { IsErrOf result SubmitFault.DiskFault → IsSome (in_folder self.old) }
     {
         self.answer(alloc, name, submission, time)
@@ -223,7 +229,8 @@ impl<F: Folder + Drop> Shelf<F> {
         ensures used { IsUsedIn F.Folder (λ m. m ≡ file.now) (in_folder self.old) (in_folder self.new) }
         ensures unmade { OnErr result (IsUnmadeIn F.Folder F.Disk.Disk file.now (in_folder self.old) (in_folder self.new)) }
         ensures later { folder_faults F.faults (in_folder self.old) ≤ folder_faults F.faults (in_folder self.new) }
-        ensures failed { IsErrOf result SubmitFault.DiskFault → Rose (folder_faults F.faults (in_folder self.old)) (folder_faults F.faults (in_folder self.new)) }
+        ensures failed { IsErrOf result SubmitFault.DiskFault
+            → Rose (folder_faults F.faults (in_folder self.old)) (folder_faults F.faults (in_folder self.new)) }
     {
         match &mut self.folder {
             Some(folder) => started(alloc, folder, file, name),

@@ -40,4 +40,5 @@ abbrev pub parts : State → Map Role × Map (List Item)
 parts s = (s.roles, s.documents)
 
 abbrev pub parts_code : Coded Role → Coded Item → Coded State
-parts_code role item = code_by (Map Role × Map (List Item)) (coded× (code (coded_list coded_ℕ) role) (code (coded_list coded_ℕ) (coded_list item))) parts (λ p. whole p.0 p.1) (λ _. refl)
+parts_code role item = code_by (Map Role × Map (List Item))
+    (coded× (code (coded_list coded_ℕ) role) (code (coded_list coded_ℕ) (coded_list item))) parts (λ p. whole p.0 p.1) (λ _. refl)

@@ -26,5 +26,7 @@ abbrev pub is_snapshot : ℕ → State → Bool
 is_snapshot n s = nat_le n max_inserted && nat_le (item_count s.documents) n
 
 abbrev pub snapshot_code : Coded Role → Coded Item → Coded SnapshotOf
-snapshot_code role item = code_by (Key × ((ℕ × List ℕ) × (ℕ × State))) (coded× (coded_list coded_ℕ) (coded× (coded× coded_ℕ (coded_list coded_ℕ)) (coded× coded_ℕ (parts_code role item))))
-    (λ s. (s.name, ((s.at.version, s.at.hash), (s.inserted, s.state)))) (λ p. record { name = p.0; at = record { version = p.1.0.0; hash = p.1.0.1 }; inserted = p.1.1.0; state = p.1.1.1 }) (λ _. refl)
+snapshot_code role item = code_by (Key × ((ℕ × List ℕ) × (ℕ × State)))
+    (coded× (coded_list coded_ℕ) (coded× (coded× coded_ℕ (coded_list coded_ℕ)) (coded× coded_ℕ (parts_code role item))))
+    (λ s. (s.name, ((s.at.version, s.at.hash), (s.inserted, s.state))))
+    (λ p. record { name = p.0; at = record { version = p.1.0.0; hash = p.1.0.1 }; inserted = p.1.1.0; state = p.1.1.1 }) (λ _. refl)

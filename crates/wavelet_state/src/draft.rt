@@ -43,7 +43,8 @@ impl Draft {
 
     /// Applies one operation. Refusals: `OpInvalid` with this index. They, and want of memory, leave all as it was.
     pub fn step(&mut self, alloc: Global, op: &WaveletOp, index: u32) -> Result<(), WaveletFault>
-        ensures ok { OnOk result (apply_act (whole self.old.roles self.old.documents) (meaning op.now) ≡ Some (whole self.new.roles self.new.documents)) }
+        ensures ok { OnOk result (apply_act (whole self.old.roles self.old.documents) (meaning op.now)
+            ≡ Some (whole self.new.roles self.new.documents)) }
         ensures trim { OnOk result ((q : Key) → IsTrimAt self.old.documents q → IsTrimAt self.new.documents q) }
         ensures refused { IfErr result (IsStepFault index (apply_act (whole self.old.roles self.old.documents) (meaning op.now))) }
         ensures kept_roles { OnErr result (self.new.roles ≡ self.old.roles) }
@@ -68,8 +69,10 @@ impl Draft {
         back: &mut Option<Back>,
     ) -> Result<(), WaveletFault>
         requires { index + length ops.now < 2 ^ 32 }
-        ensures ok { OnOk result (run (seen self.old.roles self.old.documents) (meanings ops.now) ≡ Some (seen self.new.roles self.new.documents)) }
-        ensures back { OnOk result (acts_back back.new ≡ led (inverse_acts (seen self.old.roles self.old.documents) (meanings ops.now)) (acts_back back.old)) }
+        ensures ok { OnOk result (run (seen self.old.roles self.old.documents) (meanings ops.now)
+            ≡ Some (seen self.new.roles self.new.documents)) }
+        ensures back { OnOk result
+            (acts_back back.new ≡ led (inverse_acts (seen self.old.roles self.old.documents) (meanings ops.now)) (acts_back back.old)) }
         ensures trim { OnOk result ((q : Key) → IsTrimAt self.old.documents q → IsTrimAt self.new.documents q) }
         ensures refused { IfErr result (IsRefusedFrom index (seen self.old.roles self.old.documents) (meanings ops.now)) }
         ensures kept { OnErr result (self.new.documents ≡ self.old.documents) }

@@ -53,7 +53,8 @@ impl Draft {
         index: u32,
         kept: &mut Option<Back>,
     ) -> Result<(), WaveletFault>
-        ensures ok { OnOk result (acts_back kept.new ≡ led (back_at self.now.roles self.now.documents (meaning op.now)) (acts_back kept.old)) }
+        ensures ok { OnOk result (acts_back kept.new
+            ≡ led (back_at self.now.roles self.now.documents (meaning op.now)) (acts_back kept.old)) }
         ensures refused { IfErr result (IsStepFault index (act_at self.now.roles self.now.documents (meaning op.now))) }
     {
         match kept {
@@ -103,8 +104,10 @@ impl Draft {
         index: u32,
         back: &mut Back,
     ) -> Result<(), WaveletFault>
-        ensures ok { OnOk result (meanings back.new ≡ back_at self.now.roles self.now.documents (Mutates document.now (actions op.now)) ++ meanings back.old) }
-        ensures refused { IfErr result (IsStepFault index (act_at self.now.roles self.now.documents (Mutates document.now (actions op.now)))) }
+        ensures ok { OnOk result (meanings back.new ≡ back_at self.now.roles self.now.documents (Mutates document.now (actions op.now))
+            ++ meanings back.old) }
+        ensures refused { IfErr result
+            (IsStepFault index (act_at self.now.roles self.now.documents (Mutates document.now (actions op.now)))) }
     {
         let op = match self.documents.inverse(alloc, document, op) {
             Ok(inverse) => inverse,

@@ -175,7 +175,8 @@ impl Roles {
         index: u32,
     ) -> Result<(), WaveletFault>
         ensures ok { OnOk result (changed self.old address.now (role_set old new (finite.get self.old address.now)) ≡ Some self.new) }
-        ensures refused { IfErr result (IsStepFault index (changed self.old address.now (role_set old new (finite.get self.old address.now)))) }
+        ensures refused { IfErr result
+            (IsStepFault index (changed self.old address.now (role_set old new (finite.get self.old address.now)))) }
         ensures kept { OnErr result (self.new ≡ self.old) }
     {
         let Some(role) = self.get(address) else {

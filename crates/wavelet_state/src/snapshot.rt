@@ -56,7 +56,8 @@ impl Snapshot {
         inserted: u64,
         state: WaveletState,
     ) -> Option<Snapshot>
-        ensures { result ≡ cond (is_snapshot inserted state) (Some (record { name = name; at = at; inserted = inserted; state = state })) None }
+        ensures { result ≡ cond (is_snapshot inserted state)
+            (Some (record { name = name; at = at; inserted = inserted; state = state })) None }
     {
         if is_snapshot(inserted, &state) {
             Some(Snapshot {

@@ -64,7 +64,8 @@ impl Outbox {
 
     // What the messages take with one more of so many bytes, if there is room for it.
     fn taken_with(&self, bytes: usize) -> Option<usize>
-        ensures { MatchOption result (self.now.most < self.now.taken + (bytes + 64)) (λ t. (t ≡ self.now.taken + (bytes + 64)) × (t ≤ self.now.most)) }
+        ensures { MatchOption result (self.now.most < self.now.taken + (bytes + 64))
+            (λ t. (t ≡ self.now.taken + (bytes + 64)) × (t ≤ self.now.most)) }
     {
         let room = self.most - self.taken;
         if room < EACH {

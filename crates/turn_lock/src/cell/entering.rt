@@ -159,7 +159,8 @@ impl<T: Logged> Pass<T> {
         ensures counts { IfOk result (λ guard. IsAsBusy self.old guard.pass.now) }
         ensures below { IfOk result (λ guard. ticket guard.pass.now < turn_limit) }
         ensures spent { IfErr result (λ s. turn_limit ≤ s.ticket) }
-        ensures* refused { sem 𝓛 (RestsIfErr (the_row T.row T.Entry.row) self.entry (λ guard. guard.pass.ghost_name) result (IsRefused cell.now self.old result)) }
+        ensures* refused { sem 𝓛 (RestsIfErr (the_row T.row T.Entry.row) self.entry (λ guard. guard.pass.ghost_name) result
+            (IsRefused cell.now self.old result)) }
     {
         let number = cell.draw(rt, self)?;
         Ok(cell.take(self, number))

@@ -48,7 +48,9 @@ impl<T: Logged> TurnCell<T> {
 impl<'a, T: Logged> Guard<'a, T> {
     /// The value. What is written through the reference is what `leave` gives back.
     pub fn value(&mut self) -> &mut T
-        ensures* writes_back { sem 𝓛 (Lends (the_row (record { mir = named 1; lft = [] }) T.row T.Entry.row T.Logged) T.row self.entry result (with_value self.old)) }
+        ensures* writes_back { sem 𝓛
+            (Lends (the_row (record { mir = named 1; lft = [] }) T.row T.Entry.row T.Logged) T.row self.entry result
+            (with_value self.old)) }
         ensures value { result.now ≡ self.old.value }
     {
         &mut self.value
@@ -62,7 +64,8 @@ impl<'a, T: Logged> Guard<'a, T> {
         requires one { (T.entries self.value ≡ seen self.pass.now) ⊎ IsOneMore (seen self.pass.now) (T.entries self.value) }
         ensures own { IsOf self.entry.cell.now self.exit.1.0.now }
         ensures seen { seen self.exit.1.0.now ≡ T.entries self.entry.value }
-        ensures added { added self.exit.1.0.now + length (seen self.entry.pass.now) ≡ added self.entry.pass.now + length (T.entries self.entry.value) }
+        ensures added { added self.exit.1.0.now + length (seen self.entry.pass.now) ≡ added self.entry.pass.now
+            + length (T.entries self.entry.value) }
         ensures counts { (loads self.exit.1.0.now ≡ loads self.entry.pass.now) × (ticket self.exit.1.0.now ≡ ticket self.entry.pass.now) }
     {
         let Guard {
