@@ -54,9 +54,9 @@ pub struct ReadOp {
     pub used: u64,
 }
 
-/// The operation whose spelling stands at the front of the bytes. The error is `BadBytes` exactly where there is none: where
-/// the bytes are no components in the order of the formats, where a builder refuses one, where they aren't in normal form, or are 2^32 bytes or more.
-/// No length is believed before its bytes are there.
+/// The operation whose spelling stands at the front of the bytes. The error is `BadBytes` exactly where there is none: where the
+/// bytes are no components in the order of the formats, where a builder refuses one, where they aren't in normal form, or are 2^32
+/// bytes or more. No length is believed before its bytes are there.
 pub fn read(alloc: Global, bytes: &[u8]) -> Result<ReadOp, CodecFault>
     ensures found { IfOk result (λ r. IsRead bytes.now r.op r.used) }
     ensures only { (cs : List Component) (rest : List ℕ) → IsSpelling cs → bytes.now ≡ spelling cs ++ rest

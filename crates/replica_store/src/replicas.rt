@@ -120,8 +120,8 @@ impl Replicas {
         copy.absorb(alloc, delta)
     }
 
-    /// The answer of the copy of the name to a delta of its host's history. Where there is none, an empty one answers, and is there from then on
-    /// if it took the delta. After want of memory all is as it was, but for room.
+    /// The answer of the copy of the name to a delta of its host's history. Where there is none, an empty one answers, and is there
+    /// from then on if it took the delta. After want of memory all is as it was, but for room.
     pub fn absorb(
         &mut self,
         alloc: Global,
@@ -176,8 +176,8 @@ impl Replicas {
         copy.queue_submission(alloc, submission)
     }
 
-    /// A submission to the copy of the name. `Kept` exactly where its history has the id; else it waits there for the host's verdict, once, and a copy
-    /// begins with it where there is none. After want of memory all is as it was.
+    /// A submission to the copy of the name. `Kept` exactly where its history has the id; else it waits there for the host's
+    /// verdict, once, and a copy begins with it where there is none. After want of memory all is as it was.
     pub fn queue_submission(
         &mut self,
         alloc: Global,
@@ -214,8 +214,8 @@ impl Replicas {
         copy.note_answer(alloc, id, verdict)
     }
 
-    /// The host's verdict on the submission of an id at the copy of the name. True exactly where one waits. After want of memory all is as it
-    /// was.
+    /// The host's verdict on the submission of an id at the copy of the name. True exactly where one waits. After want of memory
+    /// all is as it was.
     pub fn note_answer(
         &mut self,
         alloc: Global,
@@ -258,8 +258,8 @@ impl Replicas {
         self.drop_copy(name)
     }
 
-    /// The submission at a place among those that wait for an answer of this domain, in byte order of names and, at one copy, in the order in which
-    /// they came. The error is want of memory.
+    /// The submission at a place among those that wait for an answer of this domain, in byte order of names and, at one copy, in
+    /// the order in which they came. The error is want of memory.
     pub fn relay_at(
         &self,
         alloc: Global,

@@ -36,9 +36,10 @@ impl Drop for Delivered {
 
 impl<F: Folder + Drop> Hub<F> {
     /// What a shard's wavelets give a session at the moment of the look, and have not given it before: the messages that
-    /// `Session::deliver` gives, written. Where the session is a peer's that was told all of the shard at the length `sent` of its history, just the
-    /// wavelets that were published since are looked at; 0 says nothing, and all that is hosted is looked at. The errors are that no turn is left, and want of memory, after which the session may have been given
-    /// what wasn't answered.
+    /// `Session::deliver` gives, written. Of a peer's session that was told all of the shard at the length `sent` of its history, only
+    /// the wavelets that were published since may be looked at. All that is hosted is looked at where `sent` is 0, where the peer has
+    /// just said what it has, and where too many were published. The errors are that no turn is left, and want of memory, after which
+    /// the session may have been given what wasn't answered.
     pub fn deliver<R: Wait>(
         &self,
         rt: &R,

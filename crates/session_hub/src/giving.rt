@@ -109,8 +109,8 @@ fn keep_if(changed: bool, records: &mut Vec<Record>, newest: Record)
 }
 
 impl<F: Folder + Drop> Shard<F> {
-    /// Gives something to the copy of the name. Of a wavelet that the domain hosts there is none. Where the copy changes, the mark of what it
-    /// was given is the last one then. The room for it is taken first. After want of memory no mark was added.
+    /// Gives something to the copy of the name. Of a wavelet that the domain hosts there is none. Where the copy changes, the mark
+    /// of what it was given is the last one then. The room for it is taken first. After want of memory no mark was added.
     pub(crate) fn give(
         &mut self,
         alloc: Global,

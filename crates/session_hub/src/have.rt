@@ -22,8 +22,8 @@ use wave_outside::Folder;
 use wavelet_shelf::shard;
 
 impl<F: Folder + Drop> Hub<F> {
-    /// Notes up to where a peer has a wavelet, as `Session::answer_have` does at the moment of the look. After an error the session is as it
-    /// was: no turn is left, or there is want of memory.
+    /// Notes up to where a peer has a wavelet, as `Session::answer_have` does at the moment of the look. After an error the session
+    /// is as it was: no turn is left, or there is want of memory.
     pub fn have<R: Wait>(
         &self,
         rt: &R,

@@ -135,8 +135,8 @@ fn published_since<'a>(
     named_from(alloc, domain, records, from)
 }
 
-/// The names that are looked at for a session: none unless it is a peer's, then those that the shard of these records published since it had so
-/// many marks, or else all that is hosted.
+/// The names that are looked at for a session: none unless it is a peer's, then those that the shard of these records published
+/// since it had so many marks, or else all that is hosted.
 pub(crate) fn names_for<'a, F: Folder>(
     alloc: Global,
     hosted: &HostedCopies<'a, F>,

@@ -52,8 +52,8 @@ impl<F: Folder + Drop> Hub<F> {
         Ok(sought)
     }
 
-    /// What is at a place of what is wanted of all copies, for a domain: of one shard after the other, each in a turn. None exactly where there are no
-    /// more. The errors are that no turn is left at a shard, and want of memory.
+    /// What is at a place of what is wanted of all copies, for a domain: of one shard after the other, each in a turn. None exactly
+    /// where there are no more. The errors are that no turn is left at a shard, and want of memory.
     pub(crate) fn seek<R: Wait>(
         &self,
         rt: &R,

@@ -23,9 +23,9 @@ use wave_base::Domain;
 use wave_outside::Folder;
 use wavelet_shelf::Shelf;
 
-/// The wavelets of one shard, with the marks by which their histories came about. What the domain hosts there, and its copies of what others
-/// host, is what the marks give, which are of wavelets of the shard, and no more of them tell of a fault than the store has counted. Each
-/// hosted history is sound: nothing of it is left at its head, and a message may hold each of its deltas.
+/// The wavelets of one shard, with the marks by which their histories came about. What the domain hosts there, and its copies of
+/// what others host, is what the marks give, which are of wavelets of the shard, and no more of them tell of a fault than the store
+/// has counted. Each hosted history is sound: nothing of it is left at its head, and a message may hold each of its deltas.
 pub struct Shard<F: Folder> {
     pub(crate) domain: Domain,
     pub(crate) number: u64,

@@ -69,8 +69,8 @@ impl<F: Folder + Drop> Shard<F> {
         session.answer_have(alloc, &copies, name, from)
     }
 
-    /// What is new to a session, as texts. Of a peer that was told all that there was at this number of marks, or of whom nothing is known at 0, just
-    /// the wavelets are looked at that were published since. The error is want of memory. The marks stay.
+    /// What is new to a session, as texts. Of a peer that was told all that there was at this number of marks, or of whom nothing
+    /// is known at 0, just the wavelets are looked at that were published since. The error is want of memory. The marks stay.
     pub(crate) fn deliver(
         &mut self,
         alloc: Global,

@@ -127,8 +127,8 @@ pub(crate) fn have<F: Folder + Drop, R: Wait>(
     Ok(length)
 }
 
-/// What is new to a session in a turn of a shard, as texts, and the length of its history then. A peer was told all at the length that is given; 0
-/// says nothing.
+/// What is new to a session in a turn of a shard, as texts, and the length of its history then. A peer was told all at the length
+/// that is given; 0 says nothing.
 pub(crate) fn deliver<F: Folder + Drop, R: Wait>(
     rt: &R,
     alloc: Global,

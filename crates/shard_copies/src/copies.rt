@@ -55,8 +55,8 @@ fn kept_outcome(replicas: &Replicas, name: &WaveletName, id: &DeltaId) -> Option
 }
 
 impl<'a, F: Folder> ShardCopies<'a, F> {
-    /// The law of these copies: sessions see the histories that the domain hosts, which have deltas and whose names ascend, and the copies as they are
-    /// in the world.
+    /// The law of these copies: sessions see the histories that the domain hosts, which have deltas and whose names ascend, and the
+    /// copies as they are in the world.
     pub fn are_shown(&self)
         ensures same { IsSameShown (shown_kept self.now.hosted.domain.now self.now.hosted.shelf.now self.now.replicas.now)
             (shown_among self.now.hosted.domain.now (hosted_by self.now.hosted.domain.now (hosted_of self.now.hosted.shelf.now))

@@ -106,8 +106,8 @@ fn steps(alloc: Global, disk: &mut MemoryDisk, rest: &str, out: &mut String) -> 
     Ok(())
 }
 
-/// `disk DIGITS FAULTS | STEP | ..`: what each step on a disk with these bytes gives. Steps are `write AT DIGITS`, `read AT COUNT`, `length`,
-/// `sync`, and `image CHOICE`, which is no call.
+/// `disk DIGITS FAULTS | STEP | ..`: what each step on a disk with these bytes gives. Steps are `write AT DIGITS`, `read AT COUNT`,
+/// `length`, `sync`, and `image CHOICE`, which is no call.
 pub(crate) fn disk_steps(alloc: Global, rest: &str, out: &mut String) -> Result<(), Fault> {
     let (front, rest) = halves(rest);
     let (digits, faults) = first_word(front);

@@ -316,8 +316,8 @@ fn put_repair(
     }
 }
 
-/// `journal_repairs FIRST LAST | RECORD ..`: what a fault at each of these calls leaves: whether a repair is pending, how many records there
-/// are after it, and how many once the rest is added.
+/// `journal_repairs FIRST LAST | RECORD ..`: what a fault at each of these calls leaves: whether a repair is pending, how many
+/// records there are after it, and how many once the rest is added.
 pub(crate) fn repairs(alloc: Global, rest: &str, out: &mut String) -> Result<(), Fault> {
     let (calls, words) = halves(rest);
     let (first, last) = first_word(calls);

@@ -1,8 +1,8 @@
 //! Verbs of the rows on disks, journals and the program's words, and what rows are written in: each row begins with a verb, and what
 //! comes of it is printed after the row.
 //!
-//! In texts `<<N TEXT>>` stands for so many times that text, or the bytes of digits after `0x`. Bytes are given by hexadecimal digits, none as
-//! `-`. What follows each verb stands at its function.
+//! In texts `<<N TEXT>>` stands for so many times that text, or the bytes of digits after `0x`. Bytes are given by hexadecimal
+//! digits, none as `-`. What follows each verb stands at its function.
 #![tactic(auto)]
 
 mod answers;

@@ -1,8 +1,8 @@
 //! What the public calls on names, documents, operations, edits and conversations answer to rows of text.
 //!
-//! A row is a verb and its parts, as `test_row_words` has them. Operations are the words of `test_op_words`, and a document is the operation
-//! that makes it. A row of several commands (`rope`) has an answer to each, on a line of its own. Each file names its verbs at its
-//! function `call`.
+//! A row is a verb and its parts, as `test_row_words` has them. Operations are the words of `test_op_words`, and a document is the
+//! operation that makes it. A row of several commands (`rope`) has an answer to each, on a line of its own. Each file names its
+//! verbs at its function `call`.
 #![tactic(auto)]
 
 mod bytes;

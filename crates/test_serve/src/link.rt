@@ -6,8 +6,8 @@ use std::alloc::Global;
 use std::sync::Arc;
 use wave_outside::{Faults, Kept, Link, LinkFault, MemoryLink, Polled};
 
-/// A link in memory that waits for a turn of the talk before each poll, while there are turns for it. Its turn ends at the next poll. One that
-/// the server dialled waits for nobody: while its turn isn't on, a poll finds nothing.
+/// A link in memory that waits for a turn of the talk before each poll, while there are turns for it. Its turn ends at the next
+/// poll. One that the server dialled waits for nobody: while its turn isn't on, a poll finds nothing.
 pub struct StagedLink {
     name: String,
     place: usize,
@@ -42,7 +42,8 @@ impl Drop for StagedLink {
 impl StagedLink {
     ghost use Rattle.std.specs.Prelude.{◌≡◌, ◌≤◌, false};
 
-    /// A link of this name and place in the talk; of the turns the last one comes first. `dial` is the turn in which it was dialled, if it was.
+    /// A link of this name and place in the talk; of the turns the last one comes first. `dial` is the turn in which it was
+    /// dialled, if it was.
     pub fn new(
         name: String,
         place: usize,

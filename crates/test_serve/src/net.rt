@@ -8,7 +8,8 @@ use std::alloc::{AllocError, Global};
 use std::sync::Arc;
 use wave_outside::{Accepted, Faults, Net, NetFault};
 
-/// A net that accepts a link for each script of those, and nothing after the last, and dials one for each script of the others, in its turn.
+/// A net that accepts a link for each script of those, and nothing after the last, and dials one for each script of the others, in
+/// its turn.
 pub struct StagedNet {
     stage: Arc<Stage, Global>,
     // The last one is the next.
@@ -42,7 +43,8 @@ impl Drop for StagedNet {
 }
 
 impl StagedNet {
-    /// Of the scripts the last one comes first: of those that are accepted, and of those that are dialled. A door that is shut can't be opened.
+    /// Of the scripts the last one comes first: of those that are accepted, and of those that are dialled. A door that is shut
+    /// can't be opened.
     pub fn new(
         alloc: Global,
         stage: Arc<Stage, Global>,

@@ -65,7 +65,8 @@ fn cause_name(cause: EndCause) -> &'static str {
     }
 }
 
-// Appends how the session of a link ended, which is the link at this place among those that were put back, and how many of its calls failed.
+// Appends how the session of a link ended, which is the link at this place among those that were put back, and how many of its
+// calls failed.
 fn put_end(
     alloc: Global,
     out: &mut String,

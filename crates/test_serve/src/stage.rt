@@ -51,8 +51,8 @@ fn none_gone(alloc: Global, links: usize) -> Result<Vec<AtomicBool>, AllocError>
 }
 
 impl Stage {
-    /// A talk of so many links before its first turn, which has number 0. `owners` has the place of the link of each turn, `awaited` how many
-    /// edits of robots it waits for, and `reading` is what the clock reads where no turn is on.
+    /// A talk of so many links before its first turn, which has number 0. `owners` has the place of the link of each turn,
+    /// `awaited` how many edits of robots it waits for, and `reading` is what the clock reads where no turn is on.
     pub fn new(
         alloc: Global,
         owners: &[usize],

@@ -217,8 +217,8 @@ impl Talk {
         })
     }
 
-    /// `+ LINK DOMAIN`: a link that takes its turns in the talk; `+ LINK DOMAIN dials ADDRESS` one that the server dials in a turn of its own.
-    /// `free LINK`: one that waits for nobody.
+    /// `+ LINK DOMAIN`: a link that takes its turns in the talk; `+ LINK DOMAIN dials ADDRESS` one that the server dials in a turn
+    /// of its own. `free LINK`: one that waits for nobody.
     fn link(&mut self, alloc: Global, rest: &str, is_free: bool) -> Result<(), Fault> {
         let (name, rest) = first_word(rest);
         let (_domain, rest) = first_word(rest);

@@ -1,9 +1,9 @@
 //! What the public calls on inverses and on chains of undo answer to rows of text.
 //!
-//! A row is a verb and its parts, as `test_row_words` has them. Operations are the words of `test_op_words`, and a document is the operation
-//! that makes it. `invert` has a document and an operation on it: the inverse, the document after the operation, and the one
-//! after the inverse; or the refusal. `undo-chain` has a state and commands, in JSON, each with an answer on a line of its own. Each
-//! file names its verbs at its function `call`.
+//! A row is a verb and its parts, as `test_row_words` has them. Operations are the words of `test_op_words`, and a document is the
+//! operation that makes it. `invert` has a document and an operation on it: the inverse, the document after the operation, and the
+//! one after the inverse; or the refusal. `undo-chain` has a state and commands, in JSON, each with an answer on a line of its own.
+//! Each file names its verbs at its function `call`.
 #![tactic(auto)]
 
 mod chains;

@@ -16,7 +16,8 @@ use std::cmp::Ordering;
 use std::hash::{Hash, Hasher};
 use std::marker::Model;
 
-/// The name of a document: an id, which is 1 to 128 of `A` to `Z`, `a` to `z`, `0` to `9`, `+`, `-`, `.`, `_`, `~` and `*`. Seen as its bytes.
+/// The name of a document: an id, which is 1 to 128 of `A` to `Z`, `a` to `z`, `0` to `9`, `+`, `-`, `.`, `_`, `~` and `*`. Seen as
+/// its bytes.
 #[derive(Debug, Drop)]
 pub struct DocumentName {
     text: String,

@@ -31,9 +31,9 @@ impl<F: Folder + Drop> Shelf<F> {
     /// The verdict on a submission to the wavelet of this name at the time, in milliseconds; a name that isn't there counts as an
     /// empty history. The history of the name grows by just the delta that is accepted, and that of every other name stays as it
     /// is. Over a folder the delta is in the wavelet's file before the history has it. `DiskFault` where the folder or the disk
-    /// failed; the file then stands for the history, or for it and the delta that was accepted. No memory is taken before the operations
-    /// are looked at, and after `Memory` nothing new is left for a crash to add. A file is made only for the first delta of a name, and never
-    /// anew; where no container came to the shelf it is as it was, or emptied.
+    /// failed; the file then stands for the history, or for it and the delta that was accepted. No memory is taken before the
+    /// operations are looked at, and after `Memory` nothing new is left for a crash to add. A file is made only for the first delta
+    /// of a name, and never anew; where no container came to the shelf it is as it was, or emptied.
     pub fn submit(
         &mut self,
         alloc: Global,
