@@ -1,4 +1,4 @@
-ghost use Rattle.std.specs.Prelude.{◌≡◌, Some, IfOk, OnOk, option_map};
+ghost use Rattle.std.specs.Prelude.{◌≡◌, Some, IfOk, OnOk, OnErr, option_map};
 ghost use Rattle.std.specs.Option.{option_copied};
 ghost use Rattle.std.specs.Str.{encode_utf8_all};
 ghost use Rattle.std.specs.FinMap.{get};
@@ -132,8 +132,19 @@ impl Changes {
         true
     }
 
-    /// Sets each new value. After want of memory some are set.
+    /// Sets each new value. After want of memory the map is as it was.
     pub fn put(&self, alloc: Global, map: &mut TextMap) -> Result<(), Memory>
+        ensures ok { OnOk result (map.new ≡ put (change_set self.now) map.old) }
+        ensures err { OnErr result (map.new ≡ map.old) }
+    {
+        let mut copy = map.copy()?;
+        self.put_each(alloc, &mut copy)?;
+        *map = copy;
+        Ok(())
+    }
+
+    // Sets each new value. After want of memory some are set.
+    fn put_each(&self, alloc: Global, map: &mut TextMap) -> Result<(), Memory>
         ensures { OnOk result (map.new ≡ put (change_set self.now) map.old) }
     {
         for change in self.list.as_slice() {

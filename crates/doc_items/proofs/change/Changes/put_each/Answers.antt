@@ -5,7 +5,7 @@ use Rattle.doc_items.specs.Maps.{set_key}
 use Rattle.doc_items.specs.Changes.{key_change, change_set, none_running, put}
 use Rattle.std.proofs.Common.{take}
 use Rattle.doc_items.proofs.ChangeSets.{with_changes_next, put_next, put_none}
-use Rattle.doc_items.proofs.change.Changes.put.Goals as goal
+use Rattle.doc_items.proofs.change.Changes.put_each.Goals as goal
 
 pub loop-change-init : goal.loop-change-init
 loop-change-init c = sym (put_none c.args.map.now)
