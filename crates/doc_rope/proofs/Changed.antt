@@ -1,73 +1,9 @@
 -- Laws of items put in place of others inside one piece.
-use Rattle.std.proofs.Common.{◌≡◌, ℕ, suc, ◌+◌, ◌<◌, ◌≤◌, true, List, [], ◌∷◌, ◌++◌, length, take, drop, refl, sym, ap, subst, ◌∙◌, append_assoc, arith, length-append, length-drop}
+use Rattle.std.proofs.Common.{◌≡◌, ℕ, suc, ◌+◌, ◌≤◌, List, ◌∷◌, ◌++◌, length, take, drop, sym, ap, ◌∙◌, append_assoc, arith, length-append, length-drop}
 use Rattle.std.proofs.lemmas.List.{take-append-le, drop-append-le, take_at, drop_at, drop-drop, length-take-le}
 use Rattle.std.proofs.Math.Seq.{take-append-add, drop-append-add}
-use Rattle.std.proofs.lemmas.Bool.{ltb-true, leb-true, lt-ltb, le-leb, and_parts, and_from}
-use Rattle.doc_rope.specs.Pieces.{total, joined, sized, apart, packed, Becomes, AllBecome}
+use Rattle.doc_rope.specs.Pieces.{total, joined}
 use Rattle.doc_rope.proofs.Laws.{joined_append, length_joined}
-use Rattle.doc_rope.proofs.Seams.{packed_parts, packed_from, packed_left, packed_right, packed_tail}
-
--- ---- how long pieces are
-
-subst2 : {A B : Type 0} (P : A → B → Type 0) {a c : A} {b d : B} → a ≡ c → b ≡ d → P a b → P c d
-subst2 P {c = c} {b = b} e f h = subst (P c) f (subst (λ x. P x b) e h)
-
-sized_bounds : {T : Type 0} (p : List T) → sized p ≡ true → (0 < length p) × (length p ≤ 128)
-sized_bounds p s = let a = and_parts _ _ s in (ltb-true 0 (length p) a.0, leb-true (length p) 128 a.1)
-
-pub becomes_itself : {T : Type 0} (p : List T) → sized p ≡ true → Becomes p p
-becomes_itself p s = let b = sized_bounds p s in (b.0, b.1, omega arith)
-
-pub all_themselves : {T : Type 0} (ps : List (List T)) → packed ps ≡ true → AllBecome ps ps
-all_themselves [] h = tt
-all_themselves (p ∷ ps) h = let a = packed_parts p ps h in (becomes_itself p a.0, all_themselves ps a.2)
-
-pub all_become_append : {T : Type 0} (xs ys rs ss : List (List T)) → AllBecome xs ys → AllBecome rs ss → AllBecome (xs ++ rs) (ys ++ ss)
-all_become_append [] [] rs ss h k = k
-all_become_append [] (y ∷ ys) rs ss h k = absurd (omega (arith, h))
-all_become_append (x ∷ xs) [] rs ss h k = absurd (omega (arith, h))
-all_become_append (x ∷ xs) (y ∷ ys) rs ss h k = (h.0, all_become_append xs ys rs ss h.1 k)
-
-become_sized : {T : Type 0} (p q : List T) → Becomes p q → sized q ≡ true
-become_sized p q b = and_from _ _ (lt-ltb 0 (length q) b.0) (le-leb (length q) 128 b.1)
-
-become_apart : {T : Type 0} (p q : List T) (ps qs : List (List T)) → sized p ≡ true → apart p ps ≡ true → packed ps ≡ true → Becomes p q → AllBecome ps qs → apart q qs ≡ true
-become_apart p q [] [] s a k b h = refl
-become_apart p q [] (r ∷ qs) s a k b h = absurd (omega (arith, h))
-become_apart p q (o ∷ ps) [] s a k b h = absurd (omega (arith, h))
-become_apart p q (o ∷ ps) (r ∷ qs) s a k b h =
-    let far = ltb-true 128 (length p + length o) a in
-    lt-ltb 128 (length q + length r) (omega (arith, far, b.2, h.0.2))
-
-pub packed_become : {T : Type 0} (ps qs : List (List T)) → packed ps ≡ true → AllBecome ps qs → packed qs ≡ true
-packed_become [] [] k h = refl
-packed_become [] (q ∷ qs) k h = absurd (omega (arith, h))
-packed_become (p ∷ ps) [] k h = absurd (omega (arith, h))
-packed_become (p ∷ ps) (q ∷ qs) k h =
-    let a = packed_parts p ps k in
-    packed_from q qs (become_sized p q h.0) (become_apart p q ps qs a.0 a.1 a.2 h.0 h.1) (packed_become ps qs a.2 h.1)
-
-pub become_left : {T : Type 0} (w t ls ns : List (List T)) (p : List T) (rs : List (List T)) → w ≡ ls ++ p ∷ rs → t ≡ ns ++ p ∷ rs → packed w ≡ true → AllBecome ls ns → AllBecome w t
-become_left w t ls ns p rs e f k h =
-    let same = all_themselves (p ∷ rs) (packed_right ls (p ∷ rs) (ap packed (sym e) ∙ k)) in
-    let all = all_become_append ls ns (p ∷ rs) (p ∷ rs) h same in
-    subst2 AllBecome (sym e) (sym f) all
-
-pub become_right : {T : Type 0} (w t ls : List (List T)) (p : List T) (rs ns : List (List T)) → w ≡ ls ++ p ∷ rs → t ≡ ls ++ p ∷ ns → packed w ≡ true → AllBecome rs ns → AllBecome w t
-become_right w t ls p rs ns e f k h =
-    let whole = ap packed (sym e) ∙ k in
-    let same = all_themselves ls (packed_left ls (p ∷ rs) whole) in
-    let one = becomes_itself p (packed_parts p rs (packed_right ls (p ∷ rs) whole)).0 in
-    let all = all_become_append ls ls (p ∷ rs) (p ∷ ns) same (one, h) in
-    subst2 AllBecome (sym e) (sym f) all
-
-pub become_here : {T : Type 0} (w t ls : List (List T)) (p q : List T) (rs : List (List T)) → w ≡ ls ++ p ∷ rs → t ≡ ls ++ q ∷ rs → packed w ≡ true → Becomes p q → AllBecome w t
-become_here w t ls p q rs e f k h =
-    let whole = ap packed (sym e) ∙ k in
-    let same = all_themselves ls (packed_left ls (p ∷ rs) whole) in
-    let rest = all_themselves rs (packed_tail ls p rs whole) in
-    let all = all_become_append ls ls (p ∷ rs) (q ∷ rs) same (h, rest) in
-    subst2 AllBecome (sym e) (sym f) all
 
 -- ---- the items
 

@@ -7,12 +7,14 @@
 --     sized        a piece has 1 to 128 items
 --     apart        a piece and the next one wouldn't fit into one
 --     IsPacked     each piece is sized and apart from the next
---     Becomes      a piece has other items now, and no fewer than before
---     AllBecome    so does each of some pieces
+--     last_len     how many items the last piece has, or what is said where there is no piece
+--     first_len    how many items the first piece has, or what is said where there is no piece
+--     IsBetween    some pieces are packed where a piece of so many items stands before them, and one of so many behind them; where
+--                  none stands there it counts as one of 128, since nothing fits into one with that
 --     glued        two packed lists of pieces as one
 --     IsSpare      a node without items
 --     InPieces     what holds of each rope: a sound tree of packed pieces with at most max_count items
-use Rattle.std.specs.Prelude.{◌≡◌, ℕ, ◌+◌, ◌<◌, ◌≤◌, Bool, true, cond, ◌&&◌, List, [], ◌∷◌, ◌++◌, length, ◌==◌, nat_le, nat_lt}
+use Rattle.std.specs.Prelude.{◌≡◌, ℕ, ◌+◌, ◌≤◌, Bool, true, cond, ◌&&◌, List, [], ◌∷◌, ◌++◌, length, ◌==◌, nat_le, nat_lt}
 use Rattle.doc_items.specs.Limits.{max_count}
 use Rattle.doc_items.specs.declared.item.Item.{Item}
 use Rattle.doc_rope.specs.Shapes.{shape_of, same_shape}
@@ -59,14 +61,20 @@ packed (p ∷ ps) = sized p && apart p ps && packed ps
 abbrev pub IsPacked : {T : Type 0} → List (List T) → Type 0
 IsPacked ps = packed ps ≡ true
 
-abbrev pub Becomes : {T : Type 0} → List T → List T → Type 0
-Becomes p q = (0 < length q) × (length q ≤ 128) × (length p ≤ length q)
+abbrev pub last_len : {T : Type 0} → ℕ → List (List T) → ℕ
+last_len a [] = a
+last_len a (p ∷ ps) = last_len (length p) ps
 
-abbrev pub AllBecome : {T : Type 0} → List (List T) → List (List T) → Type 0
-AllBecome [] [] = Unit {0}
-AllBecome [] (q ∷ qs) = length q < 0
-AllBecome (p ∷ ps) [] = length p < 0
-AllBecome (p ∷ ps) (q ∷ qs) = Becomes p q × AllBecome ps qs
+abbrev pub first_len : {T : Type 0} → List (List T) → ℕ → ℕ
+first_len [] b = b
+first_len (p ∷ ps) b = length p
+
+abbrev pub between : {T : Type 0} → ℕ → List (List T) → ℕ → Bool
+between a [] b = nat_lt 128 (a + b)
+between a (p ∷ ps) b = sized p && nat_lt 128 (a + length p) && between (length p) ps b
+
+abbrev pub IsBetween : {T : Type 0} → ℕ → List (List T) → ℕ → Type 0
+IsBetween a ps b = between a ps b ≡ true
 
 -- the first piece of the second list may go into the last of the first
 abbrev pub glued : {T : Type 0} → List (List T) → List (List T) → List (List T)

@@ -1,6 +1,6 @@
 // A tree of pieces with their counts.
 ghost use Rattle.std.specs.Prelude.{◌≡◌, ℕ, ◌+◌, ◌^◌, ◌<◌, ◌≤◌, ◌==◌, ◌∷◌, ◌++◌, [], List, length, true, false, slice_get, option_copied, take, drop, IfSome, IfNone};
-ghost use Rattle.doc_rope.specs.Pieces.{pieces, IsSound, total, joined};
+ghost use Rattle.doc_rope.specs.Pieces.{pieces, IsSound, total, joined, first_len, last_len};
 ghost use Rattle.doc_rope.specs.Shapes.{shape_of};
 
 use crate::piece::Piece;
@@ -144,6 +144,28 @@ impl Tree {
         match self {
             Tree::Empty => false,
             Tree::Fork(node) => node.left.is_empty() && node.right.is_empty(),
+        }
+    }
+
+    // How many items the first piece has, or `none` where there is no piece.
+    #[tactic(auto, using(crate::proofs::Between::first_of))]
+    pub fn first_len(&self, none: usize) -> usize
+        ensures { result ≡ first_len (pieces self.now) none }
+    {
+        match self {
+            Tree::Empty => none,
+            Tree::Fork(node) => node.left.first_len(node.piece.len()),
+        }
+    }
+
+    // How many items the last piece has, or `none` where there is no piece.
+    #[tactic(auto, using(crate::proofs::Between::last_of))]
+    pub fn last_len(&self, none: usize) -> usize
+        ensures { result ≡ last_len none (pieces self.now) }
+    {
+        match self {
+            Tree::Empty => none,
+            Tree::Fork(node) => node.right.last_len(node.piece.len()),
         }
     }
 }

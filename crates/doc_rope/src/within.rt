@@ -1,24 +1,31 @@
 // Items put in place of others inside one piece, so that no other piece changes.
 ghost use Rattle.std.specs.Prelude.{◌≡◌, ℕ, ◌+◌, ◌^◌, ◌<◌, ◌≤◌, ◌∷◌, ◌++◌, [], List, length, take, drop, IfOk, IfErr, OnOk, OnErr};
-ghost use Rattle.doc_rope.specs.Pieces.{pieces, IsSound, total, IsPacked, joined, AllBecome};
+ghost use Rattle.doc_rope.specs.Pieces.{pieces, IsSound, total, IsPacked, joined, IsBetween, first_len, last_len};
 
 use crate::ends::concat;
 use crate::halves::cut;
-use crate::piece::Piece;
+use crate::piece::{PIECE, Piece};
 use crate::tree::{Node, Tree};
 use crate::turns::{fork, open};
 
 // Puts the items in place of the `count` items from place `from` on, where these lie in one piece which has room for them and then
-// has no fewer items than before. Otherwise all stays as it was.
-#[tactic(auto, using(crate::proofs::Laws::total_append, crate::proofs::Changed::joined_left, crate::proofs::Changed::joined_right, crate::proofs::Changed::joined_here, crate::proofs::Laws::length_cut, crate::proofs::Seams::packed_left, crate::proofs::Seams::packed_tail, crate::proofs::Changed::become_left, crate::proofs::Changed::become_right, crate::proofs::Changed::become_here))]
-pub fn put_within(tree: Tree, from: usize, count: usize, items: &mut Piece) -> Result<Tree, Tree>
+// still doesn't fit into one with a neighbour. Otherwise all stays as it was. The pieces before and behind the tree have `prior` and
+// `next` items. Where there is none it counts as one of 128, since nothing fits into one with that.
+#[tactic(auto, using(crate::proofs::Laws::total_append, crate::proofs::Laws::length_cut, crate::proofs::Changed::joined_left, crate::proofs::Changed::joined_right, crate::proofs::Between::between_left, crate::proofs::Between::between_right, crate::proofs::Between::between_before))]
+fn put_within(
+    tree: Tree,
+    from: usize,
+    count: usize,
+    items: &mut Piece,
+    prior: usize,
+    next: usize,
+) -> Result<Tree, Tree>
     requires sound { IsSound tree }
-    requires packed { IsPacked (pieces tree) }
+    requires packed { IsBetween prior (pieces tree) next }
     requires inside { from + count ≤ total (pieces tree) }
     requires fits { total (pieces tree) + length items.old < 2 ^ 64 }
-    ensures joined { IfOk result
-        (λ t. joined (pieces t) ≡ take from (joined (pieces tree)) ++ items.old ++ drop (from + count) (joined (pieces tree))) }
-    ensures pieces { IfOk result (λ t. AllBecome (pieces tree) (pieces t)) }
+    ensures joined { IfOk result (λ t. joined (pieces t) ≡ take from (joined (pieces tree)) ++ items.old ++ drop (from + count) (joined (pieces tree))) }
+    ensures packed { IfOk result (λ t. IsBetween prior (pieces t) next) }
     ensures count { IfOk result (λ t. total (pieces t) + count ≡ total (pieces tree) + length items.old) }
     ensures sound { IfOk result (λ t. IsSound t) }
     ensures used { OnOk result (items.new ≡ []) }
@@ -32,28 +39,29 @@ pub fn put_within(tree: Tree, from: usize, count: usize, items: &mut Piece) -> R
         Tree::Empty => Err(Tree::Empty),
         Tree::Fork(mut node) => {
             let (left, right) = open(&mut node);
+            let len = node.piece.len();
             let before = left.count();
-            let behind = before + node.piece.len();
+            let behind = before + len;
             let end = from + count;
-            if end < before {
-                match put_within(left, from, count, items) {
+            if from < before && end <= before {
+                match put_within(left, from, count, items, prior, len) {
                     Ok(left) => Ok(fork(left, node, right)),
                     Err(left) => Err(fork(left, node, right)),
                 }
-            } else if behind < from {
-                match put_within(right, from - behind, count, items) {
+            } else if behind <= from && behind < end {
+                match put_within(right, from - behind, count, items, len, next) {
                     Ok(right) => Ok(fork(left, node, right)),
                     Err(right) => Err(fork(left, node, right)),
                 }
             } else {
-                put_here(left, node, right, from, count, items)
+                put_here(left, node, right, from, count, items, prior, next)
             }
         }
     }
 }
 
 // Puts the items in the middle piece of a tree, where they replace what lies in it alone.
-#[tactic(auto, using(crate::proofs::Laws::total_append, crate::proofs::Changed::joined_here, crate::proofs::Changed::become_here))]
+#[tactic(auto, using(crate::proofs::Laws::total_append, crate::proofs::Changed::joined_here, crate::proofs::Between::between_here))]
 fn put_here(
     left: Tree,
     mut node: Box<Node>,
@@ -61,19 +69,18 @@ fn put_here(
     from: usize,
     count: usize,
     items: &mut Piece,
+    prior: usize,
+    next: usize,
 ) -> Result<Tree, Tree>
     requires left { IsSound left }
     requires right { IsSound right }
-    requires packed { IsPacked (pieces left ++ node.value.piece ∷ pieces right) }
+    requires packed { IsBetween prior (pieces left ++ node.value.piece ∷ pieces right) next }
     requires whole { total (pieces left) + (length node.value.piece + total (pieces right)) < 2 ^ 64 }
     requires inside { from + count < 2 ^ 64 }
     requires fits { total (pieces left) + (length node.value.piece + total (pieces right)) + length items.old < 2 ^ 64 }
-    ensures joined { IfOk result
-        (λ t. joined (pieces t) ≡ take from (joined (pieces left ++ node.value.piece ∷ pieces right)) ++ items.old
-        ++ drop (from + count) (joined (pieces left ++ node.value.piece ∷ pieces right))) }
-    ensures pieces { IfOk result (λ t. AllBecome (pieces left ++ node.value.piece ∷ pieces right) (pieces t)) }
-    ensures count { IfOk result
-        (λ t. total (pieces t) + count ≡ total (pieces left) + (length node.value.piece + total (pieces right)) + length items.old) }
+    ensures joined { IfOk result (λ t. joined (pieces t) ≡ take from (joined (pieces left ++ node.value.piece ∷ pieces right)) ++ items.old ++ drop (from + count) (joined (pieces left ++ node.value.piece ∷ pieces right))) }
+    ensures packed { IfOk result (λ t. IsBetween prior (pieces t) next) }
+    ensures count { IfOk result (λ t. total (pieces t) + count ≡ total (pieces left) + (length node.value.piece + total (pieces right)) + length items.old) }
     ensures sound { IfOk result (λ t. IsSound t) }
     ensures used { OnOk result (items.new ≡ []) }
     ensures kept { IfErr result (λ t. pieces t ≡ pieces left ++ node.value.piece ∷ pieces right) }
@@ -89,15 +96,30 @@ fn put_here(
     if at + count > len {
         return Err(fork(left, node, right));
     }
-    if node.piece.put(at, count, items, len) {
+    let least = least_between(&left, &right, prior, next);
+    if node.piece.put(at, count, items, least) {
         Ok(fork(left, node, right))
     } else {
         Err(fork(left, node, right))
     }
 }
 
-// Puts the items in one piece. One that stands alone may then also have fewer items than before.
-#[tactic(auto, using(crate::proofs::Changed::packed_become))]
+// How many items a piece between the two trees must have, so that it doesn't fit into one with a neighbour.
+fn least_between(left: &Tree, right: &Tree, prior: usize, next: usize) -> usize
+    ensures before { 128 < last_len prior (pieces left.now) + result }
+    ensures behind { 128 < first_len (pieces right.now) next + result }
+{
+    let before = left.last_len(prior);
+    let behind = right.first_len(next);
+    if before < behind {
+        (PIECE + 1).saturating_sub(before)
+    } else {
+        (PIECE + 1).saturating_sub(behind)
+    }
+}
+
+// Puts the items in one piece, where the pieces then are packed. Otherwise all stays as it was.
+#[tactic(auto, using(crate::proofs::Between::between_none, crate::proofs::Between::packed_between))]
 fn put_near(tree: Tree, from: usize, count: usize, items: &mut Piece) -> Result<Tree, Tree>
     requires sound { IsSound tree }
     requires packed { IsPacked (pieces tree) }
@@ -112,39 +134,7 @@ fn put_near(tree: Tree, from: usize, count: usize, items: &mut Piece) -> Result<
     ensures kept_sound { IfErr result (λ t. IsSound t) }
     ensures kept_items { OnErr result (items.new ≡ items.old) }
 {
-    if tree.is_one() {
-        put_alone(tree, from, count, items)
-    } else {
-        put_within(tree, from, count, items)
-    }
-}
-
-// Puts the items in the piece of a tree that has one.
-fn put_alone(tree: Tree, from: usize, count: usize, items: &mut Piece) -> Result<Tree, Tree>
-    requires sound { IsSound tree }
-    requires inside { from + count ≤ total (pieces tree) }
-    requires fits { total (pieces tree) + length items.old < 2 ^ 64 }
-    requires one { length (pieces tree) ≡ 1 }
-    ensures joined { IfOk result
-        (λ t. joined (pieces t) ≡ take from (joined (pieces tree)) ++ items.old ++ drop (from + count) (joined (pieces tree))) }
-    ensures packed { IfOk result (λ t. IsPacked (pieces t)) }
-    ensures sound { IfOk result (λ t. IsSound t) }
-    ensures used { OnOk result (items.new ≡ []) }
-    ensures kept { IfErr result (λ t. pieces t ≡ pieces tree) }
-    ensures kept_sound { IfErr result (λ t. IsSound t) }
-    ensures kept_items { OnErr result (items.new ≡ items.old) }
-{
-    let _whole = tree.count();
-    match tree {
-        Tree::Empty => Err(Tree::Empty),
-        Tree::Fork(mut node) => {
-            if node.piece.put(from, count, items, 1) {
-                Ok(fork(Tree::Empty, node, Tree::Empty))
-            } else {
-                Err(fork(Tree::Empty, node, Tree::Empty))
-            }
-        }
-    }
+    put_within(tree, from, count, items, PIECE, PIECE)
 }
 
 // The tree with the items in place of the `count` items from place `from` on, with spare pieces for those that are cut at both
