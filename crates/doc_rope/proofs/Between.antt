@@ -70,8 +70,8 @@ between_here a w t ls p q rs b n e f h before behind least some short =
 pub between_before : {T : Type 0} (a : ℕ) (w ls : List (List T)) (p : List T) (rs : List (List T)) (b : ℕ) → w ≡ ls ++ p ∷ rs → between a w b ≡ true → between a ls (length p) ≡ true
 between_before a w ls p rs b e h = left_of a ls p rs b (ap (λ n. between a n b) (sym e) ∙ h)
 
-pub between_behind : {T : Type 0} (a : ℕ) (w ls : List (List T)) (p : List T) (rs : List (List T)) (b : ℕ) → w ≡ ls ++ p ∷ rs → between a w b ≡ true → between (length p) rs b ≡ true
-between_behind a w ls p rs b e h = right_of a ls p rs b (ap (λ n. between a n b) (sym e) ∙ h)
+pub between_after : {T : Type 0} (a : ℕ) (w ls : List (List T)) (p : List T) (rs : List (List T)) (b : ℕ) → w ≡ ls ++ p ∷ rs → between a w b ≡ true → between (length p) rs b ≡ true
+between_after a w ls p rs b e h = right_of a ls p rs b (ap (λ n. between a n b) (sym e) ∙ h)
 
 -- ---- nothing stands on either side
 

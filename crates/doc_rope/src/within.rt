@@ -9,7 +9,7 @@ use crate::tree::{Node, Tree};
 use crate::turns::{fork, open};
 
 // Puts the items in place of the `count` items from place `from` on, where these lie in one piece which has room for them and then
-// still doesn't fit into one with a neighbour. Otherwise all stays as it was. The pieces before and behind the tree have `prior` and
+// still doesn't fit into one with a neighbour. Otherwise all stays as it was. The pieces before and after the tree have `prior` and
 // `next` items. Where there is none it counts as one of 128, since nothing fits into one with that.
 #[tactic(auto, using(crate::proofs::Laws::total_append, crate::proofs::Laws::length_cut, crate::proofs::Changed::joined_left, crate::proofs::Changed::joined_right, crate::proofs::Between::between_left, crate::proofs::Between::between_right, crate::proofs::Between::between_before))]
 fn put_within(
@@ -24,7 +24,8 @@ fn put_within(
     requires packed { IsBetween prior (pieces tree) next }
     requires inside { from + count ≤ total (pieces tree) }
     requires fits { total (pieces tree) + length items.old < 2 ^ 64 }
-    ensures joined { IfOk result (λ t. joined (pieces t) ≡ take from (joined (pieces tree)) ++ items.old ++ drop (from + count) (joined (pieces tree))) }
+    ensures joined { IfOk result
+        (λ t. joined (pieces t) ≡ take from (joined (pieces tree)) ++ items.old ++ drop (from + count) (joined (pieces tree))) }
     ensures packed { IfOk result (λ t. IsBetween prior (pieces t) next) }
     ensures count { IfOk result (λ t. total (pieces t) + count ≡ total (pieces tree) + length items.old) }
     ensures sound { IfOk result (λ t. IsSound t) }
@@ -78,9 +79,12 @@ fn put_here(
     requires whole { total (pieces left) + (length node.value.piece + total (pieces right)) < 2 ^ 64 }
     requires inside { from + count < 2 ^ 64 }
     requires fits { total (pieces left) + (length node.value.piece + total (pieces right)) + length items.old < 2 ^ 64 }
-    ensures joined { IfOk result (λ t. joined (pieces t) ≡ take from (joined (pieces left ++ node.value.piece ∷ pieces right)) ++ items.old ++ drop (from + count) (joined (pieces left ++ node.value.piece ∷ pieces right))) }
+    ensures joined { IfOk result
+        (λ t. joined (pieces t) ≡ take from (joined (pieces left ++ node.value.piece ∷ pieces right)) ++ items.old
+        ++ drop (from + count) (joined (pieces left ++ node.value.piece ∷ pieces right))) }
     ensures packed { IfOk result (λ t. IsBetween prior (pieces t) next) }
-    ensures count { IfOk result (λ t. total (pieces t) + count ≡ total (pieces left) + (length node.value.piece + total (pieces right)) + length items.old) }
+    ensures count { IfOk result
+        (λ t. total (pieces t) + count ≡ total (pieces left) + (length node.value.piece + total (pieces right)) + length items.old) }
     ensures sound { IfOk result (λ t. IsSound t) }
     ensures used { OnOk result (items.new ≡ []) }
     ensures kept { IfErr result (λ t. pieces t ≡ pieces left ++ node.value.piece ∷ pieces right) }
