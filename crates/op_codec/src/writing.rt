@@ -1,6 +1,7 @@
-// What is appended for each part of an operation.
-ghost use Rattle.std.specs.Prelude.{◌≡◌, ◌++◌, ◌∷◌, OnOk};
+// What is appended for each part of an operation. After want of memory a part of it may stand after what was there.
+ghost use Rattle.std.specs.Prelude.{◌≡◌, ◌++◌, ◌∷◌, OnErr, OnOk};
 ghost use Rattle.std.specs.Int.{w32, to_be_bytes};
+ghost use Rattle.std.specs.Io.{StartsWith};
 ghost use Rattle.op_codec.specs.Spelling.{string, text, optional, listed, attributes, change, boundary, component, spelling};
 
 use doc_items::{Attributes, Boundary, Change, Memory, Text};
@@ -8,7 +9,8 @@ use doc_op::{Component, DocOp};
 
 // The four low bytes of a count.
 fn write_count(out: &mut Vec<u8>, count: usize) -> Result<(), Memory>
-    ensures { OnOk result (out.new.items ≡ out.old.items ++ to_be_bytes w32 count) }
+    ensures appended { OnOk result (out.new.items ≡ out.old.items ++ to_be_bytes w32 count) }
+    ensures begins { OnErr result (StartsWith out.new.items out.old.items) }
 {
     let bytes = (count as u64).to_be_bytes();
     let [_, _, _, _, low @ ..] = bytes.as_slice() else {
@@ -19,7 +21,8 @@ fn write_count(out: &mut Vec<u8>, count: usize) -> Result<(), Memory>
 }
 
 fn write_string(out: &mut Vec<u8>, value: &str) -> Result<(), Memory>
-    ensures { OnOk result (out.new.items ≡ out.old.items ++ string value.now) }
+    ensures appended { OnOk result (out.new.items ≡ out.old.items ++ string value.now) }
+    ensures begins { OnErr result (StartsWith out.new.items out.old.items) }
 {
     write_count(out, value.len())?;
     out.extend_from_slice(value.as_bytes())?;
@@ -27,13 +30,15 @@ fn write_string(out: &mut Vec<u8>, value: &str) -> Result<(), Memory>
 }
 
 fn write_text(out: &mut Vec<u8>, value: &Text) -> Result<(), Memory>
-    ensures { OnOk result (out.new.items ≡ out.old.items ++ text value.now) }
+    ensures appended { OnOk result (out.new.items ≡ out.old.items ++ text value.now) }
+    ensures begins { OnErr result (StartsWith out.new.items out.old.items) }
 {
     write_string(out, value.as_str())
 }
 
 fn write_optional(out: &mut Vec<u8>, value: &Option<Text>) -> Result<(), Memory>
-    ensures { OnOk result (out.new.items ≡ out.old.items ++ optional value.now) }
+    ensures appended { OnOk result (out.new.items ≡ out.old.items ++ optional value.now) }
+    ensures begins { OnErr result (StartsWith out.new.items out.old.items) }
 {
     match value {
         Some(text) => {
@@ -48,7 +53,8 @@ fn write_optional(out: &mut Vec<u8>, value: &Option<Text>) -> Result<(), Memory>
 }
 
 fn write_attributes(out: &mut Vec<u8>, map: &Attributes) -> Result<(), Memory>
-    ensures { OnOk result (out.new.items ≡ out.old.items ++ attributes map.now) }
+    ensures appended { OnOk result (out.new.items ≡ out.old.items ++ attributes map.now) }
+    ensures begins { OnErr result (StartsWith out.new.items out.old.items) }
 {
     write_count(out, map.len())?;
     for (key, value) in map.iter() {
@@ -59,7 +65,8 @@ fn write_attributes(out: &mut Vec<u8>, map: &Attributes) -> Result<(), Memory>
 }
 
 fn write_change(out: &mut Vec<u8>, value: &Change) -> Result<(), Memory>
-    ensures { OnOk result (out.new.items ≡ out.old.items ++ change value.now) }
+    ensures appended { OnOk result (out.new.items ≡ out.old.items ++ change value.now) }
+    ensures begins { OnErr result (StartsWith out.new.items out.old.items) }
 {
     write_text(out, &value.key)?;
     write_optional(out, &value.old)?;
@@ -67,7 +74,8 @@ fn write_change(out: &mut Vec<u8>, value: &Change) -> Result<(), Memory>
 }
 
 fn write_changes(out: &mut Vec<u8>, changes: &[Change]) -> Result<(), Memory>
-    ensures { OnOk result (out.new.items ≡ out.old.items ++ listed change changes.now) }
+    ensures appended { OnOk result (out.new.items ≡ out.old.items ++ listed change changes.now) }
+    ensures begins { OnErr result (StartsWith out.new.items out.old.items) }
 {
     write_count(out, changes.len())?;
     for change in changes {
@@ -77,14 +85,16 @@ fn write_changes(out: &mut Vec<u8>, changes: &[Change]) -> Result<(), Memory>
 }
 
 fn write_boundary(out: &mut Vec<u8>, value: &Boundary) -> Result<(), Memory>
-    ensures { OnOk result (out.new.items ≡ out.old.items ++ boundary value.now) }
+    ensures appended { OnOk result (out.new.items ≡ out.old.items ++ boundary value.now) }
+    ensures begins { OnErr result (StartsWith out.new.items out.old.items) }
 {
     write_keys(out, value.end.as_slice())?;
     write_changes(out, value.change.as_slice())
 }
 
 fn write_keys(out: &mut Vec<u8>, keys: &[Text]) -> Result<(), Memory>
-    ensures { OnOk result (out.new.items ≡ out.old.items ++ listed text keys.now) }
+    ensures appended { OnOk result (out.new.items ≡ out.old.items ++ listed text keys.now) }
+    ensures begins { OnErr result (StartsWith out.new.items out.old.items) }
 {
     write_count(out, keys.len())?;
     for key in keys {
@@ -94,7 +104,8 @@ fn write_keys(out: &mut Vec<u8>, keys: &[Text]) -> Result<(), Memory>
 }
 
 fn write_element(out: &mut Vec<u8>, tag: u8, kind: &Text, map: &Attributes) -> Result<(), Memory>
-    ensures { OnOk result (out.new.items ≡ out.old.items ++ tag ∷ (text kind.now ++ attributes map.now)) }
+    ensures appended { OnOk result (out.new.items ≡ out.old.items ++ tag ∷ (text kind.now ++ attributes map.now)) }
+    ensures begins { OnErr result (StartsWith out.new.items out.old.items) }
 {
     out.push(tag)?;
     write_text(out, kind)?;
@@ -102,7 +113,8 @@ fn write_element(out: &mut Vec<u8>, tag: u8, kind: &Text, map: &Attributes) -> R
 }
 
 fn write_component(out: &mut Vec<u8>, value: &Component) -> Result<(), Memory>
-    ensures { OnOk result (out.new.items ≡ out.old.items ++ component value.now) }
+    ensures appended { OnOk result (out.new.items ≡ out.old.items ++ component value.now) }
+    ensures begins { OnErr result (StartsWith out.new.items out.old.items) }
 {
     match value {
         Component::Retain(count) => {
@@ -146,9 +158,10 @@ fn write_component(out: &mut Vec<u8>, value: &Component) -> Result<(), Memory>
     }
 }
 
-/// Appends the bytes of an operation as it stands. After want of memory some of them are there.
+/// Appends the bytes of an operation as it stands. After want of memory a part of them may stand after what was there.
 pub(crate) fn write_components(out: &mut Vec<u8>, op: &DocOp) -> Result<(), Memory>
-    ensures { OnOk result (out.new.items ≡ out.old.items ++ spelling op.now) }
+    ensures appended { OnOk result (out.new.items ≡ out.old.items ++ spelling op.now) }
+    ensures begins { OnErr result (StartsWith out.new.items out.old.items) }
 {
     let components = op.as_slice();
     write_count(out, components.len())?;
