@@ -24,9 +24,11 @@
 --     is_cut words                a word stands after `--`
 --     accepted words              the command by clap and by the values
 --     command_of words            the command that the words name; None where they name none
-use Rattle.std.specs.Prelude.{ℕ, ◌+◌, ◌-◌, ◌*◌, ◌==◌, ◌&&◌, ◌||◌, nat_le, not, Bool, true, false, cond, List, [], ◌∷◌, Option, Some, None, codes, option_and_then}
+--     command_in words            the command that these strings name
+use Rattle.std.specs.Prelude.{ℕ, ◌+◌, ◌-◌, ◌*◌, ◌==◌, ◌&&◌, ◌||◌, nat_le, not, Bool, true, false, cond, List, [], ◌∷◌, Option, Some, None, codes, map, option_and_then, String, string_bytes}
 use Rattle.std.specs.Option.{option_map}
 use Rattle.std.specs.Cmp.Lexicographic.{pointwise}
+use Rattle.std.specs.Global.{Global}
 use Rattle.clap.specs.Words.{App, Rule, Shape, Text, new_app, new_rule, with_rule, with_subcommand, first_of, subcommand_of}
 use Rattle.clap.specs.Simple.{on_top}
 use Rattle.clap.specs.Walk.{Row, is_empty}
@@ -222,3 +224,6 @@ accepted words = cond (is_empty (fault_of wave words)) (option_and_then named (s
 
 abbrev pub command_of : List Text → Option CommandOf
 command_of words = cond (is_cut words) None (accepted words)
+
+abbrev pub command_in : List (String Global) → Option CommandOf
+command_in words = command_of (map string_bytes words)

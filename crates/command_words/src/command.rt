@@ -1,6 +1,6 @@
 ghost use Rattle.std.specs.Prelude.{◌≡◌, Some, None, true, IfOk, IfErr, option_map, option_and_then, map, string_bytes};
 ghost use Rattle.clap.specs.Words.{first_of, subcommand_rows_of};
-ghost use Rattle.command_words.specs.Commands.{stored, loaded, checked, given, perhaps, folder, flag, both, host, session_number, played, inboxed, served, served_by, client_key, edited, edited_by, named_net, named_past, named, is_cut, accepted, command_of, needs_net};
+ghost use Rattle.command_words.specs.Commands.{stored, loaded, checked, given, perhaps, folder, flag, both, host, session_number, played, inboxed, served, served_by, client_key, edited, edited_by, named_net, named_past, named, is_cut, accepted, command_in, needs_net};
 ghost use Rattle.command_words.specs.Shown.{shown};
 
 use crate::grammar::matches_of;
@@ -477,8 +477,8 @@ fn accepted<'a>(alloc: Global, words: &'a [String]) -> Result<Command<'a>, Words
 /// domain isn't a name of its grammar, and where the servers of other domains aren't each a domain of its own, `=` and an address, or one
 /// of them has the domain of the server itself.
 pub fn read_words<'a>(alloc: Global, words: &'a [String]) -> Result<Command<'a>, WordsFault>
-    ensures ok { IfOk result (λ c. command_of (map string_bytes words.entry.now) ≡ Some (shown c)) }
-    ensures refused { IfErr result (λ e. e ≡ WordsFault.Usage → command_of (map string_bytes words.entry.now) ≡ None) }
+    ensures ok { IfOk result (λ c. command_in words.entry.now ≡ Some (shown c)) }
+    ensures refused { IfErr result (λ e. e ≡ WordsFault.Usage → command_in words.entry.now ≡ None) }
 {
     if is_cut(words) {
         return Err(WordsFault::Usage);

@@ -1,5 +1,5 @@
 use Rattle.std.proofs.Common.{◌≡◌, ◌∙◌, Some, None, rules, arith, refl, ap, sym, subst, inl, inr, map, string_bytes, IsTrue, true, false, true≢false}
-use Rattle.command_words.specs.Commands.{command_of, needs_net, Pipe, Load}
+use Rattle.command_words.specs.Commands.{command_in, needs_net, Pipe, Load}
 use Rattle.command_words.specs.Shown.{shown}
 use Rattle.wave_outside.specs.Counts.{Rose}
 use Rattle.wave_program.specs.Edit.{IsClient, HasNetCause}
@@ -17,18 +17,18 @@ use Rattle.wave_program.proofs.top.run.Goals as goal
 
 pub net_command-requires-clause-key : goal.net_command-requires-clause-key
 net_command-requires-clause-key g c = λ user connect k named.
-    let said : command_of (map string_bytes c.args.words.now.items) ≡ Some (shown c.in-Ok.command) = search rules in
+    let said : command_in c.args.words.now.items ≡ Some (shown c.in-Ok.command) = search rules in
     key_bound (map string_bytes c.args.words.now.items) user connect k (said ∙ ap (λ d. Some d) named)
 
 pub obey-requires-clause-small : goal.obey-requires-clause-small
 obey-requires-clause-small g c = λ n named.
-    let said : command_of (map string_bytes c.args.words.now.items) ≡ Some (shown c.in-Ok.command) = search rules in
+    let said : command_in c.args.words.now.items ≡ Some (shown c.in-Ok.command) = search rules in
     load_bound (map string_bytes c.args.words.now.items) n (said ∙ ap (λ d. Some d) named)
 
 -- a server or a client
 pub returns-then-needs_net : goal.returns-then-needs_net
 returns-then-needs_net g c =
-    let o = command_of (map string_bytes c.args.words.now.items) in
+    let o = command_in c.args.words.now.items in
     let named = shown c.in-Ok.command in
     let said : o ≡ Some named = search rules in
     let net : needs_net named ≡ true = search rules in
@@ -81,7 +81,7 @@ returns-then-needs_net g c =
 -- a command that needs no net
 pub returns-else-needs_net : goal.returns-else-needs_net
 returns-else-needs_net g c =
-    let o = command_of (map string_bytes c.args.words.now.items) in
+    let o = command_in c.args.words.now.items in
     let named = shown c.in-Ok.command in
     let said : o ≡ Some named = search rules in
     let local : needs_net named ≡ false = search rules in
@@ -132,7 +132,7 @@ returns-else-needs_net g c =
 -- other words
 pub returns-in-Err-Usage : goal.returns-in-Err-Usage
 returns-in-Err-Usage g c =
-    let o = command_of (map string_bytes c.args.words.now.items) in
+    let o = command_in c.args.words.now.items in
     let other : o ≡ None = search rules in
     let none = c.requires.empty in
     record {
@@ -179,7 +179,7 @@ returns-in-Err-Usage g c =
 -- there was no memory to read them
 pub returns-in-Err-Memory : goal.returns-in-Err-Memory
 returns-in-Err-Memory g c =
-    let o = command_of (map string_bytes c.args.words.now.items) in
+    let o = command_in c.args.words.now.items in
     let none = c.requires.empty in
     let old = c.args.outside.now in
     let passes = old.server.passes in
