@@ -117,8 +117,9 @@ impl Rebuild<'_> {
             (map (λ c. insertion (change_set running.now) (Character c)) chars.now ++ more)
             (ahead self.new.rest) self.new.items.items more) }
     {
+        let notes = new_notes(alloc, running)?;
         for c in chars {
-            self.insert(alloc, running, Content::Character(*c))?;
+            self.push_new(running, Content::Character(*c), notes.copy()?)?;
         }
         Ok(())
     }
@@ -141,13 +142,23 @@ impl Rebuild<'_> {
     }
 
     // Inserts an item with the new values that run.
-    #[tactic(auto, using(crate::proofs::Gives::starts))]
     fn insert(&mut self, alloc: Global, running: &Changes, content: Content) -> Result<(), Memory>
         ensures { OnOk result ((more : List Action)
             → Gives (ahead self.old.rest) self.old.items.items (insertion (change_set running.now) content ∷ more)
             (ahead self.new.rest) self.new.items.items more) }
     {
         let notes = new_notes(alloc, running)?;
+        self.push_new(running, content, notes)
+    }
+
+    // Inserts an item with these notes, which are the new values that run. What runs is only spoken of.
+    #[tactic(auto, using(crate::proofs::Gives::starts))]
+    fn push_new(&mut self, running: &Changes, content: Content, notes: Notes) -> Result<(), Memory>
+        requires { notes ≡ new_values (change_set running.now) }
+        ensures { OnOk result ((more : List Action)
+            → Gives (ahead self.old.rest) self.old.items.items (insertion (change_set running.now) content ∷ more)
+            (ahead self.new.rest) self.new.items.items more) }
+    {
         self.items.push(Item { content, notes })?;
         Ok(())
     }
