@@ -46,6 +46,14 @@ fn write_number(value: u64, out: &mut Vec<u8>) -> Result<(), Memory>
     Ok(())
 }
 
+fn write_numbers(first: u64, second: u64, out: &mut Vec<u8>) -> Result<(), Memory>
+    ensures appended { OnOk result (out.new.items ≡ out.old.items ++ number first ++ number second) }
+    ensures begins { OnErr result (StartsWith out.new.items out.old.items) }
+{
+    write_number(first, out)?;
+    write_number(second, out)
+}
+
 fn role_byte(role: Role) -> u8
     ensures { result ≡ role_byte role }
 {
@@ -115,22 +123,25 @@ fn write_id(id: &DeltaId, out: &mut Vec<u8>) -> Result<(), Memory>
     write_number(id.number, out)
 }
 
-// What stands before the operations of a delta.
-fn write_head(
-    format: u8,
-    id: &DeltaId,
-    version: u64,
-    time: u64,
-    out: &mut Vec<u8>,
-) -> Result<(), Memory>
-    ensures appended { OnOk result (out.new.items ≡ out.old.items ++ format ∷ (id_bytes id.now ++ (number version ++ number time))) }
+fn write_head(format: u8, id: &DeltaId, out: &mut Vec<u8>) -> Result<(), Memory>
+    ensures appended { OnOk result (out.new.items ≡ out.old.items ++ format ∷ id_bytes id.now) }
     ensures is { OnOk result (IsId id.now) }
     ensures begins { OnErr result (StartsWith out.new.items out.old.items) }
 {
     out.push(format)?;
-    write_id(id, out)?;
-    write_number(version, out)?;
-    write_number(time, out)
+    write_id(id, out)
+}
+
+// What follows the id of a delta.
+fn write_rest(version: u64, time: u64, ops: &[WaveletOp], out: &mut Vec<u8>) -> Result<(), Memory>
+    requires short { length (ops_bytes ops.now) < limit }
+    requires normal { AreNormal ops.now }
+    ensures appended { OnOk result (out.new.items ≡ out.old.items ++ (number version ++ (number time ++ ops_bytes ops.now))) }
+    ensures spelled { OnOk result (AllByRecursion IsOp ops.now) }
+    ensures begins { OnErr result (StartsWith out.new.items out.old.items) }
+{
+    write_numbers(version, time, out)?;
+    write_ops(ops, out)
 }
 
 // The bytes of a delta with this format, id, version, time and operations.
@@ -150,8 +161,8 @@ fn write_parts(
     ensures is { OnOk result (IsId id.now) }
     ensures begins { OnErr result (StartsWith out.new.items out.old.items) }
 {
-    write_head(format, id, version, time, out)?;
-    write_ops(ops, out)
+    write_head(format, id, out)?;
+    write_rest(version, time, ops, out)
 }
 
 /// Appends the bytes of a delta, which are fewer than 4,294,967,296. After want of memory `out` is as it was, with more room
