@@ -1,6 +1,5 @@
 -- Items that are inserted as they are.
 --     item_put                          an item is inserted as it is
---     is_character, no_character, one_more     characters in a row
 --     front_put, rest_put, all_put      the first items, and then those after them
 use Rattle.std.proofs.Common.{◌≡◌, ℕ, true, ◌+◌, ◌<◌, ◌≤◌, List, [], ◌∷◌, ◌++◌, length, map, take, drop, get_or, refl, sym, ap, ◌∙◌, arith, append_assoc, append-nil, Option, None, Some, option_map, option_and_then}
 use Rattle.std.proofs.lemmas.List.{map-append, take_more, take-append-drop, length_push, length-take-le, length-drop}
@@ -16,7 +15,7 @@ use Rattle.change_view.specs.Sets.{fresh, from_absent}
 use Rattle.doc_op.specs.Actions.{Action, Ins, new_values, insertion}
 use Rattle.doc_op.specs.Lengths.{output_len}
 use Rattle.doc_op.proofs.Lengths.{output_len-append}
-use Rattle.op_invert.specs.Characters.{character_item, AreCharacters}
+use Rattle.doc_pack.specs.Characters.{character_item, character_items, AreCharacters}
 use Rattle.op_invert.proofs.Lengths.{output_of_items}
 
 -- ---- as actions
@@ -34,32 +33,9 @@ item_put out new u x c e f h = h
     ∙ ap (λ (m : Map Key). out ++ Ins (record { content = c; notes = m }) ∷ []) (new_values_back x.notes)
     ∙ ap (λ (d : Content). out ++ Ins (record { content = d; notes = x.notes }) ∷ []) (sym f)
 
-inserted_characters : (m : Map Key) (text : List ℕ) → map (insertion (from_absent m)) (map Character text) ≡ map Ins (map (λ c. character_item c m) text)
+inserted_characters : (m : Map Key) (text : List ℕ) → map (insertion (from_absent m)) (map Character text) ≡ map Ins (character_items m text)
 inserted_characters m [] = refl
 inserted_characters m (c ∷ text) = λ i. Ins (record { content = Character c; notes = new_values_back m i }) ∷ inserted_characters m text i
-
--- ---- characters in a row
-
-pub is_character : (x : Item) (m : Map Key) (c : ℕ) → x.content ≡ Character c → same_values x.notes m ≡ true → x ≡ character_item c m
-is_character x m c e h = λ i. record { content = e i; notes = same_values-is x.notes m h i }
-
-pub no_character : (items : List Item) (m : Map Key) (text : List ℕ) → text ≡ [] → AreCharacters items m text
-no_character items m text e = record {
-  are = ap (λ (w : List ℕ). take (length w) items) e ∙ ap (map (λ c. character_item c m)) (sym e);
-  fits = omega (arith, ap length e);
-}
-
-pub one_more : (items : List Item) (m : Map Key) (text more : List ℕ) (i : ℕ) (x : Item) (c : ℕ) → AreCharacters items m text → length text ≡ i → i < length items → x ≡ get_or items i x → x ≡ character_item c m → more ≡ text ++ c ∷ [] → AreCharacters items m more
-one_more items m text more i x c h n less is e f =
-    let len : length more ≡ i + 1 = ap length f ∙ length_push text c ∙ ap (λ k. k + 1) n in
-    record {
-      are = ap (λ k. take k items) len ∙ take_more items i x less
-          ∙ (λ j. take (sym n j) items ++ (sym is ∙ e) j ∷ [])
-          ∙ ap (λ (xs : List Item). xs ++ character_item c m ∷ []) h.are
-          ∙ sym (map-append (λ d. character_item d m) text (c ∷ []))
-          ∙ ap (map (λ d. character_item d m)) (sym f);
-      fits = omega (arith, len, less);
-    }
 
 -- ---- the first items, and then those after them
 

@@ -1,4 +1,3 @@
-pub mod Characters
 pub mod Inverse
 pub mod Laws
 pub mod Walks

@@ -5,11 +5,12 @@ ghost use Rattle.doc_items.specs.declared.item.Content.TheVariants.{Character};
 ghost use Rattle.change_view.specs.Sets.{from_absent};
 ghost use Rattle.doc_op.specs.Actions.{Ins, insertion};
 ghost use Rattle.doc_op.specs.Lengths.{output_len};
-ghost use Rattle.op_invert.specs.Characters.{character_item, AreCharacters};
+ghost use Rattle.doc_pack.specs.Characters.{AreCharacters};
 
 use change_view::ChangeView;
 use doc_items::{Content, Item, Memory, Notes};
 use doc_op::{ContentRun, NormalBuilder};
+use doc_pack::character;
 use std::alloc::Global;
 
 /// Inserts these items as they are; characters in a row with the same annotations at once.
@@ -60,23 +61,6 @@ fn characters(alloc: Global, items: &[Item], notes: &Notes) -> Result<Vec<char>,
         }
     }
     Ok(text)
-}
-
-// The character of an item that has these annotations.
-fn character(item: &Item, notes: &Notes) -> Option<char>
-    ensures { IfSome result (λ c. item.now ≡ character_item c notes.now) }
-{
-    match &item.content {
-        Content::Character(c) => {
-            if item.notes.same(notes) {
-                Some(*c)
-            } else {
-                None
-            }
-        }
-        Content::Start { .. } => None,
-        Content::End => None,
-    }
 }
 
 fn put_text(

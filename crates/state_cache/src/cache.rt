@@ -1,5 +1,5 @@
 // Kept states.
-ghost use Rattle.std.specs.Prelude.{◌≡◌, ◌+◌, ◌*◌, ◌<◌, ◌≤◌, ◌++◌, ◌∷◌, [], length, take, Some, IsSome, IfOk, OnOk, OnErr};
+ghost use Rattle.std.specs.Prelude.{◌≡◌, ◌+◌, ◌-◌, ◌*◌, ◌<◌, ◌≤◌, ◌++◌, ◌∷◌, [], length, take, Some, IsSome, IfOk, OnOk, OnErr};
 ghost use Rattle.wavelet_op.specs.Acts.{meanings};
 ghost use Rattle.wavelet_op.specs.States.{empty_state, run};
 ghost use Rattle.delta_history.specs.Points.{run_all};
@@ -11,22 +11,22 @@ use std::alloc::{AllocError, Global};
 use std::marker::Model;
 use std::sync::ledger::Ledger;
 use wavelet_op::{AppliedDelta, WaveletFault};
-use wavelet_state::{WaveletState, apply_delta};
+use wavelet_state::{PackedState, WaveletState, apply_delta};
 
 // How many deltas there are from one kept state to the next.
 const INTERVAL: usize = 64;
 
-/// The states after 0, 64, 128 and so on of the deltas that it was grown over.
+/// The states after 0, 64, 128 and so on of the deltas that it was grown over, in few bytes.
 #[derive(Drop)]
 pub struct StateCache {
-    states: Vec<WaveletState>,
+    states: Vec<PackedState>,
 }
 
 impl Model for StateCache {
     ghost use Rattle.std.specs.Prelude.{List};
     ghost use Rattle.std.specs.Coded.{coded_list};
     ghost use Rattle.wavelet_op.specs.States.{State};
-    ghost use Rattle.wavelet_state.specs.contracts.state.WaveletState as state_row;
+    ghost use Rattle.wavelet_state.specs.contracts.packed.PackedState as state_row;
 
     ghost Value = { List State };
 
@@ -41,7 +41,7 @@ impl StateCache {
         ensures { IfOk result (λ c. IsCacheOf [] c) }
     {
         let mut states = Vec::new(alloc);
-        states.push(WaveletState::new(alloc))?;
+        states.push(PackedState::pack(alloc, &WaveletState::new(alloc))?)?;
         Ok(StateCache { states })
     }
 
@@ -70,28 +70,41 @@ impl StateCache {
         ensures ok { OnOk result (IsCacheOf deltas.now self.new) }
         ensures front { take (length self.old) self.new ≡ self.old }
     {
-        for _ in self.states.len()..deltas.len() / INTERVAL + 1 {
-            self.keep_next(alloc, deltas)?;
+        let count = self.states.len();
+        let all = deltas.len() / INTERVAL + 1;
+        if count == all {
+            return Ok(());
+        }
+        let mut state = self.states[count - 1].unpack(alloc)?;
+        for _ in count..all {
+            self.keep_next(alloc, deltas, &mut state)?;
         }
         Ok(())
     }
 
-    // Keeps one state more.
-    fn keep_next(&mut self, alloc: Global, deltas: &[AppliedDelta]) -> Result<(), Memory>
+    // Keeps one state more. The given state is the last one that is kept, before and afterwards.
+    fn keep_next(
+        &mut self,
+        alloc: Global,
+        deltas: &[AppliedDelta],
+        state: &mut WaveletState,
+    ) -> Result<(), Memory>
         requires valid { IsSome (run_all empty_state deltas.now) }
         requires kept { AreKept deltas.now self.old }
         requires some { 0 < length self.old }
         requires more { 64 * length self.old ≤ length deltas.now }
+        requires last { state_after deltas.now ((length self.old - 1) * 64) ≡ Some state.old }
         ensures kept { OnOk result (AreKept deltas.now self.new) }
         ensures longer { OnOk result (length self.new ≡ length self.old + 1) }
+        ensures last { OnOk result (state_after deltas.now (length self.old * 64) ≡ Some state.new) }
         ensures front { take (length self.old) self.new ≡ self.old }
         ensures same { OnErr result (self.new ≡ self.old) }
     {
         let last = self.states.len() - 1;
         let from = last * INTERVAL;
-        let mut state = self.states[last].copy(alloc)?;
-        apply_all(alloc, &mut state, &deltas[from..from + INTERVAL])?;
-        self.states.push(state)?;
+        apply_all(alloc, state, &deltas[from..from + INTERVAL])?;
+        let packed = PackedState::pack(alloc, state)?;
+        self.states.push(packed)?;
         Ok(())
     }
 
@@ -112,7 +125,7 @@ impl StateCache {
     {
         let count = count as usize;
         let place = count / INTERVAL;
-        let mut state = self.states[place].copy(alloc)?;
+        let mut state = self.states[place].unpack(alloc)?;
         apply_counted(alloc, &mut state, &deltas[place * INTERVAL..count], steps)?;
         Ok(state)
     }

@@ -1,5 +1,5 @@
 -- A wavelet with its journal, over any disk that may go to another thread.
---     cache_send, trail_send, cached_send, stage_send, journal_send, container_send, and each with `sync`
+--     trail_send, cached_send, stage_send, journal_send, container_send, and each with `sync`
 use denote.RattleType.{RattleType}
 use denote.Param.Send.{IsSend, IsSync, sendable}
 use denote.Param.SendFields.{declared_send, declared_sync, variants_send, variants_sync, as_row_send, as_row_sync}
@@ -11,8 +11,7 @@ use Rattle.std.specs.contracts.alloc.Global as Heap
 use Rattle.std.specs.contracts.impls.GlobalAllocator.TheImpl.{ghosts}
 use Rattle.thread_safety.proofs.States.{ops_send, ops_sync}
 use Rattle.thread_safety.proofs.Histories.{history_send, history_sync, state_send, state_sync}
-use Rattle.state_cache.specs.contracts.cache.StateCache as cache
-use Rattle.state_cache.specs.contracts.cache.StateCache.TheInside as cache_inside
+use Rattle.thread_safety.proofs.Packed.{cache_send, cache_sync}
 use Rattle.wavelet_container.specs.contracts.trail.Trail as trail
 use Rattle.wavelet_container.specs.contracts.cached.CachedHistory as cached
 use Rattle.wavelet_container.specs.contracts.cached.CachedHistory.TheInside as cached_inside
@@ -20,18 +19,6 @@ use Rattle.wavelet_container.specs.contracts.container.Container as container
 use Rattle.delta_journal.specs.contracts.journal.Journal as journal
 use Rattle.delta_journal.specs.contracts.stage.Stage as stage
 use Rattle.disk_model.specs.declared.disk.Disk.{Ghosts}
-
-cache_inside_send : IsSend cache_inside.the_row
-cache_inside_send = declared_send cache_inside.the_type (search (sendable, crosses, state_send) depth 40)
-
-cache_inside_sync : IsSync cache_inside.the_row
-cache_inside_sync = declared_sync cache_inside.the_type (search (sendable, crosses, state_sync) depth 40)
-
-pub cache_send : IsSend cache.the_row
-cache_send = search (sendable, cache_inside_send) depth 10
-
-pub cache_sync : IsSync cache.the_row
-cache_sync = search (sendable, cache_inside_sync) depth 10
 
 pub trail_send : IsSend trail.the_row
 trail_send = search (sendable, crosses, state_send, ops_send) depth 40

@@ -2,6 +2,7 @@ pub mod Ropes
 pub mod Operations
 pub mod States
 pub mod Histories
+pub mod Packed
 pub mod Containers
 pub mod Tables
 pub mod Shelves

@@ -27,7 +27,7 @@ use wavelet_op::WaveletFault;
 
 /// Documents in pieces by their names, in byte order of the names. Each is balanced; one may be empty.
 pub(crate) struct Documents {
-    map: BTreeMap<DocumentName, Rope>,
+    pub(crate) map: BTreeMap<DocumentName, Rope>,
 }
 
 impl Drop for Documents {

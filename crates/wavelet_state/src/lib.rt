@@ -7,6 +7,7 @@ mod documents;
 mod draft;
 mod fault;
 mod inverse;
+mod packed;
 mod roles;
 mod snapshot;
 mod state;
@@ -14,5 +15,6 @@ mod stretch;
 
 pub use apply::{apply_delta, apply_inverting, apply_op, inverses_take_back};
 pub use back::Back;
+pub use packed::PackedState;
 pub use snapshot::{MAX_INSERTED, Snapshot};
 pub use state::WaveletState;

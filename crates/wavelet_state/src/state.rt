@@ -25,7 +25,7 @@ use wavelet_op::{Role, WaveletFault, WaveletOp};
 /// The state of a wavelet: its participants with their roles, and its documents. Each document is balanced, and one that is empty
 /// isn't kept.
 pub struct WaveletState {
-    draft: Draft,
+    pub(crate) draft: Draft,
 }
 
 impl Drop for WaveletState {

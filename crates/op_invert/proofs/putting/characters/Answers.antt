@@ -1,5 +1,5 @@
 use Rattle.std.proofs.Common.{length, ap}
-use Rattle.op_invert.proofs.Inserted.{no_character}
+use Rattle.doc_pack.proofs.Rows.{no_character}
 use Rattle.op_invert.proofs.putting.characters.Goals as goal
 
 pub loop-item-init : goal.loop-item-init

@@ -1,5 +1,5 @@
 use Rattle.std.proofs.Common.{◌≡◌, length}
-use Rattle.op_invert.specs.Characters.{AreCharacters}
+use Rattle.doc_pack.specs.Characters.{AreCharacters}
 use Rattle.op_invert.proofs.putting.characters.Given as goal
 
 abbrev pub invariant-loop-item : goal.invariant-loop-item

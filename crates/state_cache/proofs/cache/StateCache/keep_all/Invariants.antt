@@ -1,5 +1,5 @@
-use Rattle.std.proofs.Common.{◌≡◌, ◌≤◌, ◌<◌, length, take}
-use Rattle.state_cache.specs.States.{AreKept}
+use Rattle.std.proofs.Common.{◌≡◌, ◌≤◌, ◌<◌, ◌-◌, ◌*◌, length, take, Some}
+use Rattle.state_cache.specs.States.{AreKept, state_after}
 use Rattle.state_cache.proofs.cache.StateCache.keep_all.Given as goal
 
 abbrev pub invariant-loop : goal.invariant-loop
@@ -9,4 +9,5 @@ invariant-loop l = record {
   long : length l.self ≡ l.counter;
   longer : length l.fn.self ≤ length l.self;
   front : take (length l.fn.self) l.self ≡ l.fn.self;
+  last : state_after l.fn.deltas ((length l.self - 1) * 64) ≡ Some l.state;
 }

@@ -1,0 +1,44 @@
+-- Characters in a row.
+--     is_character, no_character, one_more
+--     text_more     a text with one character more at its end
+--     text_none     one without bytes has no characters
+use Rattle.std.proofs.Common.{◌≡◌, ℕ, true, ◌+◌, ◌<◌, ◌≤◌, List, [], ◌∷◌, ◌++◌, length, map, take, get_or, sym, ap, ◌∙◌, arith, append-nil, IsUtf8}
+use Rattle.std.proofs.lemmas.List.{map-append, take_more, length_push}
+use Rattle.std.specs.Str.{chars, encode_utf8_all}
+use Rattle.std.proofs.Math.Utf8.{encode}
+use Rattle.std.proofs.lemmas.Str.{chars_from_encodes, encodes-append, encodes-chars, chars-nil}
+use Rattle.doc_items.specs.Maps.{Key, Map, same_values}
+use Rattle.doc_items.specs.declared.item.Content.TheVariants.{Character}
+use Rattle.doc_items.specs.declared.item.Item.{Item}
+use Rattle.doc_items.proofs.Maps.{same_values-is}
+use Rattle.doc_pack.specs.Characters.{character_item, AreCharacters}
+
+pub is_character : (x : Item) (m : Map Key) (c : ℕ) → x.content ≡ Character c → same_values x.notes m ≡ true → x ≡ character_item c m
+is_character x m c e h = λ i. record { content = e i; notes = same_values-is x.notes m h i }
+
+pub no_character : (items : List Item) (m : Map Key) (text : List ℕ) → text ≡ [] → AreCharacters items m text
+no_character items m text e = record {
+  are = ap (λ (w : List ℕ). take (length w) items) e ∙ ap (map (λ c. character_item c m)) (sym e);
+  fits = omega (arith, ap length e);
+}
+
+pub one_more : (items : List Item) (m : Map Key) (text more : List ℕ) (i : ℕ) (x : Item) (c : ℕ) → AreCharacters items m text
+    → length text ≡ i → i < length items → x ≡ get_or items i x → x ≡ character_item c m → more ≡ text ++ c ∷ [] → AreCharacters items m more
+one_more items m text more i x c h n less is e f =
+    let len : length more ≡ i + 1 = ap length f ∙ length_push text c ∙ ap (λ k. k + 1) n in
+    record {
+      are = ap (λ k. take k items) len ∙ take_more items i x less
+          ∙ (λ j. take (sym n j) items ++ (sym is ∙ e) j ∷ [])
+          ∙ ap (λ (xs : List Item). xs ++ character_item c m ∷ []) h.are
+          ∙ sym (map-append (λ d. character_item d m) text (c ∷ []))
+          ∙ ap (map (λ d. character_item d m)) (sym f);
+      fits = omega (arith, len, less);
+    }
+
+pub text_more : (bs more : List ℕ) (c : ℕ) → IsUtf8 bs → IsUtf8 more → more ≡ bs ++ encode c → chars more ≡ chars bs ++ c ∷ []
+text_more bs more c u v e = sym (chars_from_encodes (chars bs ++ c ∷ []) more v
+    (encodes-append (chars bs) (c ∷ []) ∙ (λ k. encodes-chars bs u k ++ append-nil (encode c) k) ∙ sym e))
+
+pub text_none : (bs : List ℕ) → length bs ≡ 0 → chars bs ≡ []
+text_none [] e = chars-nil
+text_none (b ∷ bs) e = absurd (omega (arith, e))

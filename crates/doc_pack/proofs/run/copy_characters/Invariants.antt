@@ -1,0 +1,11 @@
+use Rattle.std.proofs.Common.{◌≡◌, ◌++◌, IsUtf8}
+use Rattle.std.specs.Str.{chars}
+use Rattle.std.specs.Str.Iter.{chars_rest}
+use Rattle.doc_pack.specs.Characters.{character_items}
+use Rattle.doc_pack.proofs.run.copy_characters.Given as goal
+
+abbrev pub invariant-loop-c : goal.invariant-loop-c
+invariant-loop-c l = record {
+  utf8 : IsUtf8 (chars_rest l.c-iterator);
+  same : l.to.items ++ character_items l.notes (chars (chars_rest l.c-iterator)) ≡ l.fn.to.items ++ character_items l.notes (chars l.fn.text);
+}
