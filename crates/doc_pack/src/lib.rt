@@ -3,6 +3,7 @@
 
 mod characters;
 mod packed;
+mod piece;
 mod run;
 
 pub use characters::character;

@@ -1,11 +1,12 @@
 // Items in a row, in few bytes.
-ghost use Rattle.std.specs.Prelude.{◌≡◌, ◌<◌, ◌≤◌, ◌++◌, length, take, IfOk, OnOk};
+ghost use Rattle.std.specs.Prelude.{◌≡◌, ◌<◌, ◌≤◌, ◌++◌, ◌∷◌, true, length, take, IfOk, IfSome, OnOk};
 ghost use Rattle.std.specs.Str.{chars};
-ghost use Rattle.doc_pack.specs.Characters.{character_items};
+ghost use Rattle.doc_items.specs.declared.item.Content.TheVariants.{Start};
+ghost use Rattle.doc_pack.specs.Characters.{character_item, character_items};
 ghost use Rattle.doc_pack.specs.Packed.{run_items, all_items};
 
-use crate::characters::characters;
-use doc_items::{Content, Item, Memory, Notes};
+use crate::characters::{character, characters};
+use doc_items::{Attributes, Content, Item, Memory, Notes, Text};
 use std::alloc::Global;
 
 // Characters that have the same annotations, or one item.
@@ -27,6 +28,16 @@ impl Drop for Run {
 }
 
 impl Run {
+    // What comes after the run's items, where the items begin with them.
+    pub fn after<'a>(&self, items: &'a [Item]) -> Option<&'a [Item]>
+        ensures { IfSome result (λ rest. items.entry.now ≡ run_items self.now ++ rest.now) }
+    {
+        match self {
+            Run::Characters { text, notes } => after_characters(text.as_str(), notes, items),
+            Run::One(item) => after_item(item, items),
+        }
+    }
+
     // Puts copies of the items after those of `to`.
     pub fn copy_to(&self, alloc: Global, to: &mut Vec<Item>) -> Result<(), Memory>
         ensures { OnOk result (to.new.items ≡ to.old.items ++ run_items self.now) }
@@ -38,6 +49,77 @@ impl Run {
                 Ok(())
             }
         }
+    }
+}
+
+// What comes after the characters of the text, with these annotations, where the items begin with them.
+fn after_characters<'a>(text: &str, notes: &Notes, items: &'a [Item]) -> Option<&'a [Item]>
+    ensures { IfSome result (λ rest. items.entry.now ≡ character_items notes.now (chars text.now) ++ rest.now) }
+{
+    let mut rest = items;
+    for c in text.chars() {
+        let (first, others) = rest.split_first()?;
+        if !is_character(first, notes, c) {
+            return None;
+        }
+        rest = others;
+    }
+    Some(rest)
+}
+
+// Whether the item is this character with these annotations.
+fn is_character(item: &Item, notes: &Notes, c: char) -> bool
+    ensures { result ≡ true → item.now ≡ character_item c notes.now }
+{
+    match character(item, notes) {
+        Some(found) => found == c,
+        None => false,
+    }
+}
+
+// What comes after the item, where the items begin with it.
+fn after_item<'a>(item: &Item, items: &'a [Item]) -> Option<&'a [Item]>
+    ensures { IfSome result (λ rest. items.entry.now ≡ item.now ∷ rest.now) }
+{
+    let (first, others) = items.split_first()?;
+    if is_same(item, first) {
+        Some(others)
+    } else {
+        None
+    }
+}
+
+// Whether both are starts or ends of elements, and the same. Two characters count as others.
+fn is_same(item: &Item, other: &Item) -> bool
+    ensures { result ≡ true → item.now ≡ other.now }
+{
+    is_same_content(&item.content, &other.content) && item.notes.same(&other.notes)
+}
+
+fn is_same_content(content: &Content, other: &Content) -> bool
+    ensures { result ≡ true → content.now ≡ other.now }
+{
+    match content {
+        Content::Character(_) => false,
+        Content::Start { kind, attributes } => is_start(other, kind, attributes),
+        Content::End => match other {
+            Content::Character(_) => false,
+            Content::Start { .. } => false,
+            Content::End => true,
+        },
+    }
+}
+
+fn is_start(content: &Content, kind: &Text, attributes: &Attributes) -> bool
+    ensures { result ≡ true → content.now ≡ Start kind.now attributes.now }
+{
+    match content {
+        Content::Character(_) => false,
+        Content::Start {
+            kind: own,
+            attributes: owned,
+        } => own.same(kind) && owned.same(attributes),
+        Content::End => false,
     }
 }
 

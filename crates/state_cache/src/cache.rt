@@ -41,7 +41,8 @@ impl StateCache {
         ensures { IfOk result (λ c. IsCacheOf [] c) }
     {
         let mut states = Vec::new(alloc);
-        states.push(PackedState::pack(alloc, &WaveletState::new(alloc))?)?;
+        let first = PackedState::pack(alloc, &WaveletState::new(alloc), None)?;
+        states.push(first)?;
         Ok(StateCache { states })
     }
 
@@ -103,7 +104,7 @@ impl StateCache {
         let last = self.states.len() - 1;
         let from = last * INTERVAL;
         apply_all(alloc, state, &deltas[from..from + INTERVAL])?;
-        let packed = PackedState::pack(alloc, state)?;
+        let packed = PackedState::pack(alloc, state, Some(&self.states[last]))?;
         self.states.push(packed)?;
         Ok(())
     }

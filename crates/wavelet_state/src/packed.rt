@@ -57,22 +57,38 @@ impl PackedDocuments {
 }
 
 impl Documents {
-    /// Equal documents, in few bytes. The error is want of memory.
-    pub fn pack(&self, alloc: Global) -> Result<PackedDocuments, Memory>
+    /// Equal documents, in few bytes, which share what they can with earlier ones. The error is want of memory.
+    pub fn pack(
+        &self,
+        alloc: Global,
+        earlier: Option<&PackedDocuments>,
+    ) -> Result<PackedDocuments, Memory>
         ensures { IfOk result (λ d. d ≡ self.now) }
     {
         let mut map = BTreeMap::new(alloc);
         for (name, rope) in self.map.iter() {
             let name = name.copy(alloc)?;
-            let packed = PackedDocument::pack(alloc, rope)?;
+            let before = earlier_document(earlier, &name);
+            let packed = PackedDocument::pack(alloc, rope, before)?;
             let _old = map.insert(name, packed)?;
         }
         Ok(PackedDocuments { map })
     }
 }
 
+// The document of this name among earlier ones.
+fn earlier_document<'a>(
+    earlier: Option<&'a PackedDocuments>,
+    name: &DocumentName,
+) -> Option<&'a PackedDocument> {
+    match earlier {
+        Some(documents) => documents.map.get(name),
+        None => None,
+    }
+}
+
 /// A state of a wavelet that is kept and not edited, seen as the state. Characters in a row that have the same annotations take
-/// little more than their UTF-8 bytes.
+/// little more than their UTF-8 bytes, and pieces of documents that an earlier state had are shared with that one.
 pub struct PackedState {
     roles: Roles,
     documents: PackedDocuments,
@@ -108,12 +124,17 @@ impl Model for PackedState {
 }
 
 impl PackedState {
-    /// An equal state. The error is want of memory.
-    pub fn pack(alloc: Global, state: &WaveletState) -> Result<PackedState, Memory>
+    /// An equal state, which shares what it can with an earlier one. The error is want of memory.
+    pub fn pack(
+        alloc: Global,
+        state: &WaveletState,
+        earlier: Option<&PackedState>,
+    ) -> Result<PackedState, Memory>
         ensures { IfOk result (λ s. s ≡ state.now) }
     {
         let roles = state.draft.roles.copy(alloc)?;
-        let documents = state.draft.documents.pack(alloc)?;
+        let before = earlier_documents(earlier);
+        let documents = state.draft.documents.pack(alloc, before)?;
         Ok(PackedState { roles, documents })
     }
 
@@ -125,5 +146,12 @@ impl PackedState {
         let documents = self.documents.unpack(alloc)?;
         let draft = Draft { roles, documents };
         Ok(WaveletState { draft })
+    }
+}
+
+fn earlier_documents(earlier: Option<&PackedState>) -> Option<&PackedDocuments> {
+    match earlier {
+        Some(state) => Some(&state.documents),
+        None => None,
     }
 }
