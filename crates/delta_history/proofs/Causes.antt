@@ -1,13 +1,12 @@
 -- What a verdict that adds nothing says of its submission.
 --     is_broken     where the bounds don't hold one of them is broken
 --     cause_is      each such verdict on a legal history
-use Rattle.std.proofs.Common.{◌≡◌, ◌≢◌, inl, inr, ℕ, ◌+◌, ◌<◌, Bool, true, false, ◌&&◌, nat_le, List, [], ◌∷◌, ◌++◌, length, Option, Some, None, refl, sym, ap, subst, ◌∙◌, arith, append-nil, true≢false}
+use Rattle.std.proofs.Common.{◌≡◌, ◌≢◌, inl, inr, ℕ, ◌+◌, ◌<◌, Bool, true, false, ◌&&◌, nat_le, List, [], ◌++◌, length, Option, Some, None, refl, sym, ap, subst, ◌∙◌, arith, append-nil, true≢false}
 use Rattle.std.specs.Option.{option_map}
 use Rattle.std.proofs.lemmas.Bool.Decides.{nat_tests}
 use Rattle.std.specs.Cmp.Lexicographic.{bytes_decides}
 use Rattle.doc_items.specs.Limits.{max_count}
 use Rattle.doc_op.proofs.Applying.{no_value, same_Some}
-use Rattle.wave_base.specs.Versions.{VersionAt}
 use Rattle.wavelet_op.specs.Acts.{Act, meanings, inserted}
 use Rattle.wavelet_op.specs.Deltas.{DeltaOf}
 use Rattle.wavelet_op.specs.Grids.{pass}
@@ -20,8 +19,8 @@ use Rattle.wavelet_op.specs.declared.verdict.Verdict.TheVariants.{Ack, NotPartic
 use Rattle.wavelet_codec.specs.Spelling.{delta_bytes}
 use Rattle.wavelet_state.specs.Snapshots.{max_inserted}
 use Rattle.delta_history.specs.declared.kept.Kept.{Kept}
-use Rattle.delta_history.specs.Points.{Point, start, acts_of, point_behind, next_point, replay, cut, point_at, end_of}
-use Rattle.delta_history.specs.Passing.{all_acts, pass_between}
+use Rattle.delta_history.specs.Points.{Point, start, point_behind, next_point, replay, cut, point_at}
+use Rattle.delta_history.specs.Passing.{all_acts}
 use Rattle.delta_history.specs.Legal.{max_delta, standing, IsLegal}
 use Rattle.delta_history.specs.Verdicts.{kept, ops_of, accepted, is_within, same_hash, Judged, judge_kept, judge_head, judge_author, judge_base, judge_hash, judge_ops, judge_pass, judge_bounds, judge_next}
 use Rattle.delta_history.specs.Laws.{IsSpelled, EndsSpelled, IsBroken, IsCaused, CauseIs}

@@ -1,6 +1,6 @@
 -- A list of one thing alone.
 --     item_there, item_past     what stands at a place
-use Rattle.std.proofs.Common.{◌≡◌, ℕ, ◌<◌, ◌≤◌, replicate, slice_get, Some, None, subst, sym, arith}
+use Rattle.std.proofs.Common.{◌≡◌, ℕ, ◌<◌, ◌≤◌, replicate, slice_get, Some, None, subst, sym}
 use Rattle.std.proofs.lemmas.List.{length-replicate, get_or-replicate}
 use Rattle.std.proofs.lemmas.Option.{slice_get_read, slice_get_past}
 
