@@ -2,6 +2,7 @@
 --     Parts                  the parts of a follower, with its flight and its entries as operations in normal form
 --     parts ..               the parts of these fields
 --     flight_of g, follower_of p     the flight, the follower
+--     numbered n f           the follower whose next submission has this number
 --     ops_pending p          the operations that are pending: those of the flight, and then the entries
 --     with_ops g o           the flight with other operations
 --     settled es             nothing is pending
@@ -37,6 +38,9 @@ flight_of g = record { sent = g.sent; acts = meanings g.ops }
 
 abbrev pub follower_of : Parts → FollowerOf
 follower_of p = record { name = p.name; client = p.client; here = p.here; flight = option_map flight_of p.flight; queue = map meanings p.queue; next = p.next }
+
+abbrev pub numbered : ℕ → FollowerOf → FollowerOf
+numbered n f = record { name = f.name; client = f.client; here = f.here; flight = f.flight; queue = f.queue; next = n }
 
 abbrev pub ops_flying : Option InFlight → List (List WaveletOp)
 ops_flying None = []

@@ -6,7 +6,7 @@ ghost use Rattle.wave_base.specs.Versions.{same_id};
 ghost use Rattle.wavelet_op.specs.Acts.{meanings, AreNormal};
 ghost use Rattle.follower_rules.specs.Followers.{ClientOf, Flight, new_follower, pending, screen, dropped, refuse, point_of, take_snapshot};
 ghost use Rattle.follower_rules.specs.Laws.{IsSound};
-ghost use Rattle.client_control.specs.Parts.{Parts, follower_of, ops_pending, settled};
+ghost use Rattle.client_control.specs.Parts.{Parts, follower_of, numbered, ops_pending, settled};
 
 use crate::flight::{InFlight, copy_flight};
 use crate::past::copy_queue;
@@ -97,6 +97,23 @@ impl Follower {
             held: 0,
             shown: Some(WaveletState::new(alloc)),
         }
+    }
+
+    /// The same, but that its next submission has this number, at most 2^53: for a client who has used the numbers below it.
+    pub fn numbered(
+        alloc: Global,
+        name: WaveletName,
+        user: Address,
+        client: u64,
+        next: u64,
+    ) -> Follower
+        requires client { client ≤ max_count }
+        requires next { next ≤ max_count + 1 }
+        ensures { follower_of result ≡ numbered next (new_follower name (record { author = user; client = client })) }
+    {
+        let mut follower = Follower::new(alloc, name, user, client);
+        follower.next = next;
+        follower
     }
 
     /// The name of the wavelet.

@@ -3,6 +3,7 @@ pub mod Chains
 pub mod Versions
 pub mod Keeping
 pub mod Judges
+pub mod Causes
 pub mod Indexes
 pub mod Finding
 pub mod Items

@@ -10,19 +10,31 @@
 --     IsAdded, IsJudged       what a verdict says: an acknowledgement is that of a kept delta, or comes with the delta by which
 --                             the history grows, which may come next
 --     JudgedIs                so each verdict on a legal history
-use Rattle.std.specs.Prelude.{◌≡◌, ◌⊎◌, ℕ, true, false, List, [], ◌∷◌, ◌++◌, length, Some, None}
+--     IsHead, IsStanding      where the head is, and what the author of a submission may do there
+--     IsBroken p acts d       a bound is broken: of versions, of items inserted, of bytes
+--     IsInvalid, IsFull       the operations aren't valid where they were made; they are, and the delta that they become at the head
+--                             breaks a bound
+--     IsCaused name ds s t v  a verdict that adds nothing has its cause
+--     CauseIs                 so has each on a legal history
+use Rattle.std.specs.Prelude.{◌≡◌, ◌≢◌, ◌⊎◌, ◌+◌, ◌<◌, ℕ, true, false, List, [], ◌∷◌, ◌++◌, length, Option, Some, None}
+use Rattle.doc_items.specs.Limits.{max_count}
 use Rattle.wave_base.specs.Versions.{IdOf, VersionAt}
-use Rattle.wavelet_op.specs.Acts.{Act, meanings, AreNormal}
+use Rattle.wavelet_op.specs.Acts.{Act, meanings, inserted, AreNormal}
 use Rattle.wavelet_op.specs.Deltas.{DeltaOf, is_count}
 use Rattle.wavelet_op.specs.Grids.{pass}
+use Rattle.wavelet_op.specs.States.{State, run, first_invalid}
 use Rattle.wavelet_op.specs.declared.delta.Submission.{Submission}
+use Rattle.wavelet_op.specs.declared.role.Role.{Role}
+use Rattle.wavelet_op.specs.declared.role.Role.TheVariants as role
 use Rattle.wavelet_op.specs.declared.verdict.Verdict.{Verdict}
-use Rattle.wavelet_op.specs.declared.verdict.Verdict.TheVariants.{Ack}
+use Rattle.wavelet_op.specs.declared.verdict.Verdict.TheVariants.{Ack, NotParticipant, ReadOnly, UnknownVersion, WrongHash, Invalid, Full}
+use Rattle.wavelet_codec.specs.Spelling.{delta_bytes}
+use Rattle.wavelet_state.specs.Snapshots.{max_inserted}
 use Rattle.delta_history.specs.declared.kept.Kept.{Kept}
 use Rattle.delta_history.specs.Points.{Point, start, acts_of, replay, cut, point_at, IsAt}
 use Rattle.delta_history.specs.Passing.{all_acts, pass_between, IsPassed}
-use Rattle.delta_history.specs.Legal.{has_id, IsNext, IsLegal}
-use Rattle.delta_history.specs.Verdicts.{kept, ops_of, Judged, judge}
+use Rattle.delta_history.specs.Legal.{max_delta, has_id, standing, IsNext, IsLegal}
+use Rattle.delta_history.specs.Verdicts.{kept, ops_of, accepted, Judged, judge}
 
 -- ---- points and passes
 
@@ -91,3 +103,58 @@ EndsSpelled name ds s = (base : Point) (since : List DeltaOf) (acts : List Act) 
 abbrev pub JudgedIs : Type 0
 JudgedIs = (name : List ℕ) (ds : List DeltaOf) (s : Submission) (t : ℕ) → IsLegal name ds → is_count (length s.ops) ≡ true
     → EndsSpelled name ds s → IsJudged name ds s (judge name ds s t)
+
+-- ---- causes of verdicts that add nothing
+
+pub record IsHead (name : List ℕ) (ds : List DeltaOf) (head : VersionAt) : Type 0 where
+  pub here : Point
+  pub leads : replay (start name) ds ≡ Some here
+  pub at : here.at ≡ head
+
+pub record IsStanding (name : List ℕ) (ds : List DeltaOf) (s : Submission) (r : Option Role) : Type 0 where
+  pub here : Point
+  pub leads : replay (start name) ds ≡ Some here
+  pub is : standing ds here s.id.author (meanings s.ops) ≡ r
+
+pub record IsOtherHash (name : List ℕ) (ds : List DeltaOf) (s : Submission) (host : List ℕ) : Type 0 where
+  pub base : Point
+  pub is_base : point_at name ds s.at.version ≡ Some base
+  pub is : base.at.hash ≡ host
+  pub other : host ≢ s.at.hash
+
+pub record IsInvalid (name : List ℕ) (ds : List DeltaOf) (s : Submission) (index : ℕ) : Type 0 where
+  pub base : Point
+  pub is_base : point_at name ds s.at.version ≡ Some base
+  pub at_base : base.at ≡ s.at
+  pub not_valid : run base.state (meanings s.ops) ≡ None
+  pub is : index ≡ first_invalid base.state (meanings s.ops)
+
+abbrev pub IsBroken : Point → List Act → DeltaOf → Type 0
+IsBroken p acts d = (max_count < p.at.version + length acts) ⊎ ((max_inserted < p.count + inserted acts) ⊎
+    (max_delta < length (delta_bytes d)))
+
+pub record IsFull (name : List ℕ) (ds : List DeltaOf) (s : Submission) (t : ℕ) (head : VersionAt) : Type 0 where
+  pub here : Point
+  pub leads : replay (start name) ds ≡ Some here
+  pub at : here.at ≡ head
+  pub base : Point
+  pub is_base : point_at name ds s.at.version ≡ Some base
+  pub at_base : base.at ≡ s.at
+  pub end : State
+  pub valid : run base.state (meanings s.ops) ≡ Some end
+  pub acts : List Act
+  pub passed : pass_between name ds s.at.version head.version (meanings s.ops) ≡ Some acts
+  pub broken : IsBroken here (meanings s.ops) (accepted here s t acts)
+
+abbrev pub IsCaused : List ℕ → List DeltaOf → Submission → ℕ → Verdict → Type 0
+IsCaused name ds s t (Ack at to) = IsKept name ds s.id (record { at = at; to = to })
+IsCaused name ds s t NotParticipant = IsStanding name ds s None
+IsCaused name ds s t ReadOnly = IsStanding name ds s (Some role.ReadOnly)
+IsCaused name ds s t (UnknownVersion head) = IsHead name ds head × (point_at name ds s.at.version ≡ None)
+IsCaused name ds s t (WrongHash host) = IsOtherHash name ds s host
+IsCaused name ds s t (Invalid index) = IsInvalid name ds s index
+IsCaused name ds s t (Full head) = IsFull name ds s t head
+
+abbrev pub CauseIs : Type 0
+CauseIs = (name : List ℕ) (ds : List DeltaOf) (s : Submission) (t : ℕ) (v : Verdict) → IsLegal name ds → EndsSpelled name ds s
+    → judge name ds s t ≡ (v, None) → IsCaused name ds s t v

@@ -4,6 +4,7 @@
 --     received f ds      the follower after deltas that it receives in turn
 --     caught_up h f      after all that it lacks
 --     answered c f s j   after the verdict on its submission; where that is a refusal, nothing is pending any more
+--     unsent c           where the follower refuses to give a submission: nothing is submitted, and what it has pending is dropped
 --     exchanged t c      a submission is taken, if there is one, and submitted at the time t; then the follower catches up
 --     settling t n c     so again, at most n times, until nothing is pending
 use Rattle.std.specs.Prelude.{ℕ, zero, suc, cond, List, [], ◌∷◌, drop, Some, None, Ok, Err}
@@ -42,10 +43,13 @@ caught_up h f = received f (lacking h f.here.at.version)
 abbrev pub answered : List DeltaOf → FollowerOf → Submission → Judged → Meeting
 answered h f s j = meeting (grown h j.1) (take_answer f (record { id = s.id; verdict = j.0 }))
 
+abbrev pub unsent : Meeting → Meeting
+unsent c = meeting c.host (dropped c.follower)
+
 abbrev pub submitted : ℕ → Meeting → Submitted → Meeting
 submitted t c (Ok (None, f)) = meeting c.host f
 submitted t c (Ok (Some s, f)) = answered c.host f s (judge the_wavelet c.host s t)
-submitted t c (Err e) = meeting c.host (dropped c.follower)
+submitted t c (Err e) = unsent c
 
 abbrev pub level : Meeting → Meeting
 level c = meeting c.host (caught_up c.host c.follower)

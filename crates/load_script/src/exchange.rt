@@ -106,7 +106,7 @@ fn answer(
     Ok(())
 }
 
-// What waits is submitted at the time, if a submission can be taken of it.
+// What waits is submitted at the time. Where the follower refuses to make a submission of it, it is dropped, and nothing is submitted.
 fn submit(alloc: Global, host: &mut Host, follower: &mut Follower, time: u64) -> Result<(), Memory>
     ensures { OnOk result (meeting host.new (follower_of follower.new)
         ≡ submitted time (meeting host.old (follower_of follower.old)) (submit (follower_of follower.old))) }

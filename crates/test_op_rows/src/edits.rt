@@ -1,4 +1,5 @@
 // Edits that are made from plain intents, for a document as a list and in pieces.
+use crate::alike::Alike;
 use crate::documents::{document, pieces, put_document};
 use crate::fault::Fault;
 use doc_items::{Attributes, Document};
@@ -95,12 +96,29 @@ fn put_edit(alloc: Global, verb: &str, rest: &str, out: &mut String) -> Result<(
     put_made(alloc, verb, intent, &mut plain, out)
 }
 
-/// The answers to `type`, `erase`, `annotate`, `element` and `attribute`.
+// The operation for a document of so many letters.
+fn put_alike(alloc: Global, rest: &str, out: &mut String) -> Result<(), Fault> {
+    let (count, edit) = parts(rest);
+    let (verb, intent) = words(edit);
+    let one = document(alloc, "+x")?;
+    let Some(item) = one.item(0) else {
+        return Err(Fault::Row);
+    };
+    let many = Alike {
+        count: number(count),
+        item: item.copy(alloc)?,
+    };
+    let shown = shown_made(alloc, made(alloc, &many, verb, intent))?;
+    Ok(put(out, shown.as_str())?)
+}
+
+/// The answers to `type`, `erase`, `annotate`, `element`, `attribute` and `alike`.
 pub fn call(alloc: Global, verb: &str, rest: &str, out: &mut String) -> Result<bool, Fault> {
     match verb {
         "type" | "erase" | "annotate" | "element" | "attribute" => {
             put_edit(alloc, verb, rest, out)?;
         }
+        "alike" => put_alike(alloc, rest, out)?,
         _ => return Ok(false),
     }
     Ok(true)

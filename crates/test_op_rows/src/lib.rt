@@ -5,6 +5,7 @@
 //! verbs at its function `call`.
 #![tactic(auto)]
 
+mod alike;
 mod bytes;
 mod documents;
 mod edits;

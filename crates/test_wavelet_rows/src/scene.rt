@@ -23,6 +23,10 @@ fn wavelet(alloc: Global) -> Result<WaveletName, Fault> {
     Ok(WaveletName::parse(alloc, "a.com/w+1/a.com/conv+root")?)
 }
 
+fn user(alloc: Global) -> Result<Address, Fault> {
+    Ok(Address::parse(alloc, "al@a.com")?)
+}
+
 fn put_received(received: &Received, out: &mut String) -> Result<(), Fault> {
     match received {
         Received::Old => Ok(put(out, "Old")?),
@@ -175,8 +179,7 @@ fn take(alloc: Global, follower: &mut Follower, out: &mut String) -> Result<(), 
 impl Scene {
     pub fn new(alloc: Global) -> Result<Scene, Fault> {
         let host = History::new(alloc, wavelet(alloc)?);
-        let user = Address::parse(alloc, "al@a.com")?;
-        let follower = Follower::new(alloc, wavelet(alloc)?, user, 5);
+        let follower = Follower::new(alloc, wavelet(alloc)?, user(alloc)?, 5);
         Ok(Scene {
             host,
             follower,
@@ -274,6 +277,13 @@ impl Scene {
         take_snapshot(&mut self.follower, made, out)
     }
 
+    // A new follower, whose next submission has this number, goes on in the follower's place.
+    fn renumber(&mut self, alloc: Global, next: u64, out: &mut String) -> Result<(), Fault> {
+        let next = next.min(MAX_COUNT + 1);
+        self.follower = Follower::numbered(alloc, wavelet(alloc)?, user(alloc)?, 5, next);
+        Ok(put(out, "numbered")?)
+    }
+
     // The screen is kept.
     fn keep(&mut self, alloc: Global, out: &mut String) -> Result<(), Fault> {
         self.follower.keep_screen(alloc)?;
@@ -313,6 +323,7 @@ impl Scene {
             }
             "snapshot" => self.snapshot(alloc, out),
             "leap" => self.leap(alloc, rest, out),
+            "number" => self.renumber(alloc, number(rest), out),
             _ => Err(Fault::Row),
         }
     }

@@ -18,11 +18,12 @@ use Rattle.wavelet_op.specs.declared.verdict.Verdict.{Verdict}
 use Rattle.wavelet_op.specs.declared.verdict.Verdict.TheVariants.{Ack, NotParticipant, ReadOnly, UnknownVersion, WrongHash, Invalid, Full}
 use Rattle.wavelet_op.proofs.Partial.{and_then_some, both, ok_some}
 use Rattle.delta_history.specs.declared.kept.Kept.{Kept}
-use Rattle.delta_history.specs.Laws.{IsKept, EndsSpelled, IsAdded, IsJudged}
+use Rattle.delta_history.specs.Laws.{IsKept, EndsSpelled, IsAdded, IsJudged, IsCaused}
 use Rattle.delta_history.specs.Legal.{has_id, IsLegalFrom, IsLegal}
 use Rattle.delta_history.specs.Passing.{all_acts}
 use Rattle.delta_history.specs.Points.{Point, start, acts_of, next_point, replay, IsAt}
 use Rattle.delta_history.specs.Verdicts.{kept, op_of, judge}
+use Rattle.delta_history.proofs.Causes.{cause_is}
 use Rattle.delta_history.proofs.Chains.{legal_more, legal_front}
 use Rattle.delta_history.proofs.Judges.{judged_is}
 use Rattle.delta_history.proofs.Keeping.{kept_is}
@@ -276,6 +277,9 @@ pub judged_in : (name : Key) (w : World) (s : Submission) (reading : ℕ) → Is
 judged_in name w s reading i is =
     let x = i.sent s is in
     judged_is name w.host s reading i.legal x.count (ends_spelled name w.host s i.text x.text)
+
+pub caused_in : (name : Key) (w : World) (s : Submission) (reading : ℕ) (v : Verdict) → IsGood name w → Mem s w.submissions → judge name w.host s reading ≡ (v, None) → IsCaused name w.host s reading v
+caused_in name w s reading v i is e = cause_is name w.host s reading v i.legal (ends_spelled name w.host s i.text (i.sent s is).text) e
 
 host_at_good : (name : Key) (w : World) (m : Option Submission) (reading : ℕ) → IsGood name w → ((s : Submission) → m ≡ Some s → Mem s w.submissions) → IsGood name (host_takes name w reading m)
 host_at_good name w None reading i h = i

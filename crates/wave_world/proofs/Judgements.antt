@@ -1,6 +1,6 @@
 -- What the host answers in a world.
 --     kept_found            a kept id is found
---     kept_is_answered, follower_is_heard
+--     kept_is_answered, refused_is_caused, follower_is_heard
 use Rattle.std.proofs.Common.{◌≡◌, inl, inr, ℕ, Bool, true, false, cond, List, [], ◌∷◌, ◌++◌, Option, Some, None, refl, sym, ap, subst, ◌∙◌}
 use Rattle.std.specs.Cmp.Lexicographic.{bytes_decides}
 use Rattle.doc_items.specs.Maps.{Key}
@@ -23,9 +23,9 @@ use Rattle.delta_history.proofs.Chains.{goes_from}
 use Rattle.delta_history.proofs.Points.{and_then_is, replay_more}
 use Rattle.delta_history.proofs.Versions.{cut_whole}
 use Rattle.wave_world.specs.Worlds.{Mem, world_of}
-use Rattle.wave_world.specs.Converged.{IsFair, KeptIsAnswered, FollowerIsHeard}
+use Rattle.wave_world.specs.Converged.{IsFair, KeptIsAnswered, RefusedIsCaused, FollowerIsHeard}
 use Rattle.wave_world.proofs.Places.{IsBased}
-use Rattle.wave_world.proofs.Events.{good}
+use Rattle.wave_world.proofs.Events.{good, caused_in}
 
 abbrev stands : Point → Point → Kept
 stands p q = record { at = p.at.version; to = q.at }
@@ -51,6 +51,9 @@ answered name h d s reading l m e =
 
 pub kept_is_answered : KeptIsAnswered
 kept_is_answered name events d s reading m e = answered name (world_of name events).host d s reading (good name events).legal m e
+
+pub refused_is_caused : RefusedIsCaused
+refused_is_caused name events s reading v m e = caused_in name (world_of name events) s reading v (good name events) m e
 
 -- ---- a follower's submission
 

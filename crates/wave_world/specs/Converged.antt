@@ -12,6 +12,7 @@
 --     DeltaIsTaken                a pooled delta that starts at a follower's version is taken, and moves the screen as it should
 --     DeltaIsAbsorbed             one that starts at the head of a copy is absorbed
 --     KeptIsAnswered              a submission whose id the history has is answered by an acknowledgement, and adds nothing
+--     RefusedIsCaused             a pooled submission that is answered by a verdict which adds nothing is told its cause
 --     IsFair v, FollowerIsHeard   a follower's submission is refused for its author's access or for a bound only
 --     GoesOnAlike, AcceptedIsOneEvent     a host that goes on with its history does so by no event; one that goes on with its
 --                                 history and the delta that it accepted, by one: it took the submission
@@ -24,6 +25,7 @@ use Rattle.wavelet_op.specs.States.{State, run}
 use Rattle.wavelet_op.specs.declared.delta.Submission.{Submission}
 use Rattle.wavelet_op.specs.declared.verdict.Verdict.{Verdict}
 use Rattle.wavelet_op.specs.declared.verdict.Verdict.TheVariants.{Ack, NotParticipant, ReadOnly, UnknownVersion, WrongHash, Invalid, Full}
+use Rattle.delta_history.specs.Laws.{IsCaused}
 use Rattle.delta_history.specs.Legal.{IsLegal}
 use Rattle.wavelet_state.specs.Snapshots.{max_inserted}
 use Rattle.delta_history.specs.Passing.{pass_between}
@@ -114,6 +116,10 @@ abbrev pub KeptIsAnswered : Type 0
 KeptIsAnswered = (name : Key) (events : List Event) (d : DeltaOf) (s : Submission) (reading : ℕ) → Mem d (world_of name events).host → s.id
     ≡ d.id
     → (at : ℕ) × (to : VersionAt) × (judge name (world_of name events).host s reading ≡ (Ack at to, None))
+
+abbrev pub RefusedIsCaused : Type 0
+RefusedIsCaused = (name : Key) (events : List Event) (s : Submission) (reading : ℕ) (v : Verdict) → Mem s (world_of name events).submissions
+    → judge name (world_of name events).host s reading ≡ (v, None) → IsCaused name (world_of name events).host s reading v
 
 abbrev pub IsFair : Verdict → Type 0
 IsFair (Ack at to) = Unit {0}

@@ -157,7 +157,7 @@ module _ {K : Type 0} {disk : Ghosts K} where
       record {
         stored = λ s. same_stored g h i j same s (held g.name (records_of g.deltas) s.held) (⊎_elim (λ none. inl none) (λ one. inr (d, one, c.is, c.next)) now);
         moments = λ s. weaker (on_disk i) (on_disk j) _ _ (λ x either_one. either g d (MayFollow (left_over i) added) x s.legal s.spelled c (inr is) (subst (λ b. StandsForEither g.name (records_of g.deltas) (b ∷ []) x) spells either_one)) (moments g.name (records_of g.deltas) s.held);
-        left = ⊎_elim (λ none. inl none) (λ one. inr (inr (d, is, one))) now;
+        left = ⊎_elim (λ none. inl none) (λ one. inr (inr (d, is, one, c.is))) now;
         within = λ s none. kept_by (StandsForEither g.name (records_of g.deltas) (left_over j)) (StandsForOneMore g.name g.deltas (λ d. added ≡ Some d)) (on_disk j)
             (λ x e. ⊎_elim
             (λ gone. left_either g (left_over j) (λ d. added ≡ Some d) x s.legal s.spelled (inl gone) (λ y one. no_left (sym gone ∙ one)) e)

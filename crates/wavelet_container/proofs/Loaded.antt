@@ -1,5 +1,6 @@
 -- Histories read from records.
 --     bytes_once           deltas with the same bytes and the same hash are equal
+--     next_once            two that may come next with the same bytes are one
 --     histories_once       two legal histories with the same records are one
 --     history_is_one, history_is_whole      the laws
 --     unread               bytes of no delta
@@ -43,7 +44,7 @@ bytes_once a b s r e hash =
     λ i. record { id = same.id i; from = record { version = same.version i; hash = hash i }; time = same.time i; ops = same.ops i }
 
 -- both start at the head of what is before them
-next_once : (name : List ℕ) (ds : List DeltaOf) (a b : DeltaOf) → IsDelta a → IsDelta b → delta_bytes a ≡ delta_bytes b → IsNext name ds a → IsNext name ds b → a ≡ b
+pub next_once : (name : List ℕ) (ds : List DeltaOf) (a b : DeltaOf) → IsDelta a → IsDelta b → delta_bytes a ≡ delta_bytes b → IsNext name ds a → IsNext name ds b → a ≡ b
 next_once name ds a b s r e n m =
     let here : n.here ≡ m.here = same_Some (sym n.is_head ∙ m.is_head) in
     bytes_once a b s r e (ap (λ (z : VersionAt). z.hash) (n.starts ∙ ap (λ (p : Point). p.at) here ∙ sym m.starts))

@@ -50,7 +50,8 @@ abbrev pub MayFollow : List (List ℕ) → Option DeltaOf → DeltaOf → Type 0
 MayFollow left added d = (left ≡ delta_bytes d ∷ []) ⊎ (added ≡ Some d)
 
 abbrev pub IsLeftOver : List (List ℕ) → Option DeltaOf → List (List ℕ) → Type 0
-IsLeftOver before added left = (left ≡ []) ⊎ ((left ≡ before) ⊎ ((d : DeltaOf) × (added ≡ Some d) × (left ≡ delta_bytes d ∷ [])))
+IsLeftOver before added left = (left ≡ []) ⊎ ((left ≡ before) ⊎
+    ((d : DeltaOf) × (added ≡ Some d) × (left ≡ delta_bytes d ∷ []) × IsDelta d))
 
 -- a call that took the history from g to h and its journal from i to j, and accepted this delta or none
 pub record IsMoved {K : Type 0} {disk : Ghosts K} (g h : HistoryOf) (i j : Journal K disk) (added : Option DeltaOf) : Type 0 where

@@ -1,5 +1,5 @@
 use Rattle.wave_world.proofs.Growth.{only_grows}
-use Rattle.wave_world.proofs.Judgements.{kept_is_answered, follower_is_heard}
+use Rattle.wave_world.proofs.Judgements.{kept_is_answered, refused_is_caused, follower_is_heard}
 use Rattle.wave_world.proofs.Takings.{delta_is_taken, delta_is_absorbed}
 use Rattle.wave_world.proofs.Versions.{world_converges}
 use Rattle.wave_world.proofs.world_converges.Goals as goal
@@ -18,6 +18,9 @@ returns-clause-absorbed c = delta_is_absorbed
 
 pub returns-clause-kept : goal.returns-clause-kept
 returns-clause-kept c = kept_is_answered
+
+pub returns-clause-refused : goal.returns-clause-refused
+returns-clause-refused c = refused_is_caused
 
 pub returns-clause-heard : goal.returns-clause-heard
 returns-clause-heard c = follower_is_heard

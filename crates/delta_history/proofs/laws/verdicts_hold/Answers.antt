@@ -1,3 +1,4 @@
+use Rattle.delta_history.proofs.Causes.{cause_is}
 use Rattle.delta_history.proofs.Judges.{judged_is}
 use Rattle.delta_history.proofs.Keeping.{kept_is, kept_there}
 use Rattle.delta_history.proofs.laws.verdicts_hold.Goals as goal
@@ -10,3 +11,6 @@ returns-clause-new c = kept_there
 
 pub returns-clause-judged : goal.returns-clause-judged
 returns-clause-judged c = judged_is
+
+pub returns-clause-cause : goal.returns-clause-cause
+returns-clause-cause c = cause_is
