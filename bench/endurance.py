@@ -2,7 +2,7 @@
 """Two federated servers for long, under clients that type, while they are killed and links are cut: python3 bench/endurance.py [SECONDS [PACE [PROGRAM]]]
 
 SECONDS is 60 unless it is given, PACE the seconds between a client's edits (0.01), PROGRAM crates/wave/out/wave (`rt run` in crates/wave builds it). The servers of
-a.com and b.com each host half of 8 wavelets, which 32 clients share, half of them at each server. Every two seconds or so one of the two servers, in turn, is killed by
+a.com and b.com each host half of 8 wavelets, which 32 clients share, half of them at each server. Every three seconds or so one of the two servers, in turn, is killed by
 kill -9 and started again on its folder, and each client cuts its own link now and then. An assertion fails where an acknowledged edit is gone, where one is there twice, where
 two clients see different texts, versions or hashes, where a server has more descriptors than its sessions need, or where a folder, read by `wave pipe` afterwards, isn't what they saw.
 """
@@ -21,7 +21,7 @@ from wave_client import Session
 SECONDS = float(sys.argv[1]) if len(sys.argv) > 1 else 60
 PACE = float(sys.argv[2]) if len(sys.argv) > 2 else 0.01
 PROGRAM = sys.argv[3] if len(sys.argv) > 3 else str(HOME / "crates/wave/out/wave")
-DOMAINS, CLIENTS, WAVELETS, PAUSE, REST = ("a.com", "b.com"), 32, 8, 2, 20
+DOMAINS, CLIENTS, WAVELETS, PAUSE, REST = ("a.com", "b.com"), 32, 8, 3, 40
 
 
 def host_of(wavelet):
