@@ -1,17 +1,15 @@
 -- A host that comes back.
 --     left_is_accepted, restart_is_events     the laws
 --     image_means                             what an image stands for, and that it is reached
---     loaded_reached                          what is loaded of it is reached
-use Rattle.std.proofs.Common.{◌≡◌, ◌⊎◌, inl, inr, ℕ, ◌^◌, ◌<◌, List, [], ◌∷◌, ◌++◌, length, Option, Some, None, Result, Ok, Err, MatchResult, refl, sym, ap, subst, ◌∙◌, append-nil}
+use Rattle.std.proofs.Common.{◌≡◌, inl, inr, ℕ, List, [], ◌∷◌, ◌++◌, Some, None, refl, sym, ap, subst, ◌∙◌, append-nil}
 use Rattle.std.specs.List.{AllByRecursion}
 use Rattle.doc_items.specs.Maps.{Key}
 use Rattle.doc_op.proofs.Applying.{no_value, same_Some}
 use Rattle.wavelet_op.specs.Deltas.{DeltaOf}
 use Rattle.wavelet_op.specs.declared.delta.Submission.{Submission}
-use Rattle.wavelet_op.specs.declared.verdict.Verdict.{Verdict}
 use Rattle.wavelet_codec.specs.Spelling.{delta_bytes, IsDelta}
-use Rattle.delta_history.specs.Laws.{IsAdded, IsJudged}
-use Rattle.delta_history.specs.Legal.{IsNext, IsLegal}
+use Rattle.delta_history.specs.Laws.{IsJudged}
+use Rattle.delta_history.specs.Legal.{IsNext}
 use Rattle.delta_history.specs.Verdicts.{Judged, judge}
 use Rattle.delta_history.proofs.Chains.{legal_after}
 use Rattle.wavelet_container.specs.Records.{StandsForHistory}
@@ -99,8 +97,3 @@ restart_is_events name events left o c ds a t short image there =
     let m = image_means name events left o c a t image in
     let same : m.history ≡ ds = history_is_one name c m.history ds short m.stands there in
     (subst (IsReached name events) same m.reached, subst (IsOnce name (world_of name events)) same m.once)
-
-pub loaded_reached : {A E : Type 0} (r : Result A E) (deltas : A → List DeltaOf) (Q : E → Type 0) (name : Key) (events : List Event) (ds : List DeltaOf) → IsReached name events ds → IsOnce name (world_of name events) ds → MatchResult r (λ a. deltas a ≡ ds) Q
-    → MatchResult r (λ a. IsReached name events (deltas a) × IsOnce name (world_of name events) (deltas a)) Q
-loaded_reached (Ok a) deltas Q name events ds reached once same = (subst (IsReached name events) (sym same) reached, subst (IsOnce name (world_of name events)) (sym same) once)
-loaded_reached (Err e) deltas Q name events ds reached once q = q

@@ -6,6 +6,10 @@
 --                               more, which was left over or is the one that is accepted
 --     IsReached name events ds  events lead from these to a world whose host has the history, and that world is converged
 --     IsOnce name w ds          it is the host's history, or that with a delta more, which the verdict accepted
+--     IsHostOf name events c    the container has the history of the world's host, and its journal holds it, with no more left over than
+--                               may be
+--     IsHostAfter name events c     so in a world to which events lead from these, and which is converged
+--     AreImages name w s t i j  while a submission is taken a crash leaves images of the journal
 --     LeftIsAccepted            the law: what a submission leaves over in the journal is nothing, or the record of such a delta
 --     RestartIsEvents           the law: whatever an image stands for is reached
 use Rattle.std.specs.Prelude.{◌≡◌, ◌⊎◌, ◌^◌, ◌<◌, ℕ, List, [], ◌∷◌, ◌++◌, length, Option, Some, None}
@@ -15,8 +19,14 @@ use Rattle.wavelet_op.specs.declared.delta.Submission.{Submission}
 use Rattle.wavelet_op.specs.declared.verdict.Verdict.{Verdict}
 use Rattle.wavelet_codec.specs.Spelling.{delta_bytes, IsDelta}
 use Rattle.delta_history.specs.Verdicts.{judge}
+use Rattle.disk_model.specs.Disk.{LeavesOnly}
+use Rattle.disk_model.specs.declared.disk.Disk.{Ghosts}
+use Rattle.delta_journal.specs.Journal.{on_disk, left_over}
+use Rattle.delta_journal.specs.declared.journal.Journal.{Journal}
+use Rattle.wavelet_container.specs.Containers.{history_of, journal_of}
 use Rattle.wavelet_container.specs.Records.{StandsForHistory}
-use Rattle.wavelet_container.specs.Stores.{StandsForOneMore, MayFollow, IsLeftOver}
+use Rattle.wavelet_container.specs.Stores.{IsStored, StandsForOneMore, MayFollow, IsLeftOver}
+use Rattle.wavelet_container.specs.declared.container.Container.{Container}
 use Rattle.wave_world.specs.Converged.{IsConverged}
 use Rattle.wave_world.specs.Worlds.{Mem, World, Event, world_of}
 
@@ -55,6 +65,23 @@ pub record IsReached (name : Key) (events : List Event) (ds : List DeltaOf) : Ty
 
 abbrev pub IsOnce : Key → World → List DeltaOf → Type 0
 IsOnce name w ds = (ds ≡ w.host) ⊎ ((d : DeltaOf) × IsAccepted name w d × (ds ≡ w.host ++ d ∷ []))
+
+-- ---- a container and the world's host
+
+pub record IsHostOf {K : Type 0} {disk : Ghosts K} (name : Key) (events : List Event) (c : Container K disk) : Type 0 where
+  pub named : (history_of c).name ≡ name
+  pub host : (history_of c).deltas ≡ (world_of name events).host
+  pub held : (j : Journal K disk) → journal_of c ≡ Some j → IsStored (history_of c) j × AreLeft name (world_of name events) (left_over j)
+
+pub record IsHostAfter {K : Type 0} {disk : Ghosts K} (name : Key) (events : List Event) (c : Container K disk) : Type 0 where
+  pub more : List Event
+  pub is : IsHostOf name (events ++ more) c
+  pub converged : IsConverged name (world_of name (events ++ more))
+
+abbrev pub AreImages : {K : Type 0} {disk : Ghosts K} → Key → World → Submission → ℕ → Journal K disk → Journal K disk → Type 0
+AreImages name w s t i j = LeavesOnly (on_disk i) (on_disk j) (IsImage name w (left_over i) (Some (s, t)))
+
+-- ---- the laws
 
 abbrev pub LeftIsAccepted : Type 0
 LeftIsAccepted = (name : Key) (w : World) (before after : List (List ℕ)) (s : Submission) (reading : ℕ) → AreLeft name w before

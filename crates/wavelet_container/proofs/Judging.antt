@@ -5,7 +5,9 @@
 --     can_pass, decided   its operations can be passed to the head, and become a delta
 --     near_accepted       the delta may be next
 --     near_refused        it can't be
-use Rattle.std.proofs.Common.{◌≡◌, ◌⊎◌, inl, inr, ℕ, ◌+◌, ◌<◌, ◌≤◌, Bool, true, false, ◌&&◌, nat_le, List, [], ◌∷◌, ◌++◌, length, take, drop, Option, Some, None, IsSome, true≢false, refl, sym, ap, subst, ◌∙◌, arith}
+--     no_room_full, near_full, early_full, ack_full     a bound is broken wherever `Full` is told
+use Rattle.std.proofs.Common.{◌≡◌, ◌⊎◌, inl, inr, ℕ, ◌+◌, ◌<◌, ◌≤◌, Bool, true, false, ◌&&◌, nat_le, List, [], ◌∷◌, ◌++◌, length, take, drop, Option, Some, None, IsSome, true≢false, append-nil, refl, sym, ap, subst, ◌∙◌, arith}
+use Rattle.std.specs.Option.{option_map}
 use Rattle.std.proofs.lemmas.Bool.{and_parts}
 use Rattle.std.proofs.lemmas.Bool.Decides.{nat_tests}
 use Rattle.std.proofs.lemmas.List.{length-map, take_all, drop_all, take-append-drop}
@@ -20,20 +22,22 @@ use Rattle.wavelet_op.specs.States.{State, run, first_invalid}
 use Rattle.wavelet_op.specs.declared.delta.Submission.{Submission}
 use Rattle.wavelet_op.specs.declared.op.WaveletOp.{WaveletOp}
 use Rattle.wavelet_op.specs.declared.verdict.Verdict.{Verdict}
-use Rattle.wavelet_op.specs.declared.verdict.Verdict.TheVariants.{Ack, Invalid, Full}
+use Rattle.wavelet_op.specs.declared.verdict.Verdict.TheVariants.{Ack, NotParticipant, ReadOnly, UnknownVersion, WrongHash, Invalid, Full}
 use Rattle.wavelet_codec.specs.Spelling.{delta_bytes}
 use Rattle.delta_history.specs.Histories.{HistoryOf, head_of}
 use Rattle.wavelet_state.specs.Snapshots.{max_inserted}
+use Rattle.delta_history.specs.Laws.{IsBroken, IsFull}
 use Rattle.delta_history.specs.Legal.{has_id, max_delta, standing, may_write, IsNext, IsLegal}
 use Rattle.delta_history.specs.Passing.{all_acts}
-use Rattle.delta_history.specs.Points.{Point, start, acts_of, next_point, replay}
+use Rattle.delta_history.specs.Points.{Point, start, acts_of, next_point, replay, cut}
 use Rattle.delta_history.specs.Pushes.{IsAsked}
 use Rattle.delta_history.specs.Verdicts.{accepted, is_within, judge_ops, judge_pass, judge_bounds, judge_next}
 use Rattle.delta_history.proofs.Chains.{goes_on}
 use Rattle.delta_history.proofs.Finding.{legal_end}
 use Rattle.delta_history.proofs.Points.{after_point, replay_append, and_then_is, pass_through}
 use Rattle.delta_history.proofs.Pushes.{ready}
-use Rattle.wavelet_container.specs.Decisions.{judged, IsBase, IsInvalidAt, IsNear, IsRefusal, IsSubmitted, IsValidBelow, has_room, refusal}
+use Rattle.delta_history.proofs.Versions.{cut_whole, pass_is}
+use Rattle.wavelet_container.specs.Decisions.{judged, IsBase, IsInvalidAt, IsNear, IsRefusal, IsSubmitted, IsValidBelow, IsFullFor, IsEarly, has_room, refusal}
 use Rattle.wavelet_container.specs.Passing.{CanPass, Passes}
 use Rattle.wavelet_container.proofs.Bases.{state_at_base}
 use Rattle.wavelet_container.proofs.Sizes.{empty_small, replay_sized}
@@ -221,3 +225,101 @@ decided h s t k since ops d l some b valid room is passes made = record {
   passed = subst (λ ds. Passes (meanings s.ops) ds d.ops) is (subst (λ o. Passes (meanings s.ops) since o) (sym made.ops_are) passes);
   submitted = record { id = made.id; from = made.from; time = made.time; ops_are = refl };
 }
+
+-- ---- where there is no room
+
+abbrev head_in : VersionAt → Verdict → VersionAt
+head_in z (Ack at to) = z
+head_in z NotParticipant = z
+head_in z ReadOnly = z
+head_in z (UnknownVersion head) = z
+head_in z (WrongHash host) = z
+head_in z (Invalid index) = z
+head_in z (Full head) = head
+
+abbrev is_full : Verdict → Bool
+is_full (Ack at to) = false
+is_full NotParticipant = false
+is_full ReadOnly = false
+is_full (UnknownVersion head) = false
+is_full (WrongHash host) = false
+is_full (Invalid index) = false
+is_full (Full head) = true
+
+pub ack_full : (h : HistoryOf) (s : Submission) (t at : ℕ) (to : VersionAt) (v : Verdict) → v ≡ Ack at to → IsFullFor h s t v
+ack_full h s t at to v is head e = absurd (true≢false (sym (ap is_full (sym is ∙ e))))
+
+pub invalid_full : (h : HistoryOf) (s : Submission) (t i : ℕ) → IsFullFor h s t (Invalid i)
+invalid_full h s t i head e = absurd (true≢false (sym (ap is_full e)))
+
+pub early_full : (h : HistoryOf) (s : Submission) (t : ℕ) (v : Verdict) → IsEarly v → IsFullFor h s t v
+early_full h s t (Ack at to) i head e = absurd (true≢false (sym (ap is_full e)))
+early_full h s t NotParticipant i head e = absurd (true≢false (sym (ap is_full e)))
+early_full h s t ReadOnly i head e = absurd (true≢false (sym (ap is_full e)))
+early_full h s t (UnknownVersion x) i head e = absurd (true≢false (sym (ap is_full e)))
+early_full h s t (WrongHash x) i head e = absurd (true≢false (sym (ap is_full e)))
+early_full h s t (Invalid x) i head e = absurd i
+early_full h s t (Full x) i head e = absurd i
+
+lt_of : (a b : ℕ) → nat_le a b ≡ false → b < a
+lt_of a b h = grind (arith, nat_tests)
+
+full_at : (h : HistoryOf) (s : Submission) (t k : ℕ) (u : State) (acts : List Act) → IsLegal h.name h.deltas → (b : IsBase h s k) → run b.base.state (meanings s.ops) ≡ Some u → pass (meanings s.ops) (all_acts (drop k h.deltas)) ≡ Some acts
+    → IsBroken (head_of h) (meanings s.ops) (accepted (head_of h) s t acts) → IsFull h.name h.deltas s t (head_of h).at
+full_at h s t k u acts l b v pa broken =
+    let whole : take k h.deltas ++ drop k h.deltas ≡ h.deltas = take-append-drop k h.deltas in
+    let found : cut (start h.name) s.at.version h.deltas ≡ Some (b.base, drop k h.deltas) = subst (λ (z : VersionAt). cut (start h.name) z.version h.deltas ≡ Some (b.base, drop k h.deltas)) b.made (cut_whole h.name h.deltas (take k h.deltas) (drop k h.deltas) b.base l whole b.leads) in
+    record {
+      here = head_of h;
+      leads = legal_end h.name h.deltas l;
+      at = refl;
+      base = b.base;
+      is_base = ap (option_map (λ (c : Point × List DeltaOf). c.0)) found;
+      at_base = b.made;
+      end = u;
+      valid = v;
+      acts = acts;
+      passed = pass_is h.name h.deltas s.at (head_of h).at (meanings s.ops) acts l (record {
+        before = take k h.deltas;
+        between = drop k h.deltas;
+        behind = [];
+        base = b.base;
+        end = head_of h;
+        whole = ap (λ z. take k h.deltas ++ z) (append-nil (drop k h.deltas)) ∙ whole;
+        is_base = b.leads;
+        at_base = b.made;
+        is_end = base_leads h k b.base l b.leads;
+        at_end = refl;
+        passed = pa;
+      });
+      broken = broken;
+    }
+
+-- a refusal that tells `Full`
+told_full : (h : HistoryOf) (s : Submission) (t k : ℕ) (v : Verdict) → (b : IsBase h s k) → IsRefusal h s k v → ((u : State) → run b.base.state (meanings s.ops) ≡ Some u → IsFull h.name h.deltas s t (head_of h).at) → IsFullFor h s t v
+told_full h s t k v b r f head e = go (run b.base.state (meanings s.ops)) refl
+  where
+    is : (o : Option State) → run b.base.state (meanings s.ops) ≡ o → Full head ≡ refusal (head_of h).at b.base.state (meanings s.ops) o
+    is o q = sym e ∙ r b.base b.leads ∙ ap (refusal (head_of h).at b.base.state (meanings s.ops)) q
+
+    go : (o : Option State) → run b.base.state (meanings s.ops) ≡ o → IsFull h.name h.deltas s t head
+    go None q = absurd (true≢false (ap is_full (is None q)))
+    go (Some u) q = subst (IsFull h.name h.deltas s t) (sym (ap (head_in head) (is (Some u) q))) (f u q)
+
+room_broken : (h : HistoryOf) (s : Submission) (d : DeltaOf) → has_room h s.ops ≡ false → IsBroken (head_of h) (meanings s.ops) d
+room_broken h s d e = go (nat_le ((head_of h).at.version + length s.ops) max_count) refl (nat_le ((head_of h).count + inserted (meanings s.ops)) max_inserted) refl e
+  where
+    go : (a : Bool) → nat_le ((head_of h).at.version + length s.ops) max_count ≡ a → (b : Bool) → nat_le ((head_of h).count + inserted (meanings s.ops)) max_inserted ≡ b → (a && b) ≡ false → IsBroken (head_of h) (meanings s.ops) d
+    go false p b q f = inl (subst (λ n. max_count < (head_of h).at.version + n) (sym (length-map s.ops meaning)) (lt_of _ _ p))
+    go true p false q f = inr (inl (lt_of _ _ q))
+    go true p true q f = absurd (true≢false f)
+
+pub no_room_full : (h : HistoryOf) (s : Submission) (t k : ℕ) (v : Verdict) → IsLegal h.name h.deltas → IsBase h s k → has_room h s.ops ≡ false → IsRefusal h s k v → IsFullFor h s t v
+no_room_full h s t k v l b never r = told_full h s t k v b r (λ u q. (let th = pass_through b.base (head_of h) (meanings s.ops) (drop k h.deltas) u q (base_leads h k b.base l b.leads) in full_at h s t k u th.acts' l b q th.defined (room_broken h s (accepted (head_of h) s t th.acts') never)))
+
+pub near_full : (h : HistoryOf) (s : Submission) (t k : ℕ) (d : DeltaOf) (v : Verdict) → IsNear h s t k d → (IsLegal h.name (h.deltas ++ d ∷ []) → ⊥) → IsRefusal h s k v → IsFullFor h s t v
+near_full h s t k d v n never r = told_full h s t k v n.made r (λ u q. full_at h s t k u (meanings d.ops) n.legal n.made q n.passed.is (subst (IsBroken (head_of h) (meanings s.ops)) (sym (is_accepted h s t k d n)) (inr (inr (long u q (lt_or_le max_delta (length (delta_bytes d))))))))
+  where
+    long : (u : State) → run n.made.base.state (meanings s.ops) ≡ Some u → (max_delta < length (delta_bytes d)) ⊎ (length (delta_bytes d) ≤ max_delta) → max_delta < length (delta_bytes d)
+    long u q (inl more) = more
+    long u q (inr short) = absurd (never (goes_on h.name h.deltas d n.legal (is_next h s t k d u n q short)))

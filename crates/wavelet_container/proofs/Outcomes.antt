@@ -3,7 +3,7 @@
 --     acknowledged       the delta is after the others
 --     turned_down        it can't be next
 --     near_moved         in the same state of a history, but for the room
-use Rattle.std.proofs.Common.{◌≡◌, ℕ, [], ◌∷◌, ◌++◌, Option, Some, None, refl, sym, ap, subst, ◌∙◌, unwrap_or}
+use Rattle.std.proofs.Common.{◌≡◌, ℕ, [], ◌∷◌, ◌++◌, Some, None, refl, sym, ap, subst, ◌∙◌, unwrap_or}
 use Rattle.wave_base.specs.Versions.{VersionAt}
 use Rattle.wavelet_op.specs.Deltas.{DeltaOf}
 use Rattle.wavelet_op.specs.declared.delta.Submission.{Submission}
@@ -58,7 +58,7 @@ path g h same = λ i. record { name = sym same.name i; deltas = sym same.deltas 
 pub base_moved : (g h : HistoryOf) (s : Submission) (k : ℕ) → IsSameHistory g h → IsBase g s k → IsBase h s k
 base_moved g h s k same b = subst (λ z. IsBase z s k) (path g h same) (alike g h s k b)
 
-refusal_moved : (g h : HistoryOf) (s : Submission) (k : ℕ) (v : Verdict) → IsSameHistory g h → IsRefusal h s k v → IsRefusal g s k v
+pub refusal_moved : (g h : HistoryOf) (s : Submission) (k : ℕ) (v : Verdict) → IsSameHistory g h → IsRefusal h s k v → IsRefusal g s k v
 refusal_moved g h s k v same r = subst (λ z. IsRefusal z s k v) (sym (path g h same)) r
 
 pub turned_down : (g h i : HistoryOf) (s : Submission) (t k : ℕ) (d : DeltaOf) (v : Verdict) → IsNear g s t k d → (IsLegal g.name (g.deltas ++ d ∷ []) → ⊥) → IsSameHistory g h → IsRefusal h s k v → i ≡ h → IsAnswered g i s t v

@@ -5,10 +5,10 @@
 --     went_back          a delta was taken back
 --     can_go_back        it can be
 --     kept_either        what a history keeps beside its deltas stays so when it grows
-use Rattle.std.proofs.Common.{◌≡◌, ◌⊎◌, ⊎_elim, ℕ, zero, suc, ◌+◌, ◌<◌, ◌≤◌, List, [], ◌∷◌, ◌++◌, length, take, drop, slice_get, Option, Some, None, IsSome, is_some, true≢false, refl, sym, ap, subst, ◌∙◌, arith, length-append, option_and_then, IfSome, Result, Ok, Err, OnOk, OnErr, append_assoc, append-nil}
+use Rattle.std.proofs.Common.{◌≡◌, ⊎_elim, ℕ, zero, suc, ◌+◌, ◌<◌, ◌≤◌, List, [], ◌∷◌, ◌++◌, length, take, drop, slice_get, Option, Some, None, IsSome, is_some, true≢false, sym, ap, subst, ◌∙◌, arith, length-append, option_and_then, IfSome, Result, Ok, Err, OnOk, OnErr, append_assoc, append-nil}
 use Rattle.std.proofs.lemmas.List.{take-append-le, take-append-drop}
 use Rattle.doc_op.proofs.Applying.{no_value, same_Some}
-use Rattle.wavelet_op.specs.Acts.{Act, meanings}
+use Rattle.wavelet_op.specs.Acts.{meanings}
 use Rattle.wavelet_op.specs.Deltas.{DeltaOf}
 use Rattle.wavelet_op.specs.States.{State, empty_state, run}
 use Rattle.wavelet_op.specs.declared.op.WaveletOp.{WaveletOp}

@@ -10,6 +10,8 @@
 --     LooksAtOps j          the verdict is one that comes only after the operations were looked at: that they aren't valid, that there
 --                           is no room, or that they are accepted
 --     refusal_of h s k v    this verdict is the refusal
+--     IsFullFor h s t v     where it is `Full`, the operations are valid at their base, and the delta that they become breaks a bound
+--     IsEarlyTold r, IsFullTold h s t r     so of what is told before the operations were looked at, and of what is told then
 use Rattle.std.specs.Prelude.{◌≡◌, ◌≤◌, ◌<◌, ◌+◌, ℕ, Bool, true, false, ◌&&◌, nat_le, min, List, length, take, drop, Option, Some, None, IsSome}
 use Rattle.doc_items.specs.Limits.{max_count}
 use Rattle.wave_base.specs.Versions.{VersionAt}
@@ -23,6 +25,7 @@ use Rattle.wavelet_op.specs.declared.verdict.Verdict.{Verdict}
 use Rattle.wavelet_op.specs.declared.verdict.Verdict.TheVariants.{Ack, NotParticipant, ReadOnly, UnknownVersion, WrongHash, Invalid, Full}
 use Rattle.delta_history.specs.Histories.{HistoryOf, head_of}
 use Rattle.wavelet_state.specs.Snapshots.{max_inserted}
+use Rattle.delta_history.specs.Laws.{IsFull}
 use Rattle.delta_history.specs.Legal.{has_id, standing, may_write, IsLegal}
 use Rattle.delta_history.specs.Points.{Point, start, replay}
 use Rattle.delta_history.specs.Verdicts.{kept, Judged, judge, judge_ops}
@@ -104,3 +107,25 @@ pub record IsNear (h : HistoryOf) (s : Submission) (t : ℕ) (k : ℕ) (d : Delt
 abbrev pub IsDecided : HistoryOf → Submission → ℕ → Decision → Type 0
 IsDecided h s t (Told v) = judged h s t ≡ (v, None)
 IsDecided h s t (Near k d) = IsNear h s t k d
+
+-- ---- where there is no room
+
+abbrev pub IsFullFor : HistoryOf → Submission → ℕ → Verdict → Type 0
+IsFullFor h s t v = (head : VersionAt) → v ≡ Full head → IsFull h.name h.deltas s t head
+
+abbrev pub IsEarly : Verdict → Type 0
+IsEarly (Ack at to) = Unit {0}
+IsEarly NotParticipant = Unit {0}
+IsEarly ReadOnly = Unit {0}
+IsEarly (UnknownVersion head) = Unit {0}
+IsEarly (WrongHash host) = Unit {0}
+IsEarly (Invalid index) = ⊥
+IsEarly (Full head) = ⊥
+
+abbrev pub IsEarlyTold : Tested → Type 0
+IsEarlyTold (tested.Told v) = IsEarly v
+IsEarlyTold (tested.Base k) = Unit {0}
+
+abbrev pub IsFullTold : HistoryOf → Submission → ℕ → Decision → Type 0
+IsFullTold h s t (Told v) = IsFullFor h s t v
+IsFullTold h s t (Near k d) = Unit {0}

@@ -4,7 +4,7 @@ ghost use Rattle.std.specs.Option.{option_map};
 ghost use Rattle.disk_model.specs.Disk.{LeavesJust, Rose};
 ghost use Rattle.delta_history.specs.Histories.{IsSameHistory};
 ghost use Rattle.delta_journal.specs.Journal.{disk_of, on_disk, left_over, needs_repair, EachImage};
-ghost use Rattle.wavelet_container.specs.Decisions.{judged, LooksAtOps};
+ghost use Rattle.wavelet_container.specs.Decisions.{judged, IsFullFor, LooksAtOps};
 ghost use Rattle.wavelet_container.specs.Records.{StandsForHistory};
 ghost use Rattle.wavelet_container.specs.Stores.{IsGrownBy, IsStored, IsLeftOver, IsWithin};
 ghost use Rattle.wavelet_container.specs.Containers.{history_of, journal_of, OfBoth, Moments, IsHeld};
@@ -103,7 +103,8 @@ impl<K: Disk> Container<K> {
         }
     }
 
-    /// The verdict on a submission at the time, in milliseconds; the history grows by just the delta that is accepted. With a
+    /// The verdict on a submission at the time, in milliseconds; the history grows by just the delta that is accepted. `Full` comes
+    /// only where the operations are valid at their base, and the delta that they become breaks a bound. With a
     /// journal a pending repair comes first, and an accepted delta is on the disk before the history has it: at `Ok` every image
     /// stands for the history. At `DiskFault` and at `Memory` the history is as before. At `DiskFault` each image stands for it, or for
     /// it and the accepted delta, and a repair may be pending; at `Memory` each image stands for just the history, and no repair is
@@ -116,6 +117,7 @@ impl<K: Disk> Container<K> {
         time: u64,
     ) -> Result<Verdict, SubmitFault>
         ensures verdict { IfOk result (λ v. v ≡ (judged (history_of self.old) submission.now time).0) }
+        ensures full { IfOk result (λ v. IsFullFor (history_of self.old) submission.now time v) }
         ensures grown { OnOk result
             (IsGrownBy (history_of self.old) (judged (history_of self.old) submission.now time).1 (history_of self.new)) }
         ensures same { OnErr result (IsSameHistory (history_of self.old) (history_of self.new)) }

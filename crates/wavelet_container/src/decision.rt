@@ -3,7 +3,7 @@ ghost use Rattle.std.specs.Prelude.{◌≡◌, ◌≤◌, ◌*◌, length, IsSom
 ghost use Rattle.doc_items.specs.Limits.{max_count};
 ghost use Rattle.wavelet_op.specs.Acts.{inserted_act, inserted, meaning, meanings, AreNormal};
 ghost use Rattle.wavelet_op.specs.States.{run, first_invalid};
-ghost use Rattle.wavelet_container.specs.Decisions.{IsBase, IsDecided, IsRefusal, IsInvalidAt, IsSubmitted, IsValidBelow, LooksAtOps, has_room, judged};
+ghost use Rattle.wavelet_container.specs.Decisions.{IsBase, IsDecided, IsRefusal, IsInvalidAt, IsSubmitted, IsValidBelow, IsFullTold, LooksAtOps, has_room, judged};
 
 use crate::cached::CachedHistory;
 use crate::early::{Tested, test};
@@ -33,6 +33,7 @@ impl CachedHistory {
         time: u64,
     ) -> Result<Decision, Memory>
         ensures decided { IfOk result (λ r. IsDecided self.old submission.now time r) }
+        ensures full { IfOk result (λ r. IsFullTold self.old submission.now time r) }
         ensures late { OnErr result (LooksAtOps (judged self.old submission.now time)) }
         ensures same { self.new ≡ self.old }
     {
@@ -52,6 +53,7 @@ impl CachedHistory {
     ) -> Result<Decision, Memory>
         requires base { IsBase self.old submission.now place }
         ensures decided { IfOk result (λ r. IsDecided self.old submission.now time r) }
+        ensures full { IfOk result (λ r. IsFullTold self.old submission.now time r) }
         ensures same { self.new ≡ self.old }
     {
         if place < self.history().deltas().len() {
@@ -70,6 +72,7 @@ impl CachedHistory {
     ) -> Result<Decision, Memory>
         requires base { IsBase self.old submission.now place }
         ensures decided { IfOk result (λ r. IsDecided self.old submission.now time r) }
+        ensures full { IfOk result (λ r. IsFullTold self.old submission.now time r) }
         ensures same { self.new ≡ self.old }
     {
         match self.invalid_at(alloc, &submission.ops, place)? {
@@ -89,8 +92,10 @@ impl CachedHistory {
         requires base { IsBase self.old submission.now place }
         requires valid { IsValidBelow self.old submission.now place }
         ensures decided { IfOk result (λ r. IsDecided self.old submission.now time r) }
+        ensures full { IfOk result (λ r. IsFullTold self.old submission.now time r) }
         ensures same { self.new ≡ self.old }
     {
+        let _deltas = self.history().deltas();
         let _len = submission.ops.len();
         if !has_room(self.history(), &submission.ops) {
             let verdict = self.refuse(alloc, submission, place)?;

@@ -6,7 +6,7 @@ ghost use Rattle.delta_history.specs.Legal.{adds_first, standing};
 ghost use Rattle.delta_history.specs.Points.{start};
 ghost use Rattle.delta_history.specs.Verdicts.{kept};
 ghost use Rattle.delta_history.specs.Places.{started_below, IsRisingFrom};
-ghost use Rattle.wavelet_container.specs.Decisions.{IsTested, MayWrite};
+ghost use Rattle.wavelet_container.specs.Decisions.{IsTested, IsEarlyTold, MayWrite};
 
 use delta_history::History;
 use wave_base::Address;
@@ -24,7 +24,8 @@ pub(crate) enum Tested {
 /// The first tests, in order: a delta has its id; its author is absent, or may only read; its version is no delta end; the hash
 /// there is another.
 pub(crate) fn test(history: &History, submission: &Submission) -> Tested
-    ensures { IsTested history.now submission.now result }
+    ensures tested { IsTested history.now submission.now result }
+    ensures early { IsEarlyTold result }
 {
     match history.kept(&submission.id) {
         Some(kept) => Tested::Told(Verdict::Ack {
@@ -38,7 +39,8 @@ pub(crate) fn test(history: &History, submission: &Submission) -> Tested
 // The tests of its author and of its version, where its id is new.
 fn test_author(history: &History, submission: &Submission) -> Tested
     requires { kept submission.now.id (start history.now.name) history.now.deltas ≡ None }
-    ensures { IsTested history.now submission.now result }
+    ensures tested { IsTested history.now submission.now result }
+    ensures early { IsEarlyTold result }
 {
     let _deltas = history.deltas();
     match standing(history, &submission.id.author, &submission.ops) {
@@ -51,7 +53,8 @@ fn test_author(history: &History, submission: &Submission) -> Tested
 // The tests of its version, where the ones before it are passed.
 fn test_base(history: &History, submission: &Submission) -> Tested
     requires { MayWrite history.now submission.now }
-    ensures { IsTested history.now submission.now result }
+    ensures tested { IsTested history.now submission.now result }
+    ensures early { IsEarlyTold result }
 {
     match history.hash_at(submission.at.version) {
         None => Tested::Told(Verdict::UnknownVersion {

@@ -3,7 +3,7 @@ ghost use Rattle.std.specs.Prelude.{◌≡◌, IfOk, OnErr};
 ghost use Rattle.wavelet_op.specs.declared.verdict.Verdict.TheVariants.{Ack};
 ghost use Rattle.delta_history.specs.Histories.{head_of, IsSameHistory};
 ghost use Rattle.delta_history.specs.Legal.{IsLegal};
-ghost use Rattle.wavelet_container.specs.Decisions.{IsNear, LooksAtOps, judged};
+ghost use Rattle.wavelet_container.specs.Decisions.{IsNear, IsFullFor, LooksAtOps, judged};
 ghost use Rattle.wavelet_container.specs.Stores.{IsAnswered};
 
 use crate::cached::CachedHistory;
@@ -22,6 +22,7 @@ impl CachedHistory {
         time: u64,
     ) -> Result<Verdict, Memory>
         ensures ok { IfOk result (λ v. IsAnswered self.old self.new submission.now time v) }
+        ensures full { IfOk result (λ v. IsFullFor self.old submission.now time v) }
         ensures err { OnErr result (IsSameHistory self.old self.new) }
         ensures late { OnErr result (LooksAtOps (judged self.old submission.now time)) }
     {
@@ -42,6 +43,7 @@ impl CachedHistory {
     ) -> Result<Verdict, Memory>
         requires { IsNear self.old submission.now time place delta }
         ensures ok { IfOk result (λ v. IsAnswered self.old self.new submission.now time v) }
+        ensures full { IfOk result (λ v. IsFullFor self.old submission.now time v) }
         ensures err { OnErr result (IsSameHistory self.old self.new) }
     {
         let at = version(&delta);

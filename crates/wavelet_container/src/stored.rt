@@ -7,7 +7,7 @@ ghost use Rattle.delta_history.specs.Histories.{head_of, IsSameHistory, IsGrown}
 ghost use Rattle.delta_history.specs.Legal.{IsLegal, IsNext};
 ghost use Rattle.delta_history.specs.Pushes.{IsReady};
 ghost use Rattle.delta_journal.specs.Journal.{IsJournal, WhereHeld, on_disk, left_over, needs_repair};
-ghost use Rattle.wavelet_container.specs.Decisions.{judged, IsBase, IsNear, IsRefusal, LooksAtOps};
+ghost use Rattle.wavelet_container.specs.Decisions.{judged, IsBase, IsNear, IsRefusal, IsFullFor, LooksAtOps};
 ghost use Rattle.wavelet_container.specs.Stores.{IsAnswered, IsMoved};
 
 use crate::SubmitFault;
@@ -103,6 +103,7 @@ fn answer<K: Disk>(
     requires whole { needs_repair journal.old ≡ false }
     requires near { IsNear wavelet.old submission.now time place delta }
     ensures answered { IfOk result (λ v. IsAnswered wavelet.old wavelet.new submission.now time v) }
+    ensures full { IfOk result (λ v. IsFullFor wavelet.old submission.now time v) }
     ensures same { OnErr result (IsSameHistory wavelet.old wavelet.new) }
     ensures moved { IsMoved wavelet.old wavelet.new journal.old journal.new (judged wavelet.old submission.now time).1 }
     ensures done { OnOk result (needs_repair journal.new ≡ false) }
@@ -146,6 +147,7 @@ fn submit_repaired<K: Disk>(
 ) -> Result<Verdict, SubmitFault>
     requires whole { needs_repair journal.old ≡ false }
     ensures answered { IfOk result (λ v. IsAnswered wavelet.old wavelet.new submission.now time v) }
+    ensures full { IfOk result (λ v. IsFullFor wavelet.old submission.now time v) }
     ensures same { OnErr result (IsSameHistory wavelet.old wavelet.new) }
     ensures moved { IsMoved wavelet.old wavelet.new journal.old journal.new (judged wavelet.old submission.now time).1 }
     ensures done { OnOk result (needs_repair journal.new ≡ false) }
@@ -172,6 +174,7 @@ pub(crate) fn submit_stored<K: Disk>(
     time: u64,
 ) -> Result<Verdict, SubmitFault>
     ensures answered { IfOk result (λ v. IsAnswered wavelet.old wavelet.new submission.now time v) }
+    ensures full { IfOk result (λ v. IsFullFor wavelet.old submission.now time v) }
     ensures same { OnErr result (IsSameHistory wavelet.old wavelet.new) }
     ensures moved { IsMoved wavelet.old wavelet.new journal.old journal.new (judged wavelet.old submission.now time).1 }
     ensures done { OnOk result (needs_repair journal.new ≡ false) }

@@ -18,8 +18,8 @@ test_base-requires c =
       author = sym (λ i. standing h.deltas (head_of h) (author i) (meanings (ops i))) ∙ sym c.standing.ensures ∙ c.in-Some-Full.is ∙ ap Some c.in-Some-Full.field-0-is;
     }
 
-pub returns-in-Some-ReadOnly : goal.returns-in-Some-ReadOnly
-returns-in-Some-ReadOnly c t =
+pub returns-in-Some-ReadOnly-clause-tested : goal.returns-in-Some-ReadOnly-clause-tested
+returns-in-Some-ReadOnly-clause-tested c t =
     let h = c.args.history.now in
     let s = c.args.submission.now in
     let author = ap (λ (s : Submission). s.id.author) c.submission.view_is in

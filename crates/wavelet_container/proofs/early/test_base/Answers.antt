@@ -14,13 +14,13 @@ use Rattle.wavelet_container.proofs.early.test_base.Goals as goal
 pub started_below-requires : goal.started_below-requires
 started_below-requires c = subst (λ (ds : List DeltaOf). IsRisingFrom 0 ds) (sym c.deltas-deltas.ensures.value) (rising c.args.history.now.name c.args.history.now.deltas c.requires.legal)
 
-pub returns-in-None : goal.returns-in-None
-returns-in-None c t =
+pub returns-in-None-clause-tested : goal.returns-in-None-clause-tested
+returns-in-None-clause-tested c t =
     let version = ap (λ (s : Submission). s.at.version) c.submission.view_is in
     not_found c.args.history.now c.args.submission.now c.requires (ap (hash_found c.args.history.now) (sym version) ∙ sym c.hash_at.ensures ∙ c.in-None.is) t ∙ ap (λ z. (UnknownVersion z, None)) (sym c.head.ensures)
 
-pub returns-then-eq : goal.returns-then-eq
-returns-then-eq c =
+pub returns-then-eq-clause-tested : goal.returns-then-eq-clause-tested
+returns-then-eq-clause-tested c =
     let version = ap (λ (s : Submission). s.at.version) c.submission.view_is in
     let hash = ap (λ (s : Submission). s.at.hash) c.submission.view_is in
     let found : hash_found c.args.history.now c.args.submission.now.at.version ≡ Some c.in-Some.host = ap (hash_found c.args.history.now) (sym version) ∙ sym c.hash_at.ensures ∙ c.in-Some.is in
@@ -29,8 +29,8 @@ returns-then-eq c =
     let place : c.started_below.result ≡ started_below c.args.submission.now.at.version c.args.history.now.deltas = c.started_below.ensures.value ∙ (λ i. started_below (version i) (c.deltas-deltas.ensures.value i)) in
     subst (IsBase c.args.history.now c.args.submission.now) (sym place) (is_base c.args.history.now c.args.submission.now c.in-Some.host c.requires found same ((bytes_decides c.args.submission.now.at.hash c.in-Some.host).1 (sym same)))
 
-pub returns-else-eq : goal.returns-else-eq
-returns-else-eq c =
+pub returns-else-eq-clause-tested : goal.returns-else-eq-clause-tested
+returns-else-eq-clause-tested c =
     let version = ap (λ (s : Submission). s.at.version) c.submission.view_is in
     let hash = ap (λ (s : Submission). s.at.hash) c.submission.view_is in
     let found : hash_found c.args.history.now c.args.submission.now.at.version ≡ Some c.in-Some.host = ap (hash_found c.args.history.now) (sym version) ∙ sym c.hash_at.ensures ∙ c.in-Some.is in

@@ -3,7 +3,8 @@ use Rattle.std.proofs.lemmas.Result.{IfOk-weaker}
 use Rattle.delta_history.specs.Histories.{HistoryOf}
 use Rattle.wavelet_container.specs.Decisions.{judged}
 use Rattle.wavelet_container.specs.Stores.{IsMoved}
-use Rattle.wavelet_container.proofs.Outcomes.{acknowledged, accepted_is, base_moved, turned_down}
+use Rattle.wavelet_container.proofs.Judging.{ack_full, near_full}
+use Rattle.wavelet_container.proofs.Outcomes.{acknowledged, accepted_is, base_moved, refusal_moved, turned_down}
 use Rattle.wavelet_container.proofs.stored.answer.Goals as goal
 
 pub refused-requires : goal.refused-requires
@@ -32,3 +33,11 @@ returns-in-Err-DiskFault-clause-moved g c = c.store.ensures.moved (judged c.args
 
 pub returns-in-Err-Memory-clause-moved : goal.returns-in-Err-Memory-clause-moved
 returns-in-Err-Memory-clause-moved g c = c.store.ensures.moved (judged c.args.wavelet.now c.args.submission.now c.args.time).1 (λ next. accepted_is c.args.wavelet.now c.args.submission.now c.args.time c.args.place c.args.delta c.requires.near next)
+
+pub returns-in-Ok-clause-full : goal.returns-in-Ok-clause-full
+returns-in-Ok-clause-full g c = ack_full c.args.wavelet.now c.args.submission.now c.args.time c.version-at.result _ c.acknowledged.result c.acknowledged.ensures.is
+
+pub returns-in-Err-NotLegal-clause-full : goal.returns-in-Err-NotLegal-clause-full
+returns-in-Err-NotLegal-clause-full g c =
+    let never = c.in-Err-NotLegal.ensures.refused (ap Err c.in-Err-NotLegal.field-0-is) in
+    IfOk-weaker c.refused.result _ _ (λ v r. near_full c.args.wavelet.now c.args.submission.now c.args.time c.args.place c.args.delta v c.requires.near never (refusal_moved c.args.wavelet.now c.store.new.wavelet c.args.submission.now c.args.place v c.in-Err-NotLegal.ensures.same r)) c.refused.ensures.verdict
