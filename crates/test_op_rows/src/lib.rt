@@ -1,8 +1,8 @@
 //! What the public calls on names, documents, operations, edits and conversations answer to rows of text.
 //!
 //! A row is a verb and its parts, as `test_row_words` has them. Operations are the words of `test_op_words`, and a document is the
-//! operation that makes it. A row of several commands (`rope`) has an answer to each, on a line of its own. Each file names its
-//! verbs at its function `call`.
+//! operation that makes it; in rows of `manifest` both are JSON. A row of several commands (`rope`, `manifest`) has an answer to each,
+//! on a line of its own. Each file names its verbs at its function `call`.
 #![tactic(auto)]
 
 mod alike;
@@ -11,6 +11,7 @@ mod documents;
 mod edits;
 mod fault;
 mod items;
+mod manifests;
 mod names;
 mod operations;
 mod pieces;
@@ -48,7 +49,10 @@ fn above(alloc: Global, verb: &str, rest: &str, out: &mut String) -> Result<bool
     if edits::call(alloc, verb, rest, out)? {
         return Ok(true);
     }
-    trees::call(alloc, verb, rest, out)
+    if trees::call(alloc, verb, rest, out)? {
+        return Ok(true);
+    }
+    manifests::call(alloc, verb, rest, out)
 }
 
 /// What is printed after the row. None where the verb isn't one of this crate.

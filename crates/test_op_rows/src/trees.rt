@@ -147,10 +147,9 @@ fn put_deep(alloc: Global, rest: &str, out: &mut String) -> Result<(), Fault> {
     Ok(put_number(out, tree.as_slice().len() as u64)?)
 }
 
-/// The answers to `tree`, `deep`, `reply`, `inline`, `continue` and `delete`.
+/// The answers to `deep`, `reply`, `inline`, `continue` and `delete`.
 pub fn call(alloc: Global, verb: &str, rest: &str, out: &mut String) -> Result<bool, Fault> {
     match verb {
-        "tree" => put_tree(alloc, &document(alloc, rest)?, out)?,
         "deep" => put_deep(alloc, rest, out)?,
         "reply" | "inline" | "continue" | "delete" => put_edit(alloc, verb, rest, out)?,
         _ => return Ok(false),
