@@ -236,70 +236,8 @@ fn accept_or_rest<
     }
 }
 
-// Accepts a link where more are wanted, or else sleeps. True where all sessions have ended.
-fn go_round<
-    R: Wait,
-    N: Net,
-    F: Folder + Drop,
-    C: Clock + Drop,
-    P: Spawner<LinkJob<N::Link, F, C, G>, R>,
-    G: Gate + Drop,
->(
-    rt: &R,
-    alloc: Global,
-    server: &mut Server<N, F, P, G>,
-    clock: &C,
-    hub: &Arc<Hub<F>, Global>,
-    passes: &mut Passes<F>,
-    jobs: &mut Vec<P::Running>,
-    started: &mut u64,
-    most: u64,
-    keeps: bool,
-    awake: bool,
-) -> Result<bool, Stop>
-    requires sends { IsSend R.row }
-    requires own { AreOfHub (arc_value hub.now) passes.old }
-    requires ours { AreOurs (λ r. arc_value (P.job_of r).hub) (arc_value hub.now) jobs.old.items }
-    requires out { vec_len jobs.old ≤ N.out server.old.net }
-    requires room { keeps ≡ true → vec_len server.old.ended + vec_len jobs.old ≤ vec_capacity server.old.ended }
-    requires total { keeps ≡ true → vec_len server.old.ended + vec_len jobs.old ≡ started.old }
-    requires most { started.old ≤ most }
-    requires spent { is_some server.old.spent ≡ false }
-    ensures own { AreOfHub (arc_value hub.now) passes.new }
-    ensures later { Begins passes.old passes.new }
-    ensures ours { AreOurs (λ r. arc_value (P.job_of r).hub) (arc_value hub.now) jobs.new.items }
-    ensures out { (held : ℕ) → vec_len jobs.old + held ≤ N.out server.old.net → vec_len jobs.new + held ≤ N.out server.new.net }
-    ensures room { keeps ≡ true → vec_len server.new.ended + vec_len jobs.new ≤ vec_capacity server.new.ended }
-    ensures total { OnOk result (keeps ≡ true → vec_len server.new.ended + vec_len jobs.new ≡ started.new) }
-    ensures most { OnOk result (started.new ≤ most) }
-    ensures all { IfOk result (λ b. b ≡ true → (keeps ≡ true) × (vec_len server.new.ended ≡ most) × (started.new ≡ most)) }
-    ensures accepted { (base : ℕ) → WereAccepted base (N.accepted server.old.net) started.old
-        → MatchResult result (λ _. WereAccepted base (N.accepted server.new.net) started.new)
-        (λ _. N.accepted server.new.net ≤ base + most) }
-    ensures spent { TellsSpent (is_some server.new.spent) result }
-    ensures refused { IfErr result (λ s. s ≡ Refused → Rose (P.refused server.old.spawner) (P.refused server.new.spawner)) }
-    ensures door { IfErr result (λ s. s ≡ Door → Rose (N.door server.old.net) (N.door server.new.net)) }
-    ensures counts { (P.refused server.old.spawner ≤ P.refused server.new.spawner) × (N.door server.old.net ≤ N.door server.new.net) }
-    ensures asked { IsTrue N.tells → N.asked server.new.net ≡ N.asked server.old.net }
-    ensures going { (before : List N.Link) (line put : ℕ) → IsGoing N.Link.Link (server_of (arc_value hub.now))
-        (marks_of passes.old) (is_some server.old.spent) put before
-        (N.back server.old.net) line (N.line server.old.net) server.old.ended.items
-        → IsGoing N.Link.Link (server_of (arc_value hub.now)) (marks_of passes.new) (is_some server.new.spent) put before
-        (N.back server.new.net) line (N.line server.new.net) server.new.ended.items }
-{
-    if *started < most {
-        return accept_or_rest::<R, N, F, C, P, G>(
-            rt, alloc, server, clock, hub, passes, jobs, started, most, keeps, awake,
-        );
-    }
-    if keeps && jobs.is_empty() {
-        return Ok(true);
-    }
-    rest(&mut server.net, awake);
-    Ok(false)
-}
-
-// Takes the end of a job, or accepts a link, or else sleeps unless it is to stay awake. True where all sessions have ended.
+// Takes the end of a job, or accepts a link where more are wanted, or else sleeps unless it is to stay awake. True where all sessions
+// have ended.
 fn turn<
     R: Wait,
     N: Net,
@@ -354,15 +292,23 @@ fn turn<
     if *put == u64::MAX {
         return Err(Stop::Memory);
     }
-    match find_done::<R, LinkJob<N::Link, F, C, G>, P>(&server.spawner, jobs.as_slice()) {
-        Some(place) => {
-            take_one::<R, N, F, C, P, G>(rt, alloc, server, hub, passes, jobs, place, put, keeps);
-            goes_on(&server.spent)
-        }
-        None => go_round::<R, N, F, C, P, G>(
-            rt, alloc, server, clock, hub, passes, jobs, started, most, keeps, awake,
-        ),
+    if let Some(place) = find_done::<R, LinkJob<N::Link, F, C, G>, P>(
+        &server.spawner,
+        jobs.as_slice(),
+    ) {
+        take_one::<R, N, F, C, P, G>(rt, alloc, server, hub, passes, jobs, place, put, keeps);
+        return goes_on(&server.spent);
     }
+    if *started < most {
+        return accept_or_rest::<R, N, F, C, P, G>(
+            rt, alloc, server, clock, hub, passes, jobs, started, most, keeps, awake,
+        );
+    }
+    if keeps && jobs.is_empty() {
+        return Ok(true);
+    }
+    rest(&mut server.net, awake);
+    Ok(false)
 }
 
 // What is done in each turn for robots and peers. True where a peer's link did something, after which the server stays awake.
