@@ -7,6 +7,8 @@ use Rattle.std.proofs.MapsCrossing as maps
 use Rattle.thread_safety.proofs.Operations.{document_name_send, document_name_sync}
 use Rattle.thread_safety.proofs.Histories.{roles_send, roles_sync}
 use Rattle.doc_pack.specs.contracts.run.Run as run
+use Rattle.doc_pack.specs.contracts.piece.PackedPiece as piece
+use Rattle.doc_pack.specs.contracts.piece.PackedPiece.TheInside as piece_inside
 use Rattle.doc_pack.specs.contracts.packed.PackedDocument as document
 use Rattle.doc_pack.specs.contracts.packed.PackedDocument.TheInside as document_inside
 use Rattle.wavelet_state.specs.contracts.packed.PackedDocuments as documents
@@ -22,11 +24,23 @@ run_send = variants_send run.enum (search (sendable, crosses, maps.crosses) dept
 run_sync : IsSync run.the_row
 run_sync = variants_sync run.enum (search (sendable, crosses, maps.crosses) depth 40 fits 20000)
 
+piece_inside_send : IsSend piece_inside.the_row
+piece_inside_send = declared_send piece_inside.the_type (search (sendable, crosses, run_send) depth 40)
+
+piece_inside_sync : IsSync piece_inside.the_row
+piece_inside_sync = declared_sync piece_inside.the_type (search (sendable, crosses, run_sync) depth 40)
+
+piece_send : IsSend piece.the_row
+piece_send = search (sendable, piece_inside_send) depth 10
+
+piece_sync : IsSync piece.the_row
+piece_sync = search (sendable, piece_inside_sync) depth 10
+
 document_inside_send : IsSend document_inside.the_row
-document_inside_send = declared_send document_inside.the_type (search (sendable, crosses, run_send) depth 40)
+document_inside_send = declared_send document_inside.the_type (search (sendable, crosses, piece_send, piece_sync) depth 40)
 
 document_inside_sync : IsSync document_inside.the_row
-document_inside_sync = declared_sync document_inside.the_type (search (sendable, crosses, run_sync) depth 40)
+document_inside_sync = declared_sync document_inside.the_type (search (sendable, crosses, piece_send, piece_sync) depth 40)
 
 document_send : IsSend document.the_row
 document_send = search (sendable, document_inside_send) depth 10
