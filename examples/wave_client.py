@@ -16,13 +16,13 @@ GUID = "258EAFA5-E914-47DA-95CA-C5AB0DC85B11"  # RFC 6455, section 1.3
 class Link:
     """Messages over a WebSocket."""
 
-    def __init__(self, address, seconds=30):
+    def __init__(self, address, seconds=30, path="/"):
         host, _, port = address.rpartition(":")
         self.socket = socket.create_connection((host, int(port)), seconds)
         self.socket.setsockopt(socket.IPPROTO_TCP, socket.TCP_NODELAY, 1)
         self.file = self.socket.makefile("rb")
         key = base64.b64encode(os.urandom(16)).decode()
-        head = f"GET / HTTP/1.1\r\nHost: {address}\r\nUpgrade: websocket\r\nConnection: Upgrade\r\nSec-WebSocket-Key: {key}\r\nSec-WebSocket-Version: 13\r\n\r\n"
+        head = f"GET {path} HTTP/1.1\r\nHost: {address}\r\nUpgrade: websocket\r\nConnection: Upgrade\r\nSec-WebSocket-Key: {key}\r\nSec-WebSocket-Version: 13\r\n\r\n"
         self.socket.sendall(head.encode())
         status, *fields = [*iter(lambda: self.file.readline().decode().strip(), "")] or [""]
         accept = base64.b64encode(hashlib.sha1((key + GUID).encode()).digest()).decode()
