@@ -17,7 +17,7 @@ PAGE = Path(__file__).resolve().parent / "page.html"
 ROUNDS, SECONDS = 30, 30
 END = {"element_end": True}
 
-# Types a word behind so many letters, in the place of so many that follow. The page is busy for a moment before, so it hasn't seen what others did then.
+# Types a word after so many letters, in the place of so many that follow. The page is busy for a moment before, so it hasn't seen what others did then.
 TYPE = """(at, count, word) => {
   for (const end = Date.now() + 20; Date.now() < end; );
   const area = document.getElementById("area"), letters = [...area.value]
@@ -191,7 +191,7 @@ def run(browser, folder, servers):
         copy.settle()
     seen_by_all(pages, copy)
 
-    # a caret stays behind the letter that it was behind
+    # a caret stays after the letter that it was after
     pages[1].type("caret", 3)
     seen_by_all(pages, copy)
     change(copy, 0, 0, {"characters": "In front: "})
