@@ -24,7 +24,7 @@ use Rattle.follower_rules.specs.declared.fault.FollowerFault.TheVariants.{OpInva
 use Rattle.follower_rules.specs.declared.taken.Taken.TheVariants.{Pending, Old, Took}
 use Rattle.follower_rules.specs.Followers.{ClientOf, FollowerOf, run_all, inserted_all, flying, pending, screen, moved, take_newer, take_settled, take_snapshot}
 use Rattle.follower_rules.specs.Laws.{IsSound}
-use Rattle.follower_rules.specs.Submitting.{is_short, IsFault, queued, edit_short, edit_held, edit_run, edit_shown, edit, gather, sent_by, submitting, take_numbered, take_gathered, take_queued, take_unless, submit}
+use Rattle.follower_rules.specs.Submitting.{is_short, IsFault, queued, edit_short, edit_held, edit_run, edit_shown, edit_within, gather, sent_by, submitting, take_numbered, take_gathered, take_queued, take_unless, submit}
 use Rattle.follower_rules.proofs.Advances.{ops_back}
 use Rattle.follower_rules.proofs.Gathers.{IsSubmitting, submitting_is_sound}
 use Rattle.follower_rules.proofs.Rebases.{inserted_all_append}
@@ -133,11 +133,11 @@ snapshot_took f p e h = ap (take_settled f p) (settled_none (pending f) e) ∙ a
 abbrev pub longer_parts : Parts → List WaveletOp → Parts
 longer_parts p ops = parts p.name p.client.author p.client.client p.here.at p.here.count p.here.state p.flight (p.queue ++ ops ∷ []) p.next
 
-edit_ran : (f : FollowerOf) (acts : List Act) (s : State) → screen f ≡ Some s → edit f acts ≡ edit_run f acts s (run s acts)
-edit_ran f acts s e = ap (edit_shown f acts) e
+edit_ran : (most : ℕ) (f : FollowerOf) (acts : List Act) (s : State) → screen f ≡ Some s → edit_within most f acts ≡ edit_run most f acts s (run s acts)
+edit_ran most f acts s e = ap (edit_shown most f acts) e
 
-pub edit_done : (f : FollowerOf) (acts : List Act) (s t : State) → screen f ≡ Some s → run s acts ≡ Some t → inserted_all (pending f) + inserted acts ≤ max_inserted → is_short acts ≡ true → edit f acts ≡ Ok (queued f acts)
-edit_done f acts s t e r h k = edit_ran f acts s e ∙ ap (edit_run f acts s) r ∙ ap (edit_held f acts) (true_le _ _ h) ∙ ap (edit_short f acts) k
+pub edit_done : (most : ℕ) (f : FollowerOf) (acts : List Act) (s t : State) → screen f ≡ Some s → run s acts ≡ Some t → inserted_all (pending f) + inserted acts ≤ most → is_short acts ≡ true → edit_within most f acts ≡ Ok (queued f acts)
+edit_done most f acts s t e r h k = edit_ran most f acts s e ∙ ap (edit_run most f acts s) r ∙ ap (edit_held f acts) (true_le _ _ h) ∙ ap (edit_short f acts) k
 
 queued_is : (p : Parts) (ops : List WaveletOp) → queued (follower_of p) (meanings ops) ≡ follower_of (longer_parts p ops)
 queued_is p ops = ap (λ z. moved (follower_of p) p.here (option_map flight_of p.flight) z) (sym (map-append meanings p.queue (ops ∷ [])))
@@ -148,7 +148,7 @@ edit_kept p count shown s t ops acts k n m e r h b = subst (λ z. IsKept (longer
     all : run s (meanings ops) ≡ Some t → count + inserted (meanings ops) ≤ max_inserted → is_short (meanings ops) ≡ true → IsKept (longer_parts p ops) (count + inserted (meanings ops)) (Some t)
     all r h b =
         let f = follower_of p in
-        let done = edit_done f (meanings ops) s t e r (omega (arith, k.held, h)) b in
+        let done = edit_done max_inserted f (meanings ops) s t e r (omega (arith, k.held, h)) b in
         let x = edit_is_sound f (queued f (meanings ops)) (meanings ops) k.sound done in
         let q = queued_is p ops in
         let longer : pending (queued f (meanings ops)) ≡ pending f ++ meanings ops ∷ [] = sym (append_assoc (flying f.flight) f.queue (meanings ops ∷ [])) in
@@ -164,29 +164,29 @@ edit_kept p count shown s t ops acts k n m e r h b = subst (λ z. IsKept (longer
           next = k.next;
         }
 
-pub edit_answer : (p : Parts) (s t : State) (ops : List WaveletOp) (acts : List Act) → meanings ops ≡ acts → screen (follower_of p) ≡ Some s → run s acts ≡ Some t → inserted_all (pending (follower_of p)) + inserted acts ≤ max_inserted → is_short acts ≡ true → edit (follower_of p) acts ≡ Ok (follower_of (longer_parts p ops))
-edit_answer p s t ops acts m e r h b = edit_done (follower_of p) acts s t e r h b ∙ ap Ok (ap (queued (follower_of p)) (sym m) ∙ queued_is p ops)
+pub edit_answer : (most : ℕ) (p : Parts) (s t : State) (ops : List WaveletOp) (acts : List Act) → meanings ops ≡ acts → screen (follower_of p) ≡ Some s → run s acts ≡ Some t → inserted_all (pending (follower_of p)) + inserted acts ≤ most → is_short acts ≡ true → edit_within most (follower_of p) acts ≡ Ok (follower_of (longer_parts p ops))
+edit_answer most p s t ops acts m e r h b = edit_done most (follower_of p) acts s t e r h b ∙ ap Ok (ap (queued (follower_of p)) (sym m) ∙ queued_is p ops)
 
-pub edit_refused : (f : FollowerOf) (acts : List Act) (s : State) (full short : Bool) (e : FollowerFault) → screen f ≡ Some s → full ≡ nat_lt max_inserted (inserted_all (pending f) + inserted acts) → short ≡ is_short acts → IsTried s acts full short e → IsFault (edit f acts) e
-edit_refused f acts s full short (OpInvalid k) e a b t = edit_ran f acts s e ∙ ap (edit_run f acts s) t.0 ∙ ap (λ z. Err (OpInvalid z)) (sym t.1)
-edit_refused f acts s full short EditFull e a b t = edit_ran f acts s e ∙ go (run s acts) t.0
+pub edit_refused : (most : ℕ) (f : FollowerOf) (acts : List Act) (s : State) (full short : Bool) (e : FollowerFault) → screen f ≡ Some s → full ≡ nat_lt most (inserted_all (pending f) + inserted acts) → short ≡ is_short acts → IsTried s acts full short e → IsFault (edit_within most f acts) e
+edit_refused most f acts s full short (OpInvalid k) e a b t = edit_ran most f acts s e ∙ ap (edit_run most f acts s) t.0 ∙ ap (λ z. Err (OpInvalid z)) (sym t.1)
+edit_refused most f acts s full short EditFull e a b t = edit_ran most f acts s e ∙ go (run s acts) t.0
   where
-    many : nat_le (inserted_all (pending f) + inserted acts) max_inserted ≡ false
-    many = (let h : nat_lt max_inserted (inserted_all (pending f) + inserted acts) ≡ true = sym a ∙ t.1 in grind (arith, nat_tests))
+    many : nat_le (inserted_all (pending f) + inserted acts) most ≡ false
+    many = (let h : nat_lt most (inserted_all (pending f) + inserted acts) ≡ true = sym a ∙ t.1 in grind (arith, nat_tests))
 
-    go : (o : Option State) → o ≢ None → edit_run f acts s o ≡ Err EditFull
+    go : (o : Option State) → o ≢ None → edit_run most f acts s o ≡ Err EditFull
     go None n = absurd (n refl)
     go (Some t') n = ap (edit_held f acts) many
-edit_refused f acts s full short TooBig e a b t = edit_ran f acts s e ∙ go (run s acts) t.0
+edit_refused most f acts s full short TooBig e a b t = edit_ran most f acts s e ∙ go (run s acts) t.0
   where
-    few : nat_le (inserted_all (pending f) + inserted acts) max_inserted ≡ true
-    few = (let h : nat_lt max_inserted (inserted_all (pending f) + inserted acts) ≡ false = sym a ∙ t.1 in grind (arith, nat_tests))
+    few : nat_le (inserted_all (pending f) + inserted acts) most ≡ true
+    few = (let h : nat_lt most (inserted_all (pending f) + inserted acts) ≡ false = sym a ∙ t.1 in grind (arith, nat_tests))
 
-    go : (o : Option State) → o ≢ None → edit_run f acts s o ≡ Err TooBig
+    go : (o : Option State) → o ≢ None → edit_run most f acts s o ≡ Err TooBig
     go None n = absurd (n refl)
     go (Some t') n = ap (edit_held f acts) few ∙ ap (edit_short f acts) (sym b ∙ t.2)
-edit_refused f acts s full short NumbersSpent e a b t = absurd t
-edit_refused f acts s full short Memory e a b t = tt
+edit_refused most f acts s full short NumbersSpent e a b t = absurd t
+edit_refused most f acts s full short Memory e a b t = tt
 
 -- ---- a submission
 

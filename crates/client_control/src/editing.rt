@@ -1,9 +1,10 @@
 // What a follower's user does.
-ghost use Rattle.std.specs.Prelude.{◌≡◌, ◌<◌, true, false, Some, Ok, IfOk, IfErr, OnOk, OnErr};
+ghost use Rattle.std.specs.Prelude.{◌≡◌, ◌<◌, ◌≤◌, true, false, Some, Ok, IfOk, IfErr, OnOk, OnErr};
 ghost use Rattle.wavelet_op.specs.Acts.{meanings, AreNormal};
 ghost use Rattle.wavelet_op.specs.States.{run};
+ghost use Rattle.wavelet_state.specs.Snapshots.{max_inserted};
 ghost use Rattle.follower_rules.specs.Followers.{screen};
-ghost use Rattle.follower_rules.specs.Submitting.{IsFault, is_short, edit};
+ghost use Rattle.follower_rules.specs.Submitting.{IsFault, is_short, edit_within, edit};
 ghost use Rattle.client_control.specs.Parts.{follower_of};
 ghost use Rattle.client_control.specs.Steps.{IsInvalid, IsTried};
 
@@ -45,11 +46,22 @@ impl Follower {
         ensures refused { IfErr result (λ e. IsFault (edit (follower_of self.old) (meanings ops)) e) }
         ensures same { OnErr result (self.new ≡ self.old) }
     {
+        self.edit_within(alloc, ops, MAX_INSERTED)
+    }
+
+    /// The same with this bound, of at most 2^40, in the place of a history's: `EditFull` exactly where what is pending would insert
+    /// more items. A test reaches it with a small one.
+    pub fn edit_within(&mut self, alloc: Global, ops: Ops, most: u64) -> Result<(), FollowerFault>
+        requires { most ≤ max_inserted }
+        ensures ok { OnOk result (edit_within most (follower_of self.old) (meanings ops) ≡ Ok (follower_of self.new)) }
+        ensures refused { IfErr result (λ e. IsFault (edit_within most (follower_of self.old) (meanings ops)) e) }
+        ensures same { OnErr result (self.new ≡ self.old) }
+    {
         let ops = ops.normal(alloc)?;
         let more = inserted(&ops);
         let short = is_short(alloc, &ops)?;
         let mut shown = self.lift_screen(alloc)?;
-        let full = self.held + more > MAX_INSERTED;
+        let full = self.held + more > most;
         match tried_with_room(alloc, &mut self.queue, &mut shown, &ops, full, short) {
             Ok(()) => {
                 self.held += more;

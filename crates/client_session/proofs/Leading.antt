@@ -94,11 +94,11 @@ no_memory f acts e = shown_of (screen f) e
     held false q = absurd (cc)
     held true q = short (is_short acts) q
 
-    ran : {C : Type 0} (s : State) (o : Option State) → edit_run f acts s o ≡ Err fault.Memory → C
+    ran : {C : Type 0} (s : State) (o : Option State) → edit_run max_inserted f acts s o ≡ Err fault.Memory → C
     ran s None q = absurd (cc)
     ran s (Some t) q = held (nat_le (inserted_all (pending f) + inserted acts) max_inserted) q
 
-    shown_of : {C : Type 0} (o : Option State) → edit_shown f acts o ≡ Err fault.Memory → C
+    shown_of : {C : Type 0} (o : Option State) → edit_shown max_inserted f acts o ≡ Err fault.Memory → C
     shown_of None q = absurd (cc)
     shown_of (Some s) q = ran s (run s acts) q
 

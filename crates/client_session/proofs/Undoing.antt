@@ -291,7 +291,7 @@ undo_is_said s h = by s.chain.entries refl
     held entry rest false = inr (inl refl)
     held entry rest true = short entry rest (is_short entry)
 
-    ran : (entry : List Act) (rest : List (List Act)) (o : Option State) → IsSome (option_and_then (λ t. run_all t rest) o) → IsUndone s (entry ∷ rest) (undone_as s (edit_run s.follower entry s.chain.state o))
+    ran : (entry : List Act) (rest : List (List Act)) (o : Option State) → IsSome (option_and_then (λ t. run_all t rest) o) → IsUndone s (entry ∷ rest) (undone_as s (edit_run max_inserted s.follower entry s.chain.state o))
     ran entry rest None k = absurd (cc)
     ran entry rest (Some t) k = held entry rest (nat_le (inserted_all (pending s.follower) + inserted entry) max_inserted)
 
@@ -299,5 +299,5 @@ undo_is_said s h = by s.chain.entries refl
     by [] c = refl
     by (entry ∷ rest) c =
         let turn : IsSome (run_all s.chain.state (entry ∷ rest)) = subst (λ (es : List (List Act)). IsSome (run_all s.chain.state es)) c h.in_turn in
-        let is : edit s.follower entry ≡ edit_run s.follower entry s.chain.state (run s.chain.state entry) = ap (edit_shown s.follower entry) h.shows in
+        let is : edit s.follower entry ≡ edit_run max_inserted s.follower entry s.chain.state (run s.chain.state entry) = ap (edit_shown max_inserted s.follower entry) h.shows in
         subst (λ r. IsUndone s (entry ∷ rest) (undone_as s r)) (sym is) (ran entry rest (run s.chain.state entry) turn)

@@ -46,7 +46,7 @@ new_is_sound name k = record { place = record { count = omega arith; small = emp
 -- ---- an edit
 
 pub edit_is_sound : EditIsSound
-edit_is_sound f g acts s e = ran (run s.shown acts) refl (sym (ap (edit_shown f acts) s.is_shown) ∙ e)
+edit_is_sound f g acts s e = ran (run s.shown acts) refl (sym (ap (edit_shown max_inserted f acts) s.is_shown) ∙ e)
   where
     longer : pending (queued f acts) ≡ pending f ++ acts ∷ []
     longer = sym (append_assoc (flying f.flight) f.queue (acts ∷ []))
@@ -69,7 +69,7 @@ edit_is_sound f g acts s e = ran (run s.shown acts) refl (sym (ap (edit_shown f 
     counted t r false h q = no_ok q
     counted t r true h q = short t r (le_true _ _ h) (is_short acts) q
 
-    ran : (o : Option State) → run s.shown acts ≡ o → edit_run f acts s.shown o ≡ Ok g → IsSound g × (screen g ≡ option_and_then (λ z. run z acts) (screen f))
+    ran : (o : Option State) → run s.shown acts ≡ o → edit_run max_inserted f acts s.shown o ≡ Ok g → IsSound g × (screen g ≡ option_and_then (λ z. run z acts) (screen f))
     ran None r q = no_ok q
     ran (Some t) r q = counted t r (nat_le (inserted_all (pending f) + inserted acts) max_inserted) refl q
 
@@ -84,11 +84,11 @@ edited_is f g acts e = shown (screen f) e
     held false q = no_ok q
     held true q = short (is_short acts) q
 
-    ran : (s : State) (o : Option State) → edit_run f acts s o ≡ Ok g → queued f acts ≡ g
+    ran : (s : State) (o : Option State) → edit_run max_inserted f acts s o ≡ Ok g → queued f acts ≡ g
     ran s None q = no_ok q
     ran s (Some t) q = held (nat_le (inserted_all (pending f) + inserted acts) max_inserted) q
 
-    shown : (o : Option State) → edit_shown f acts o ≡ Ok g → queued f acts ≡ g
+    shown : (o : Option State) → edit_shown max_inserted f acts o ≡ Ok g → queued f acts ≡ g
     shown None q = no_ok q
     shown (Some s) q = ran s (run s acts) q
 

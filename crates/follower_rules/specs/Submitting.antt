@@ -2,8 +2,9 @@
 --     submit_bytes            how many bytes the operations have at most that a follower puts into one submission
 --     is_short acts           they have no more bytes, in normal form
 --     IsFault r e             the fault e tells why r is refused
---     edit f acts             the follower with the acts after what is pending. In order: they aren't valid at the screen; too many
+--     edit_within n f acts    the follower with the acts after what is pending. In order: they aren't valid at the screen; more than n
 --                             items are inserted together; they have too many bytes
+--     edit f acts             the same within the bound of a history
 --     fitting acts            acts compacted, where these are few and short enough for a submission
 --     gather entry rest       the first entry joined with as many of the others as fit, and those that are left
 --     sent_by f acts          the submission with these acts
@@ -54,16 +55,19 @@ abbrev pub edit_held : FollowerOf → List Act → Bool → Edited
 edit_held f acts false = Err EditFull
 edit_held f acts true = edit_short f acts (is_short acts)
 
-abbrev pub edit_run : FollowerOf → List Act → State → Option State → Edited
-edit_run f acts s None = Err (OpInvalid (first_invalid s acts))
-edit_run f acts s (Some t) = edit_held f acts (nat_le (inserted_all (pending f) + inserted acts) max_inserted)
+abbrev pub edit_run : ℕ → FollowerOf → List Act → State → Option State → Edited
+edit_run most f acts s None = Err (OpInvalid (first_invalid s acts))
+edit_run most f acts s (Some t) = edit_held f acts (nat_le (inserted_all (pending f) + inserted acts) most)
 
-abbrev pub edit_shown : FollowerOf → List Act → Option State → Edited
-edit_shown f acts None = Err (OpInvalid 0)
-edit_shown f acts (Some s) = edit_run f acts s (run s acts)
+abbrev pub edit_shown : ℕ → FollowerOf → List Act → Option State → Edited
+edit_shown most f acts None = Err (OpInvalid 0)
+edit_shown most f acts (Some s) = edit_run most f acts s (run s acts)
+
+abbrev pub edit_within : ℕ → FollowerOf → List Act → Edited
+edit_within most f acts = edit_shown most f acts (screen f)
 
 abbrev pub edit : FollowerOf → List Act → Edited
-edit f acts = edit_shown f acts (screen f)
+edit f acts = edit_within max_inserted f acts
 
 -- ---- a submission
 

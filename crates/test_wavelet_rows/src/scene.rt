@@ -9,7 +9,7 @@ use test_row_words::{letters, number, put, put_either, put_number, words};
 use test_wavelet_words::operations;
 use wave_base::{Address, DeltaId, HashedVersion, WaveletName};
 use wavelet_op::{AppliedDelta, Ops, Submission, transform_delta};
-use wavelet_state::{Snapshot, WaveletState};
+use wavelet_state::{MAX_INSERTED, Snapshot, WaveletState};
 
 /// The host and the follower.
 #[derive(Drop)]
@@ -140,6 +140,19 @@ fn put_edit(
 ) -> Result<(), Fault> {
     let ops = operations(alloc, words)?;
     follower.edit(alloc, ops)?;
+    Ok(put(out, "queued")?)
+}
+
+// An edit after which what is pending inserts at most so many items.
+fn put_within(
+    alloc: Global,
+    follower: &mut Follower,
+    most: u64,
+    words: &str,
+    out: &mut String,
+) -> Result<(), Fault> {
+    let ops = operations(alloc, words)?;
+    follower.edit_within(alloc, ops, most.min(MAX_INSERTED))?;
     Ok(put(out, "queued")?)
 }
 
@@ -284,6 +297,20 @@ impl Scene {
         Ok(put(out, "numbered")?)
     }
 
+    // `edit` or `insert` within a bound of its own.
+    fn within(&mut self, alloc: Global, rest: &str, out: &mut String) -> Result<(), Fault> {
+        let (most, rest) = words(rest);
+        let (verb, rest) = words(rest);
+        match verb {
+            "edit" => put_within(alloc, &mut self.follower, number(most), rest, out),
+            "insert" => {
+                let words = insertion(alloc, rest)?;
+                put_within(alloc, &mut self.follower, number(most), words.as_str(), out)
+            }
+            _ => Err(Fault::Row),
+        }
+    }
+
     // The screen is kept.
     fn keep(&mut self, alloc: Global, out: &mut String) -> Result<(), Fault> {
         self.follower.keep_screen(alloc)?;
@@ -342,6 +369,7 @@ impl Scene {
                 let words = insertion(alloc, rest)?;
                 put_edit(alloc, &mut self.follower, words.as_str(), out)
             }
+            "within" => self.within(alloc, rest, out),
             "take" => take(alloc, &mut self.follower, out),
             "pending" => put_pending(&self.follower, number(rest), out),
             "version" => Ok(put_number(out, self.follower.at().version)?),

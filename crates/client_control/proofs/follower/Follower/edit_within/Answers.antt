@@ -5,7 +5,7 @@ use Rattle.wavelet_state.specs.Snapshots.{max_inserted}
 use Rattle.follower_rules.specs.Followers.{screen}
 use Rattle.client_control.specs.Parts.{Parts, parts, follower_of, IsKept}
 use Rattle.client_control.proofs.Kept.{few, longer_parts, edit_kept}
-use Rattle.client_control.proofs.follower.Follower.edit.Goals as goal
+use Rattle.client_control.proofs.follower.Follower.edit_within.Goals as goal
 
 pub invariant_of-self : goal.invariant_of-self
 invariant_of-self c =
