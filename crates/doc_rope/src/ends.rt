@@ -17,7 +17,7 @@ pub struct Taken {
 }
 
 // Takes out the piece with the item at `place`.
-#[tactic(auto, using(crate::proofs::Laws::total_append, crate::proofs::Laws::append_cons, crate::proofs::Laws::length_cut))]
+#[tactic(auto, using(crate::proofs::Laws::total_append, crate::proofs::Laws::append_cons))]
 pub fn take_out(tree: Tree, place: usize) -> Taken
     requires sound { IsSound tree }
     requires inside { place < total (pieces tree) }
@@ -88,7 +88,7 @@ pub fn push_onto(left: Tree, mut top: Box<Node>, mut node: Box<Node>) -> Tree
 }
 
 // One more piece at the end, put into the last one where both fit into one.
-#[tactic(auto, using(crate::proofs::Laws::total_append, crate::proofs::Laws::add_last_append, crate::proofs::Laws::add_last_more, crate::proofs::Laws::total_add_last, crate::proofs::Laws::length_cut))]
+#[tactic(auto, using(crate::proofs::Laws::total_append, crate::proofs::Laws::add_last_append, crate::proofs::Laws::add_last_more, crate::proofs::Laws::total_add_last))]
 pub fn push_last(tree: Tree, node: Box<Node>) -> Tree
     requires sound { IsSound tree }
     requires fits { total (pieces tree) + length node.value.piece < 2 ^ 64 }

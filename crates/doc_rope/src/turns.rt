@@ -181,7 +181,7 @@ pub fn turn_left(left: Tree, node: Box<Node>, right: Tree) -> Tree
 }
 
 // The tree of `left`, the piece of `node` and `right`, whatever their heights. It is as high as the higher side, or one higher.
-#[tactic(auto, using(crate::proofs::Laws::total_append, crate::proofs::Laws::append_cons, crate::proofs::Laws::length_cut))]
+#[tactic(auto, using(crate::proofs::Laws::total_append, crate::proofs::Laws::append_cons))]
 pub fn join(left: Tree, node: Box<Node>, right: Tree) -> Tree
     requires left { IsSound left }
     requires right { IsSound right }

@@ -12,7 +12,7 @@ use crate::turns::{fork, open};
 // Puts the items in place of the `count` items from place `from` on, where these lie in one piece which has room for them and then
 // still doesn't fit into one with a neighbour. Otherwise all stays as it was. The pieces before and after the tree have `prior` and
 // `next` items. Where there is none it counts as one of 128, since nothing fits into one with that.
-#[tactic(auto, using(crate::proofs::Laws::total_append, crate::proofs::Laws::length_cut, crate::proofs::Changed::joined_left, crate::proofs::Changed::joined_right, crate::proofs::Between::between_left, crate::proofs::Between::between_right, crate::proofs::Between::between_before))]
+#[tactic(auto, using(crate::proofs::Laws::total_append, crate::proofs::Changed::joined_left, crate::proofs::Changed::joined_right, crate::proofs::Between::between_left, crate::proofs::Between::between_right, crate::proofs::Between::between_before))]
 fn put_within(
     tree: Tree,
     from: usize,
