@@ -2,7 +2,8 @@
 --     pieces       the pieces from left to right
 --     total        how many items stand in some pieces
 --     joined       the items of some pieces, in order
---     IsSound      each count is right, and each shape
+--     is_level     no piece is empty, the height that is kept is right, and the heights of the sides are near
+--     IsSound      each count is right, and each shape, and each node is level
 --     add_last     one more piece at the end, put into the last one where both fit into one
 --     sized        a piece has 1 to 128 items
 --     apart        a piece and the next one wouldn't fit into one
@@ -14,9 +15,10 @@
 --     glued        two packed lists of pieces as one
 --     IsSpare      a node without items
 --     InPieces     what holds of each rope: a sound tree of packed pieces with at most max_count items
-use Rattle.std.specs.Prelude.{◌≡◌, ℕ, ◌+◌, ◌≤◌, Bool, true, cond, ◌&&◌, List, [], ◌∷◌, ◌++◌, length, ◌==◌, nat_le, nat_lt}
+use Rattle.std.specs.Prelude.{◌≡◌, ℕ, ◌+◌, ◌≤◌, max, Bool, true, cond, ◌&&◌, List, [], ◌∷◌, ◌++◌, length, ◌==◌, nat_le, nat_lt}
 use Rattle.doc_items.specs.Limits.{max_count}
 use Rattle.doc_items.specs.declared.item.Item.{Item}
+use Rattle.doc_rope.specs.Heights.{height, near}
 use Rattle.doc_rope.specs.Shapes.{shape_of, same_shape}
 use Rattle.doc_rope.specs.declared.tree.Node.{Node}
 use Rattle.doc_rope.specs.declared.tree.Tree.{Tree}
@@ -24,7 +26,7 @@ use Rattle.doc_rope.specs.declared.tree.Tree.TheVariants.{Empty, Fork'}
 
 abbrev pub pieces : Tree → List (List Item)
 pieces Empty = []
-pieces (Fork' p left piece right count shape height) = pieces left ++ piece ∷ pieces right
+pieces (Fork' p left piece right count shape kept) = pieces left ++ piece ∷ pieces right
 
 abbrev pub total : {T : Type 0} → List (List T) → ℕ
 total [] = 0
@@ -34,10 +36,14 @@ abbrev pub joined : {T : Type 0} → List (List T) → List T
 joined [] = []
 joined (p ∷ ps) = p ++ joined ps
 
+abbrev pub is_level : ℕ → ℕ → ℕ → ℕ → Bool
+is_level len left right kept = nat_lt 0 len && kept == max left right + 1 && near left right
+
 abbrev pub is_sound : Tree → Bool
 is_sound Empty = true
-is_sound (Fork' p left piece right count shape height) = count == total (pieces left ++ piece ∷ pieces right)
-    && same_shape shape (shape_of (joined (pieces left ++ piece ∷ pieces right))) && is_sound left && is_sound right
+is_sound (Fork' p left piece right count shape kept) = count == total (pieces left ++ piece ∷ pieces right)
+    && same_shape shape (shape_of (joined (pieces left ++ piece ∷ pieces right)))
+    && is_level (length piece) (height left) (height right) kept && is_sound left && is_sound right
 
 abbrev pub IsSound : Tree → Type 0
 IsSound t = is_sound t ≡ true

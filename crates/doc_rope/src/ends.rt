@@ -1,5 +1,6 @@
 // A piece taken out of a tree, a piece put at its end, and two trees put one after the other.
 ghost use Rattle.std.specs.Prelude.{◌≡◌, ℕ, ◌+◌, ◌^◌, ◌<◌, ◌≤◌, ◌==◌, ◌∷◌, ◌++◌, [], List, length, true, false};
+ghost use Rattle.doc_rope.specs.Heights.{height};
 ghost use Rattle.doc_rope.specs.Pieces.{pieces, IsSound, total, add_last, glued, IsPacked, joined};
 
 use crate::piece::PIECE;
@@ -16,7 +17,7 @@ pub struct Taken {
 }
 
 // Takes out the piece with the item at `place`.
-#[tactic(auto, using(crate::proofs::Laws::total_append, crate::proofs::Laws::append_cons, crate::proofs::Laws::length_cut))]
+#[tactic(auto, using(crate::proofs::Laws::total_append, crate::proofs::Laws::append_cons))]
 pub fn take_out(tree: Tree, place: usize) -> Taken
     requires sound { IsSound tree }
     requires inside { place < total (pieces tree) }
@@ -70,6 +71,9 @@ pub fn take_out(tree: Tree, place: usize) -> Taken
 pub fn push_onto(left: Tree, mut top: Box<Node>, mut node: Box<Node>) -> Tree
     requires left { IsSound left }
     requires fits { total (pieces left) + (length top.value.piece + length node.value.piece) < 2 ^ 64 }
+    requires top_some { 0 < length top.value.piece }
+    requires some { 0 < length node.value.piece }
+    requires low { height left ≤ 2 }
     ensures pieces { pieces result ≡ pieces left ++ add_last (top.value.piece ∷ []) node.value.piece }
     ensures sound { IsSound result }
 {
@@ -84,10 +88,11 @@ pub fn push_onto(left: Tree, mut top: Box<Node>, mut node: Box<Node>) -> Tree
 }
 
 // One more piece at the end, put into the last one where both fit into one.
-#[tactic(auto, using(crate::proofs::Laws::total_append, crate::proofs::Laws::add_last_append, crate::proofs::Laws::add_last_more, crate::proofs::Laws::total_add_last, crate::proofs::Laws::length_cut))]
+#[tactic(auto, using(crate::proofs::Laws::total_append, crate::proofs::Laws::add_last_append, crate::proofs::Laws::add_last_more, crate::proofs::Laws::total_add_last))]
 pub fn push_last(tree: Tree, node: Box<Node>) -> Tree
     requires sound { IsSound tree }
     requires fits { total (pieces tree) + length node.value.piece < 2 ^ 64 }
+    requires some { 0 < length node.value.piece }
     ensures pieces { pieces result ≡ add_last (pieces tree) node.value.piece }
     ensures sound { IsSound result }
 {
@@ -121,6 +126,7 @@ pub fn take_first(tree: Tree) -> First
     ensures packed { IsPacked (pieces result.rest) }
     ensures rest { IsSound result.rest }
     ensures count { total (pieces tree) ≡ length result.node.value.piece + total (pieces result.rest) }
+    ensures some { 0 < length result.node.value.piece }
 {
     let taken = take_out(tree, 0);
     First {

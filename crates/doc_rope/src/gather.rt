@@ -1,5 +1,6 @@
 // Trees made of items, and the items copied out of trees.
 ghost use Rattle.std.specs.Prelude.{◌≡◌, ℕ, ◌+◌, ◌^◌, ◌<◌, ◌≤◌, ◌∷◌, ◌++◌, [], List, length, IfOk, OnOk};
+ghost use Rattle.doc_rope.specs.Heights.{height};
 ghost use Rattle.doc_rope.specs.Pieces.{pieces, IsSound, total, IsPacked, joined};
 
 use crate::ends::concat;
@@ -104,6 +105,7 @@ pub fn copy_tree(tree: &Tree, alloc: Global) -> Result<Tree, Memory>
     requires { IsSound tree.now }
     ensures pieces { IfOk result (λ t. pieces t ≡ pieces tree.now) }
     ensures sound { IfOk result (λ t. IsSound t) }
+    ensures height { IfOk result (λ t. height t ≡ height tree.now) }
 {
     let _whole = tree.count();
     match tree {

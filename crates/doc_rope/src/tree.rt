@@ -1,5 +1,6 @@
 // A tree of pieces with their counts.
 ghost use Rattle.std.specs.Prelude.{◌≡◌, ℕ, ◌+◌, ◌^◌, ◌<◌, ◌≤◌, ◌==◌, ◌∷◌, ◌++◌, [], List, length, true, false, slice_get, option_copied, take, drop, IfSome, IfNone};
+ghost use Rattle.doc_rope.specs.Heights.{height};
 ghost use Rattle.doc_rope.specs.Pieces.{pieces, IsSound, total, joined, first_len, last_len};
 ghost use Rattle.doc_rope.specs.Shapes.{shape_of};
 
@@ -74,7 +75,22 @@ impl Tree {
         }
     }
 
-    pub fn height(&self) -> usize {
+    // How many pieces stand on the longest way down: at most 128, so nothing that walks down goes deep.
+    #[tactic(auto, using(crate::proofs::Heights::not_deep))]
+    pub fn height(&self) -> usize
+        requires { IsSound self.now }
+        ensures value { result ≡ height self.now }
+        ensures bound { result ≤ 128 }
+    {
+        // A count is a `usize`.
+        let _whole = self.count();
+        self.kept_height()
+    }
+
+    fn kept_height(&self) -> usize
+        requires { IsSound self.now }
+        ensures { result ≡ height self.now }
+    {
         match self {
             Tree::Empty => 0,
             Tree::Fork(node) => node.height,

@@ -1,5 +1,6 @@
 // Items put in place of others inside one piece, so that no other piece changes.
-ghost use Rattle.std.specs.Prelude.{◌≡◌, ℕ, ◌+◌, ◌^◌, ◌<◌, ◌≤◌, ◌∷◌, ◌++◌, [], List, length, take, drop, IfOk, IfErr, OnOk, OnErr};
+ghost use Rattle.std.specs.Prelude.{◌≡◌, ℕ, ◌+◌, ◌^◌, ◌<◌, ◌≤◌, ◌∷◌, ◌++◌, [], List, length, max, take, drop, IfOk, IfErr, OnOk, OnErr};
+ghost use Rattle.doc_rope.specs.Heights.{height};
 ghost use Rattle.doc_rope.specs.Pieces.{pieces, IsSound, total, IsPacked, joined, IsBetween, first_len, last_len};
 
 use crate::ends::concat;
@@ -11,7 +12,7 @@ use crate::turns::{fork, open};
 // Puts the items in place of the `count` items from place `from` on, where these lie in one piece which has room for them and then
 // still doesn't fit into one with a neighbour. Otherwise all stays as it was. The pieces before and after the tree have `prior` and
 // `next` items. Where there is none it counts as one of 128, since nothing fits into one with that.
-#[tactic(auto, using(crate::proofs::Laws::total_append, crate::proofs::Laws::length_cut, crate::proofs::Changed::joined_left, crate::proofs::Changed::joined_right, crate::proofs::Between::between_left, crate::proofs::Between::between_right, crate::proofs::Between::between_before))]
+#[tactic(auto, using(crate::proofs::Laws::total_append, crate::proofs::Changed::joined_left, crate::proofs::Changed::joined_right, crate::proofs::Between::between_left, crate::proofs::Between::between_right, crate::proofs::Between::between_before))]
 fn put_within(
     tree: Tree,
     from: usize,
@@ -33,6 +34,8 @@ fn put_within(
     ensures kept { IfErr result (λ t. pieces t ≡ pieces tree) }
     ensures kept_sound { IfErr result (λ t. IsSound t) }
     ensures kept_items { OnErr result (items.new ≡ items.old) }
+    ensures height { IfOk result (λ t. height t ≡ height tree) }
+    ensures kept_height { IfErr result (λ t. height t ≡ height tree) }
 {
     // A count is a `usize`, so what is taken apart fits too.
     let _whole = tree.count();
@@ -79,6 +82,9 @@ fn put_here(
     requires whole { total (pieces left) + (length node.value.piece + total (pieces right)) < 2 ^ 64 }
     requires inside { from + count < 2 ^ 64 }
     requires fits { total (pieces left) + (length node.value.piece + total (pieces right)) + length items.old < 2 ^ 64 }
+    requires some { 0 < length node.value.piece }
+    requires left_near { height left ≤ height right + 2 }
+    requires right_near { height right ≤ height left + 2 }
     ensures joined { IfOk result
         (λ t. joined (pieces t) ≡ take from (joined (pieces left ++ node.value.piece ∷ pieces right)) ++ items.old
         ++ drop (from + count) (joined (pieces left ++ node.value.piece ∷ pieces right))) }
@@ -90,6 +96,8 @@ fn put_here(
     ensures kept { IfErr result (λ t. pieces t ≡ pieces left ++ node.value.piece ∷ pieces right) }
     ensures kept_sound { IfErr result (λ t. IsSound t) }
     ensures kept_items { OnErr result (items.new ≡ items.old) }
+    ensures height { IfOk result (λ t. height t ≡ max (height left) (height right) + 1) }
+    ensures kept_height { IfErr result (λ t. height t ≡ max (height left) (height right) + 1) }
 {
     let before = left.count();
     let len = node.piece.len();

@@ -1,6 +1,5 @@
-use Rattle.std.proofs.Common.{length}
-use Rattle.doc_rope.specs.Pieces.{pieces}
+use Rattle.doc_rope.specs.Heights.{height}
 use Rattle.doc_rope.proofs.ends.+push_last.Given as goal
 
 abbrev pub decreases-push_last : goal.decreases-push_last
-decreases-push_last l = length (pieces l.tree)
+decreases-push_last l = height l.tree

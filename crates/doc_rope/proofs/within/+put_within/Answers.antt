@@ -1,8 +1,7 @@
 use Rattle.std.proofs.Common.{rules, arith}
-use Rattle.std.proofs.lemmas.Bool.{and_parts}
-use Rattle.doc_rope.proofs.Laws.{total_append, length_cut}
+use Rattle.doc_rope.proofs.Laws.{total_append}
 use Rattle.doc_rope.proofs.Between.{between_after}
 use Rattle.doc_rope.proofs.within.+put_within.Goals as goal
 
 pub put_within-requires-then-behind-end : goal.put_within-requires-then-behind-end
-put_within-requires-then-behind-end t c = (search (rules, length_cut, arith), (search (rules, and_parts), (search (rules, between_after), (grind (arith, total_append), grind (arith, total_append)))))
+put_within-requires-then-behind-end t c = (search (rules, arith), (search rules, (search (rules, between_after), (grind (arith, total_append), grind (arith, total_append)))))
