@@ -1,4 +1,7 @@
 -- The boundary between two change sets: it fits after the first, and the second runs after it.
+--     get_without                    what a change set has after some keys have ended
+--     after_written, fits_written    where the keys and values that the boundary names are texts
+--     after_between, fits_between    where all of both sets are
 use Rattle.std.proofs.Common.{◌≡◌, ℕ, Bool, true, false, cond, ◌||◌, List, [], ◌∷◌, map, refl, sym, ap, ◌∙◌, true≢false, is_some, Option, None, Some}
 use Rattle.std.specs.Ordering.{nat_cmp, is_lt}
 use Rattle.std.specs.Str.{chars, encode_utf8_all}
@@ -29,7 +32,7 @@ either_none false b x = refl
 abbrev among : Key → List (List ℕ) → Bool
 among q ks = list_any (λ k. at q (encode_utf8_all k)) ks
 
-get_without : (ks : List (List ℕ)) (u : ChangeSet) (q : Key) → get (without u ks) q ≡ cond (among q ks) None (get u q)
+pub get_without : (ks : List (List ℕ)) (u : ChangeSet) (q : Key) → get (without u ks) q ≡ cond (among q ks) None (get u q)
 get_without [] u q = refl
 get_without (k ∷ ks) u q =
     get_without ks (remove u (encode_utf8_all k)) q ∙ ap (cond (among q ks) None) (get-remove nat_list_cmp_total u (encode_utf8_all k) q)
@@ -60,15 +63,16 @@ one_after None (Some w) = refl
 one_after (Some u) None = refl
 one_after (Some u) (Some w) = changed_one (same_change w u) w u refl
 
-pub after_between : (u w : ChangeSet) → AreTexts u → AreTexts w → after_boundary u (boundary_between u w) ≡ w
-after_between u w h k =
-    let t = texts_joined Unlike w u k h in
-    alike _ _ (λ q.
+pub after_written : (u w : ChangeSet) → AreTexts (merge one_under u w) → AreTexts (merge one_unlike w u) → after_boundary u (boundary_between u w) ≡ w
+after_written u w s t = alike _ _ (λ q.
     get_with (change_list (unlike w u)) (without u (key_list (ended u w))) q (ascending_list (unlike w u) t)
     ∙ (λ i. or_else (get (list_value (unlike w u) t i) q) (get_without (key_list (ended u w)) u q i))
-    ∙ (λ i. or_else (get-merge one_unlike w u q refl i) (cond (among_list q (ended u w) (texts_joined Under u w h k) i) None (get u q)))
+    ∙ (λ i. or_else (get-merge one_unlike w u q refl i) (cond (among_list q (ended u w) s i) None (get u q)))
     ∙ ap (λ x. or_else (one_unlike (get w q) (get u q)) (cond (is_some x) None (get u q))) (get-merge one_under u w q refl)
     ∙ one_after (get u q) (get w q))
+
+pub after_between : (u w : ChangeSet) → AreTexts u → AreTexts w → after_boundary u (boundary_between u w) ≡ w
+after_between u w h k = after_written u w (texts_joined Under u w h k) (texts_joined Unlike w u k h)
 
 -- ---- that it fits
 
@@ -113,14 +117,15 @@ none_named m (e ∷ es) t f = (
   none_named m es t f.1,
 )
 
+pub fits_written : (u w : ChangeSet) → AreTexts (merge one_under u w) → AreTexts (merge one_unlike w u) → Fits u (boundary_between u w)
+fits_written u w s t = (
+  ends_fit u (entries (ended u w)) (rising_entries (ended u w)) (each_of (Runs u) (ended u w) (λ q c e. (ap (is_text_at q) (sym e) ∙ s q, ran (get u q) (get w q) c (sym (get-merge one_under u w q refl) ∙ e)))),
+  ascending_list (unlike w u) t,
+  none_named (ended u w) (entries (unlike w u)) s (each_of (Unended (ended u w)) (unlike w u) (λ q c e. (
+    ap (is_text_at q) (sym e) ∙ t q,
+    ap is_some (get-merge one_under u w q refl) ∙ not_ended (get u q) (get w q) c (sym (get-merge one_unlike w u q refl) ∙ e),
+  ))),
+)
+
 pub fits_between : (u w : ChangeSet) → AreTexts u → AreTexts w → Fits u (boundary_between u w)
-fits_between u w h k =
-    let t = texts_joined Under u w h k in
-    let s = texts_joined Unlike w u k h in (
-      ends_fit u (entries (ended u w)) (rising_entries (ended u w)) (each_of (Runs u) (ended u w) (λ q c e. (ap (is_text_at q) (sym e) ∙ t q, ran (get u q) (get w q) c (sym (get-merge one_under u w q refl) ∙ e)))),
-      ascending_list (unlike w u) s,
-      none_named (ended u w) (entries (unlike w u)) t (each_of (Unended (ended u w)) (unlike w u) (λ q c e. (
-        ap (is_text_at q) (sym e) ∙ s q,
-        ap is_some (get-merge one_under u w q refl) ∙ not_ended (get u q) (get w q) c (sym (get-merge one_unlike w u q refl) ∙ e),
-      ))),
-    )
+fits_between u w h k = fits_written u w (texts_joined Under u w h k) (texts_joined Unlike w u k h)

@@ -3,27 +3,22 @@
 --     changes_view                       they are the same change set
 --     texts_view, texts_list             the texts of a list and of its map
 --     owned_list                         a change set of texts, written as a list
---     same_lists                         equal one by one exactly where equal as maps
-use Rattle.std.proofs.Common.{◌≡◌, ℕ, Bool, true, false, cond, ◌&&◌, List, [], ◌∷◌, ◌++◌, map, refl, sym, ap, ◌∙◌, true≢false, Option, None, Some, option_map}
+use Rattle.std.proofs.Common.{◌≡◌, ℕ, Bool, true, false, cond, ◌&&◌, List, [], ◌∷◌, ◌++◌, map, refl, sym, ap, ◌∙◌, Option, None, Some, option_map}
 use Rattle.std.specs.Ordering.{nat_cmp, is_lt}
 use Rattle.std.specs.Str.{chars, encode_utf8_all, is_utf8}
-use Rattle.std.specs.Cmp.{both_ways}
-use Rattle.std.specs.Cmp.Lexicographic.{slice_cmp, bytes_decides}
+use Rattle.std.specs.Cmp.Lexicographic.{slice_cmp}
 use Rattle.std.proofs.lemmas.Bool.{and_parts, and_from}
 use Rattle.std.proofs.lemmas.Cmp.{nat_list_cmp_total}
 use Rattle.std.proofs.lemmas.Str.{IsUtf8-from_is_utf8, encodes-chars}
 use Rattle.std.specs.FinMap.{get, insert, entries, get-entries, get-insert, get-empty}
-use Rattle.doc_items.specs.Maps.{Key, same_text}
+use Rattle.doc_items.specs.Maps.{Key}
 use Rattle.doc_items.specs.Changes.{KeyChange, ChangeSet, key_change, with_changes, change_set, none_running, AscendsFrom, IsAscending}
 use Rattle.doc_items.specs.declared.change.Change.{Change}
 use Rattle.doc_items.proofs.Maps.{alike}
 use Rattle.doc_items.proofs.ChangeSets.{at, at-is, key, after_less}
-use Rattle.change_view.specs.Rules.{same_change}
-use Rattle.change_view.specs.Sets.{same_changes}
 use Rattle.change_view.specs.Texts.{is_text_value, is_text_change, is_text_at, AreTexts, as_change, change_list}
-use Rattle.change_view.specs.Lists.{Entry, of_change, all_texts, same_entry, same_entries}
-use Rattle.change_view.proofs.Rising.{below, rising, found, map_of, get_rising, entries_rising, rising_entries, find_head, rising_tail, or_else, or_none, Each, each_of}
-use Rattle.change_view.proofs.Sets.{same_change-is, same_change-refl, same_changes-is, same_changes-refl}
+use Rattle.change_view.specs.Lists.{Entry, of_change, all_texts}
+use Rattle.change_view.proofs.Rising.{below, rising, found, map_of, get_rising, rising_entries, find_head, rising_tail, or_else, or_none, Each, each_of}
 
 -- ---- keys
 
@@ -127,27 +122,3 @@ ascending_list u t = ascends_rising (change_list u) (ap rising (written_list u t
 
 pub list_value : (u : ChangeSet) → AreTexts u → change_set (change_list u) ≡ u
 list_value u t = sym (changes_view (change_list u) (ascending_list u t)) ∙ ap map_of (written_list u t) ∙ map_entries u
-
--- ---- equality
-
-same_entry-is : (e f : Entry) → same_entry e f ≡ true → e ≡ f
-same_entry-is e f h =
-    let parts = and_parts (same_text e.0 f.0) (same_change e.1 f.1) h in
-    λ i. ((bytes_decides e.0 f.0).0 parts.0 i, same_change-is e.1 f.1 parts.1 i)
-
-same_entries-is : (es fs : List Entry) → same_entries es fs ≡ true → es ≡ fs
-same_entries-is [] [] h = refl
-same_entries-is [] (f ∷ fs) h = absurd (true≢false (sym h))
-same_entries-is (e ∷ es) [] h = absurd (true≢false (sym h))
-same_entries-is (e ∷ es) (f ∷ fs) h =
-    let parts = and_parts (same_entry e f) (same_entries es fs) h in
-    λ i. same_entry-is e f parts.0 i ∷ same_entries-is es fs parts.1 i
-
-same_entries-refl : (es : List Entry) → same_entries es es ≡ true
-same_entries-refl [] = refl
-same_entries-refl (e ∷ es) = and_from _ _ (and_from _ _ ((bytes_decides e.0 e.0).1 refl) (same_change-refl e.1)) (same_entries-refl es)
-
-pub same_lists : (es fs : List Entry) → rising es ≡ true → rising fs ≡ true → same_entries es fs ≡ same_changes (map_of es) (map_of fs)
-same_lists es fs h k = both_ways _ _
-    (λ e. ap (λ x. same_changes (map_of x) (map_of fs)) (same_entries-is es fs e) ∙ same_changes-refl (map_of fs))
-    (λ e. ap (λ x. same_entries x fs) (sym (entries_rising es h) ∙ ap entries (same_changes-is (map_of es) (map_of fs) e) ∙ entries_rising fs k) ∙ same_entries-refl fs)

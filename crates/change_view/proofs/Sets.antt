@@ -7,7 +7,7 @@ use Rattle.doc_items.specs.Maps.{Key, Map, same_value}
 use Rattle.doc_items.specs.Changes.{KeyChange, ChangeSet, turned, back}
 use Rattle.doc_items.proofs.Maps.{alike, get-merge, get-each, get-picked, matches_at, matches_all, same_value-is, same_value-refl}
 use Rattle.change_view.specs.declared.rule.Rule.{Rule}
-use Rattle.change_view.specs.declared.rule.Rule.TheVariants.{Second, SecondTurned, Over, Under, Then, Unlike, Starting}
+use Rattle.change_view.specs.declared.rule.Rule.TheVariants.{Second, SecondTurned, Over, Under, Then, Unlike, Starting, Inserted, Deleted}
 use Rattle.change_view.specs.declared.rule.Test.{Test}
 use Rattle.change_view.specs.declared.rule.Test.TheVariants.{SameOld, NewIsOld, OldIsThere}
 use Rattle.change_view.specs.Rules.{combined, passing, same_change}
@@ -24,6 +24,8 @@ rule_none Under = refl
 rule_none Then = refl
 rule_none Unlike = refl
 rule_none Starting = refl
+rule_none Inserted = refl
+rule_none Deleted = refl
 
 pub test_none : (t : Test) → passing t None None ≡ true
 test_none SameOld = refl
@@ -78,6 +80,18 @@ text_of k c t = and_from _ _ t.key (and_from _ _ t.old t.new)
 turned_text : (k : Key) (c : KeyChange) → is_text_change k c ≡ true → is_text_change k (turned c) ≡ true
 turned_text k c h = let t = parts_of k c h in text_of k (turned c) (record { key = t.key; old = t.new; new = t.old })
 
+deleted_text : (k : Key) (c : Option KeyChange) → is_text_at k c ≡ true → is_text_at k (option_map one_deleted c) ≡ true
+deleted_text k None h = refl
+deleted_text k (Some c) h = let t = parts_of k c h in text_of k (one_deleted c) (record { key = t.key; old = t.old; new = refl })
+
+fresh_text : (k : Key) (v : Option Key) → is_utf8 k ≡ true → is_text_value v ≡ true → is_text_at k (option_map fresh v) ≡ true
+fresh_text k None p q = refl
+fresh_text k (Some v) p q = and_from _ _ p q
+
+inserted_text : (k : Key) (c : Option KeyChange) → is_text_at k c ≡ true → is_text_at k (option_and_then one_inserted c) ≡ true
+inserted_text k None h = refl
+inserted_text k (Some c) h = let t = parts_of k c h in fresh_text k c.new t.key t.new
+
 text_rule : (r : Rule) (k : Key) (c d : Option KeyChange) → is_text_at k c ≡ true → is_text_at k d ≡ true → is_text_at k (combined r c d) ≡ true
 text_rule Second k c None h g = h
 text_rule Second k c (Some d) h g = g
@@ -97,6 +111,8 @@ text_rule Unlike k (Some c) (Some d) h g = elim (same_change c d) as (λ b. is_t
 text_rule Starting k None d h g = refl
 text_rule Starting k (Some c) None h g = let s = parts_of k c h in text_of k (record { old = None; new = c.new }) (record { key = s.key; old = refl; new = s.new })
 text_rule Starting k (Some c) (Some d) h g = let s = parts_of k c h in let t = parts_of k d g in text_of k (record { old = d.new; new = c.new }) (record { key = s.key; old = t.new; new = s.new })
+text_rule Inserted k c d h g = inserted_text k c h
+text_rule Deleted k c d h g = deleted_text k c h
 
 pub texts_joined : (r : Rule) (u w : ChangeSet) → AreTexts u → AreTexts w → AreTexts (joined r u w)
 texts_joined r u w h g k = ap (is_text_at k) (get-merge (combined r) u w k (rule_none r)) ∙ text_rule r k (get u k) (get w k) (h k) (g k)
@@ -108,20 +124,8 @@ back_text k (Some c) h = turned_text k c h
 pub texts_back : (u : ChangeSet) → AreTexts u → AreTexts (back u)
 texts_back u h k = ap (is_text_at k) (get-each turned u k) ∙ back_text k (get u k) (h k)
 
-deleted_text : (k : Key) (c : Option KeyChange) → is_text_at k c ≡ true → is_text_at k (option_map one_deleted c) ≡ true
-deleted_text k None h = refl
-deleted_text k (Some c) h = let t = parts_of k c h in text_of k (one_deleted c) (record { key = t.key; old = t.old; new = refl })
-
 pub texts_deleted : (u : ChangeSet) → AreTexts u → AreTexts (as_deleted u)
 texts_deleted u h k = ap (is_text_at k) (get-each one_deleted u k) ∙ deleted_text k (get u k) (h k)
-
-fresh_text : (k : Key) (v : Option Key) → is_utf8 k ≡ true → is_text_value v ≡ true → is_text_at k (option_map fresh v) ≡ true
-fresh_text k None p q = refl
-fresh_text k (Some v) p q = and_from _ _ p q
-
-inserted_text : (k : Key) (c : Option KeyChange) → is_text_at k c ≡ true → is_text_at k (option_and_then one_inserted c) ≡ true
-inserted_text k None h = refl
-inserted_text k (Some c) h = let t = parts_of k c h in fresh_text k c.new t.key t.new
 
 pub texts_inserted : (u : ChangeSet) → AreTexts u → AreTexts (as_inserted u)
 texts_inserted u h k = ap (is_text_at k) (get-picked one_inserted u k) ∙ inserted_text k (get u k) (h k)
@@ -137,3 +141,11 @@ pub starting_at : (u : ChangeSet) (m : Map Key) → joined Starting u (from_abse
 starting_at u m = alike _ _ (λ q.
     get-merge (combined Starting) u (from_absent m) q refl ∙ ap (combined Starting (get u q)) (get-each fresh m q) ∙ one_started (get u q) (get m q)
     ∙ sym (get-merge one_from u m q refl))
+
+-- ---- of the first alone
+
+pub joined_inserted : (u w : ChangeSet) → joined Inserted u w ≡ as_inserted u
+joined_inserted u w = alike _ _ (λ q. get-merge (combined Inserted) u w q refl ∙ sym (get-picked one_inserted u q))
+
+pub joined_deleted : (u w : ChangeSet) → joined Deleted u w ≡ as_deleted u
+joined_deleted u w = alike _ _ (λ q. get-merge (combined Deleted) u w q refl ∙ sym (get-each one_deleted u q))

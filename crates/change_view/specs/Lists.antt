@@ -8,19 +8,17 @@
 --     made f ps             f of the two at each key
 --     all_pass p ps         p of the two at each key
 --     inserted_entries es   those with a new value, as absent before
---     same_entry            the test of ≡
 use Rattle.std.specs.Prelude.{◌≡◌, Bool, true, ◌&&◌, List, [], ◌∷◌, map, Option, None, Some}
 use Rattle.std.specs.Option.{option_copied}
 use Rattle.std.specs.Ordering.{nat_cmp}
 use Rattle.std.specs.Str.{encode_utf8_all}
-use Rattle.std.specs.Cmp.Lexicographic.{slice_cmp, pointwise}
+use Rattle.std.specs.Cmp.Lexicographic.{slice_cmp}
 use Rattle.std.specs.FinMap.{get, from_sorted, is_sorted}
 use Rattle.std.specs.FinMap.Entries.{by_order}
-use Rattle.doc_items.specs.Maps.{Key, Map, entry, set_key, same_text}
+use Rattle.doc_items.specs.Maps.{Key, Map, entry, set_key}
 use Rattle.doc_items.specs.Changes.{KeyChange, ChangeSet, key_change, turned, fits_old}
 use Rattle.doc_items.specs.declared.change.Change.{Change}
 use Rattle.change_view.specs.declared.entry.ChangeRef.{ChangeRef}
-use Rattle.change_view.specs.Rules.{same_change}
 use Rattle.change_view.specs.Sets.{one_inserted, one_deleted, fresh}
 use Rattle.change_view.specs.Texts.{is_text_change, AreTexts}
 
@@ -85,14 +83,6 @@ all_pass p (m ∷ ms) = p m.first m.second && all_pass p ms
 abbrev pub inserted_entries : List Entry → List Entry
 inserted_entries [] = []
 inserted_entries (e ∷ es) = entry e.0 (one_inserted e.1) (inserted_entries es)
-
--- ---- the test of ≡
-
-abbrev pub same_entry : Entry → Entry → Bool
-same_entry e f = same_text e.0 f.0 && same_change e.1 f.1
-
-abbrev pub same_entries : List Entry → List Entry → Bool
-same_entries es fs = pointwise same_entry es fs
 
 -- ---- entries one by one
 

@@ -6,16 +6,20 @@
 --     one_then              first then second: from the first's old value to the second's new one
 --     one_unlike            the first's where the second hasn't the very same
 --     one_starting          the first's, from the second's new value, absent where the second lacks the key
+--     fresh v               from absent to the value
+--     one_inserted c        a change's new value, as absent before; nothing where it is absent
+--     one_deleted c         a change's old value, as absent afterwards
 --     combined r            what the rule r makes of the two
 --     same_old              where both have the key: equal old values
 --     new_is_old            where both have the key: the first's new value is the second's old one
 --     old_is_there          where the second has the key: its old value is the first's new one, absent where the first lacks it
 --     passing t             what the test t says of the two
-use Rattle.std.specs.Prelude.{Bool, true, cond, ◌&&◌, Option, None, Some}
-use Rattle.doc_items.specs.Maps.{same_value}
+use Rattle.std.specs.Prelude.{Bool, true, cond, ◌&&◌, Option, None, Some, option_and_then}
+use Rattle.std.specs.Option.{option_map}
+use Rattle.doc_items.specs.Maps.{Key, same_value}
 use Rattle.doc_items.specs.Changes.{KeyChange, turned}
 use Rattle.change_view.specs.declared.rule.Rule.{Rule}
-use Rattle.change_view.specs.declared.rule.Rule.TheVariants.{Second, SecondTurned, Over, Under, Then, Unlike, Starting}
+use Rattle.change_view.specs.declared.rule.Rule.TheVariants.{Second, SecondTurned, Over, Under, Then, Unlike, Starting, Inserted, Deleted}
 use Rattle.change_view.specs.declared.rule.Test.{Test}
 use Rattle.change_view.specs.declared.rule.Test.TheVariants.{SameOld, NewIsOld, OldIsThere}
 
@@ -56,6 +60,15 @@ one_starting None w = None
 one_starting (Some u) None = Some (record { old = None; new = u.new })
 one_starting (Some u) (Some w) = Some (record { old = w.new; new = u.new })
 
+abbrev pub fresh : Key → KeyChange
+fresh v = record { old = None; new = Some v }
+
+abbrev pub one_inserted : KeyChange → Option KeyChange
+one_inserted c = option_map fresh c.new
+
+abbrev pub one_deleted : KeyChange → KeyChange
+one_deleted c = record { old = c.old; new = None }
+
 abbrev pub combined : Rule → Option KeyChange → Option KeyChange → Option KeyChange
 combined Second u w = one_second u w
 combined SecondTurned u w = one_second_turned u w
@@ -64,6 +77,8 @@ combined Under u w = one_under u w
 combined Then u w = one_then u w
 combined Unlike u w = one_unlike u w
 combined Starting u w = one_starting u w
+combined Inserted u w = option_and_then one_inserted u
+combined Deleted u w = option_map one_deleted u
 
 -- ---- tests
 

@@ -7,13 +7,13 @@
 --     as_deleted u          the keys of u, as absent afterwards
 --     from_absent m         the keys of a map, each from absent to its value
 use Rattle.std.specs.Prelude.{Bool, true, false, Option, None, Some, option_and_then}
-use Rattle.std.specs.Option.{option_map}
 use Rattle.std.specs.FinMap.{get, keys}
 use Rattle.doc_items.specs.Maps.{Key, Map, tabulate, each, merge, matches}
 use Rattle.doc_items.specs.Changes.{KeyChange, ChangeSet}
 use Rattle.change_view.specs.declared.rule.Rule.{Rule}
 use Rattle.change_view.specs.declared.rule.Test.{Test}
 use Rattle.change_view.specs.Rules.{combined, passing, same_change}
+pub use Rattle.change_view.specs.Rules.{fresh, one_inserted, one_deleted}
 
 abbrev pub joined : Rule → ChangeSet → ChangeSet → ChangeSet
 joined r u w = merge (combined r) u w
@@ -37,17 +37,8 @@ one_from (Some u) v = Some (record { old = v; new = u.new })
 abbrev pub start_at : ChangeSet → Map Key → ChangeSet
 start_at u m = merge one_from u m
 
-abbrev pub fresh : Key → KeyChange
-fresh v = record { old = None; new = Some v }
-
-abbrev pub one_inserted : KeyChange → Option KeyChange
-one_inserted c = option_map fresh c.new
-
 abbrev pub as_inserted : ChangeSet → ChangeSet
 as_inserted u = tabulate (keys u) (λ k. option_and_then one_inserted (get u k))
-
-abbrev pub one_deleted : KeyChange → KeyChange
-one_deleted c = record { old = c.old; new = None }
 
 abbrev pub as_deleted : ChangeSet → ChangeSet
 as_deleted u = each one_deleted u

@@ -1,13 +1,14 @@
-ghost use Rattle.std.specs.Prelude.{◌≡◌, true, Some, IfSome};
+ghost use Rattle.std.specs.Prelude.{◌≡◌, true, Some, IfSome, IfOk};
 ghost use Rattle.std.specs.Option.{option_copied, option_map};
 ghost use Rattle.std.specs.Str.{encode_utf8_all};
 ghost use Rattle.doc_items.specs.Maps.{same_value};
 ghost use Rattle.doc_items.specs.Changes.{turned};
 ghost use Rattle.change_view.specs.Rules.{same_change};
 ghost use Rattle.change_view.specs.Texts.{is_text_value, is_text_change};
-ghost use Rattle.change_view.specs.Lists.{value_of, entry_of, of_change, same_entry};
+ghost use Rattle.change_view.specs.Lists.{value_of, entry_of, of_change};
 
-use doc_items::{Change, Text};
+use doc_items::{Change, Memory, Text};
+use std::alloc::Global;
 
 /// What becomes of the value at a key, with texts that stand elsewhere.
 #[derive(Clone, Copy)]
@@ -27,6 +28,16 @@ impl<'a> ChangeRef<'a> {
         let old = borrowed(&change.old);
         let new = borrowed(&change.new);
         ChangeRef { key, old, new }
+    }
+
+    /// The change with texts of its own.
+    pub fn to_change(self, alloc: Global) -> Result<Change, Memory>
+        ensures { IfOk result (λ c. of_change c ≡ entry_of self.entry) }
+    {
+        let key = owned(alloc, self.key)?;
+        let old = owned_value(alloc, self.old)?;
+        let new = owned_value(alloc, self.new)?;
+        Ok(Change { key, old, new })
     }
 
     /// The same change of another key.
@@ -59,12 +70,21 @@ impl<'a> ChangeRef<'a> {
     {
         same_values(self.old, other.old) && same_values(self.new, other.new)
     }
+}
 
-    /// Whether the keys and the values are the same.
-    pub(crate) fn same(self, other: ChangeRef<'_>) -> bool
-        ensures { result ≡ same_entry (entry_of self.entry) (entry_of other.entry) }
-    {
-        self.key == other.key && self.same_values(other)
+fn owned(alloc: Global, text: &str) -> Result<Text, Memory>
+    ensures { IfOk result (λ t. encode_utf8_all t ≡ text.now) }
+{
+    let copy = Text::from_str(alloc, text)?;
+    Ok(copy)
+}
+
+fn owned_value(alloc: Global, value: Option<&str>) -> Result<Option<Text>, Memory>
+    ensures { IfOk result (λ v. option_map encode_utf8_all v ≡ option_copied value.entry) }
+{
+    match value {
+        Some(text) => Ok(Some(owned(alloc, text)?)),
+        None => Ok(None),
     }
 }
 

@@ -7,7 +7,7 @@ ghost use Rattle.doc_items.specs.Maps.{pair_of};
 ghost use Rattle.doc_items.specs.Changes.{IsAscending, turned};
 ghost use Rattle.change_view.specs.Sets.{one_inserted, one_deleted, fresh};
 ghost use Rattle.change_view.specs.Texts.{as_change};
-ghost use Rattle.change_view.specs.Lists.{entry_of, of_change, inserted_entries, all_texts, all_fit, put_all, same_entries, turned_entry, deleted_entry, fresh_entry};
+ghost use Rattle.change_view.specs.Lists.{entry_of, of_change, inserted_entries, all_texts, all_fit, put_all, turned_entry, deleted_entry, fresh_entry};
 
 use crate::entry::{ChangeRef, same_values};
 use doc_items::{Change, Memory, Text, TextMap};
@@ -147,19 +147,4 @@ pub(crate) fn keys(alloc: Global, list: &[ChangeRef<'_>]) -> Result<Vec<Text>, M
         out.push(Text::from_str(alloc, change.key)?)?;
     }
     Ok(out)
-}
-
-/// Whether the lists have the same changes, one by one.
-pub(crate) fn same(changes: &[Change], list: &[ChangeRef<'_>]) -> bool
-    ensures { result ≡ same_entries (map of_change changes.now) (map entry_of list.now) }
-{
-    if changes.len() != list.len() {
-        return false;
-    }
-    for (index, change) in changes.iter().enumerate() {
-        if !ChangeRef::of(change).same(list[index]) {
-            return false;
-        }
-    }
-    true
 }

@@ -1,6 +1,7 @@
-ghost use Rattle.std.specs.Prelude.{◌≡◌, true, Some, None, IfSome};
+ghost use Rattle.std.specs.Prelude.{◌≡◌, true, Some, None, IfSome, option_and_then};
 ghost use Rattle.std.specs.Option.{option_copied, option_map};
-ghost use Rattle.change_view.specs.Rules.{combined, passing, one_second, one_second_turned, one_over, one_under, one_then, one_unlike, one_starting, same_old, new_is_old, old_is_there};
+ghost use Rattle.change_view.specs.Rules.{combined, one_second, one_second_turned, one_over, one_under, one_then, one_unlike};
+ghost use Rattle.change_view.specs.Rules.{one_starting, one_inserted, one_deleted, passing, same_old, new_is_old, old_is_there};
 ghost use Rattle.change_view.specs.Lists.{value_of};
 
 use crate::entry::{ChangeRef, same_values};
@@ -22,11 +23,15 @@ pub enum Rule {
     Unlike,
     /// The first's change, from the second's new value, absent where the second lacks the key.
     Starting,
+    /// The first's new value, as absent before; nothing where the new value is absent.
+    Inserted,
+    /// The first's old value, as absent afterwards.
+    Deleted,
 }
 
 impl Rule {
     /// What the rule makes of the two changes of a key.
-    pub(crate) fn combine<'a>(
+    pub fn combine<'a>(
         self,
         key: &'a str,
         first: Option<ChangeRef<'a>>,
@@ -43,6 +48,8 @@ impl Rule {
             Rule::Then => then(key, first, second),
             Rule::Unlike => unlike(key, first, second),
             Rule::Starting => starting(key, first, second),
+            Rule::Inserted => inserted(key, first),
+            Rule::Deleted => deleted(key, first),
         }
     }
 }
@@ -179,6 +186,37 @@ fn starting<'a>(
     }
 }
 
+fn inserted<'a>(key: &'a str, first: Option<ChangeRef<'a>>) -> Option<ChangeRef<'a>>
+    ensures value { option_map value_of result ≡ option_and_then one_inserted (option_map value_of first.entry) }
+    ensures key { IfSome result (λ c. c.key.now ≡ key.entry.now) }
+{
+    match first {
+        Some(mine) => match mine.new {
+            Some(new) => Some(ChangeRef {
+                key,
+                old: None,
+                new: Some(new),
+            }),
+            None => None,
+        },
+        None => None,
+    }
+}
+
+fn deleted<'a>(key: &'a str, first: Option<ChangeRef<'a>>) -> Option<ChangeRef<'a>>
+    ensures value { option_map value_of result ≡ option_map one_deleted (option_map value_of first.entry) }
+    ensures key { IfSome result (λ c. c.key.now ≡ key.entry.now) }
+{
+    match first {
+        Some(mine) => Some(ChangeRef {
+            key,
+            old: mine.old,
+            new: None,
+        }),
+        None => None,
+    }
+}
+
 fn at<'a>(key: &'a str, change: Option<ChangeRef<'a>>) -> Option<ChangeRef<'a>>
     ensures value { option_map value_of result ≡ option_map value_of change.entry }
     ensures key { IfSome result (λ c. c.key.now ≡ key.entry.now) }
@@ -202,7 +240,7 @@ pub enum Test {
 
 impl Test {
     /// Whether the two changes of a key pass.
-    pub(crate) fn holds(self, first: Option<ChangeRef<'_>>, second: Option<ChangeRef<'_>>) -> bool
+    pub fn holds(self, first: Option<ChangeRef<'_>>, second: Option<ChangeRef<'_>>) -> bool
         ensures { result ≡ passing self (option_map value_of first.entry) (option_map value_of second.entry) }
     {
         match self {

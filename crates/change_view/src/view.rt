@@ -1,12 +1,12 @@
 ghost use Rattle.std.specs.Prelude.{◌≡◌, ◌==◌, [], length, map, IfOk};
 ghost use Rattle.std.specs.FinMap as finite;
-ghost use Rattle.doc_items.specs.Changes.{IsAscending, Fits, none_running, change_set, agrees, put, back, after_boundary};
-ghost use Rattle.change_view.specs.Sets.{joined, passes, same_changes, start_at, as_inserted, as_deleted, from_absent};
-ghost use Rattle.change_view.specs.Texts.{AreTexts, change_list, key_list, boundary_between};
-ghost use Rattle.change_view.specs.Lists.{entry_of};
+ghost use Rattle.doc_items.specs.Changes.{IsAscending, none_running, change_set, agrees, put, back};
+ghost use Rattle.change_view.specs.Sets.{joined, passes, start_at, as_inserted, as_deleted, from_absent};
+ghost use Rattle.change_view.specs.Texts.{AreTexts, change_list, key_list};
+ghost use Rattle.change_view.specs.Lists.{entry_of, view_of, IsView};
 
 use crate::{ChangeRef, Rule, Test, lists, meet};
-use doc_items::{Boundary, Changes, Keys, Memory, TextMap};
+use doc_items::{Changes, Keys, Memory, TextMap};
 use std::alloc::Global;
 use std::marker::Model;
 
@@ -47,6 +47,14 @@ impl<'a> ChangeView<'a> {
     {
         let list = lists::borrowed(alloc, changes.as_slice())?;
         Ok(ChangeView { list })
+    }
+
+    /// The change set of borrowed texts whose keys rise in byte order.
+    pub fn of_rising(list: Vec<ChangeRef<'a>>) -> ChangeView<'a>
+        requires { IsView list.items }
+        ensures { result ≡ view_of list.entry.items }
+    {
+        ChangeView { list }
     }
 
     /// Each key of a map, as absent before.
@@ -151,36 +159,11 @@ impl<'a> ChangeView<'a> {
         Ok(Changes::from_vec(list))
     }
 
-    // The list of the keys, in byte order.
-    fn to_keys(&self, alloc: Global) -> Result<Keys, Memory>
+    /// The list of the keys, in byte order.
+    pub fn to_keys(&self, alloc: Global) -> Result<Keys, Memory>
         ensures { IfOk result (λ ks. ks ≡ key_list self.now) }
     {
         let list = lists::keys(alloc, self.list.as_slice())?;
         Ok(Keys::from_vec(list))
-    }
-
-    /// Whether these very changes run.
-    pub fn same_as(&self, running: &Changes) -> bool
-        requires { IsAscending running.now }
-        ensures { result ≡ same_changes (change_set running.now) self.now }
-    {
-        lists::same(running.as_slice(), self.list.as_slice())
-    }
-
-    /// The boundary between the running changes and these.
-    pub fn boundary_from(&self, alloc: Global, running: &Changes) -> Result<Boundary, Memory>
-        requires { IsAscending running.now }
-        ensures value { IfOk result (λ b. b ≡ boundary_between (change_set running.now) self.now) }
-        ensures fits { IfOk result (λ b. Fits (change_set running.now) b) }
-        ensures after { IfOk result (λ b. after_boundary (change_set running.now) b ≡ self.now) }
-    {
-        let _texts = self.as_slice();
-        let before = ChangeView::of(alloc, running)?;
-        let ended = before.merged(alloc, self, Rule::Under)?;
-        let end = ended.to_keys(alloc)?;
-        let change = self
-            .merged(alloc, &before, Rule::Unlike)?
-            .to_changes(alloc)?;
-        Ok(Boundary { end, change })
     }
 }

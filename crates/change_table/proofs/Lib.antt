@@ -1,0 +1,4 @@
+pub mod Agreement
+mod Passing
+mod Stored
+mod Turning

@@ -1,0 +1,12 @@
+//! Changes in a table by key, and the boundary to the changes that two tables show together: only the keys are looked at at which
+//! something may differ, however many run.
+#![tactic(auto)]
+
+mod joint;
+mod table;
+mod touched;
+mod turn;
+
+pub use joint::Joint;
+pub use table::ChangeTable;
+pub use touched::Touched;
