@@ -3,14 +3,18 @@
 --     kept_left, text_left     what is left of a retain's and of a text's actions
 --     built_is_sound           an operation can be walked
 --     some_changes             an update that isn't empty
-use Rattle.std.proofs.Common.{◌≡◌, ◌≢◌, ℕ, zero, suc, ◌-◌, ◌<◌, List, [], ◌∷◌, ◌++◌, length, map, drop, replicate, refl, sym, ap, subst, ◌∙◌, arith, None}
+--     touched_on               keys at which changes started or ended, past one boundary more
+use Rattle.std.proofs.Common.{◌≡◌, ◌≢◌, ℕ, zero, suc, ◌-◌, ◌<◌, List, [], ◌∷◌, ◌++◌, length, map, drop, replicate, refl, sym, ap, subst, ◌∙◌, arith, Option, None, option_map}
 use Rattle.std.proofs.lemmas.List.{drop-replicate, drop-map}
 use Rattle.std.specs.Ordering.{nat_cmp}
 use Rattle.std.specs.Cmp.Lexicographic.{slice_cmp}
 use Rattle.std.specs.FinMap.{get, get-empty}
-use Rattle.doc_items.specs.Changes.{ChangeSet, change_set, none_running, IsAscending}
+use Rattle.doc_items.specs.Changes.{ChangeSet, change_set, none_running, after_boundary, IsAscending}
+use Rattle.doc_items.specs.declared.change.Boundary.{Boundary}
 use Rattle.doc_items.specs.declared.change.Change.{Change}
 use Rattle.doc_items.proofs.ChangeSets.{key, get_change}
+use Rattle.change_table.specs.Keys.{boundary_keys, Touches}
+use Rattle.change_table.proofs.Agreement.{touches_on, touches_boundary}
 use Rattle.doc_op.proofs.Applying.{no_value}
 use Rattle.doc_items.specs.declared.item.Content.{Content}
 use Rattle.doc_items.specs.declared.item.Content.TheVariants.{Character}
@@ -70,3 +74,9 @@ built_is_sound cs h = sound_from [] cs h
 pub some_changes : (cs : List Change) → 0 < length cs → IsAscending cs → change_set cs ≢ none_running
 some_changes [] h a e = absurd (omega (arith, h))
 some_changes (c ∷ cs) h a e = no_value (sym (get-empty (slice_cmp nat_cmp) (key c)) ∙ ap (λ u. get u (key c)) (sym e) ∙ get_change (c ∷ cs) 0 c a (omega arith) refl)
+
+-- what started or ended at one boundary more
+pub touched_on : (t s r : Option (List (List ℕ))) (u w v : ChangeSet) (b : Boundary) → Touches t u s w → r ≡ option_map (λ keys. keys ++ boundary_keys b) s → v ≡ after_boundary w b → Touches t u r v
+touched_on t s r u w v b h e f =
+    let more = option_map (λ (keys : List (List ℕ)). keys ++ boundary_keys b) s in
+    subst (λ k. Touches t u k v) (sym e) (subst (λ x. Touches t u more x) (sym f) (touches_on t s more u w (after_boundary w b) h (touches_boundary s w b)))

@@ -4,6 +4,8 @@ pub mod Cursors
 pub mod Lengths
 pub mod NormalForm
 pub mod Outputs
+pub mod Shown
 pub mod Spelling
 pub mod Structures
 pub mod Switches
+pub mod UpToDate

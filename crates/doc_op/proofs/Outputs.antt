@@ -1,10 +1,13 @@
 -- An output that goes on: with its last component, after it, and to its end.
 --     grown_open      the last component goes on
+--     settled_same    after it, where no other changes are to run
+--     neither         a test of two that fails
 --     opened          a component after it that may go on
 --     set_down        a component after it that doesn't
 --     some_boundary   a boundary between different changes isn't empty
+--     turn_test, turn_fits     where a turn is none, and that it fits where it is one
 --     ended           the end
-use Rattle.std.proofs.Common.{◌≡◌, ℕ, ◌+◌, ◌<◌, ◌≤◌, Bool, true, false, cond, ◌&&◌, List, [], ◌∷◌, ◌++◌, length, map, replicate, refl, sym, ap, subst, ◌∙◌, arith, append_assoc, append-nil, true≢false, Option, None, Some}
+use Rattle.std.proofs.Common.{◌≡◌, ℕ, ◌+◌, ◌<◌, ◌≤◌, Bool, true, false, cond, not, ◌&&◌, List, [], ◌∷◌, ◌++◌, length, map, replicate, refl, sym, ap, subst, ◌∙◌, arith, append_assoc, append-nil, true≢false, Option, None, Some, is_some, IfSome}
 use Rattle.std.proofs.lemmas.List.{replicate-append-replicate}
 use Rattle.doc_items.specs.Limits.{max_count}
 use Rattle.doc_items.specs.Changes.{ChangeSet, none_running, without, with_changes}
@@ -14,15 +17,22 @@ use Rattle.doc_items.specs.declared.item.Content.TheVariants.{Character}
 use Rattle.change_view.specs.Sets.{same_changes}
 use Rattle.change_view.specs.Texts.{boundary_between}
 use Rattle.change_view.proofs.Sets.{same_changes-is, same_changes-refl}
+use Rattle.change_table.specs.Joints.{IsTurn}
 use Rattle.doc_op.specs.declared.component.Component.{Component}
 use Rattle.doc_op.specs.declared.component.Component.TheVariants.{Retain, Characters, DeleteCharacters, AnnotationBoundary}
 use Rattle.doc_op.specs.Actions.{Action, Unchanged, keep, insertion, deletion, running, running_after, actions_from, actions, component_actions}
 use Rattle.doc_op.specs.Lengths.{input_len, output_len}
 use Rattle.doc_op.specs.Refusals.{component_len}
-use Rattle.doc_op.specs.Normal.{in_front, normal_from, normal_form}
-use Rattle.doc_op.specs.Outputs.{shut, onto, joins, grown, open_len, is_lone, IsFull, IsSpelling, IsLone, IsSettled, IsOpenNormal}
+use Rattle.doc_op.specs.Normal.{shown_last, in_front, normal_from, normal_form}
+use Rattle.doc_op.specs.Outputs.{shut, onto, joins, grown, open_len, is_lone, IsFull, IsSpelling, IsLone, IsSettled, IsTurnOf, IsOpenNormal}
+use Rattle.doc_op.proofs.Shown.{shown_more}
 use Rattle.doc_op.proofs.Lengths.{actions-add, actions_from-append, input_len-append, output_len-append, input_len-kept, input_len-deleted, output_len-inserted, input_len-add, output_len-add}
 use Rattle.doc_op.proofs.Spelling.{in_front_retain, in_front_text, in_front_deletion, step_none, goes_fresh, goes_to_end}
+
+-- ---- what runs over the last action
+
+shown_added : (acts now : List Action) (w : ChangeSet) (c : Component) → now ≡ acts ++ component_actions w c → IsSpelling w c → shown_last now ≡ w
+shown_added acts now w c e s = ap shown_last e ∙ shown_more none_running acts (component_actions w c) ∙ s.shown (shown_last acts)
 
 -- ---- with the last component
 
@@ -71,7 +81,7 @@ goes_grown : (acts : List Action) (done : List Component) (o : Option Component)
 goes_grown acts done o u c g s e rest =
     let cs = normal_from u rest in
     ap normal_form (append_assoc acts (component_actions u c) rest) ∙ g (component_actions u c ++ rest)
-    ∙ ap (λ x. done ++ onto o x) (s u rest ∙ ap (λ x. x ++ in_front c cs) (step_none u))
+    ∙ ap (λ x. done ++ onto o x) (s.spelled u rest ∙ ap (λ x. x ++ in_front c cs) (step_none u))
     ∙ ap (λ x. done ++ x) (onto_grown o c cs e)
 
 pub grown_open : (done : List Component) (o : Option Component) (u w : ChangeSet) (c : Component) → IsOpenNormal (actions (done ++ shut o)) done o u → IsSpelling w c → joins o c ≡ true → same_changes u w ≡ true
@@ -85,6 +95,7 @@ grown_open done o u w c h s e t l i x =
     record {
       normal = λ rest. ap (λ acts. normal_form (acts ++ rest)) value ∙ goes_grown (actions (done ++ shut o)) done o u c h.normal spelled e rest;
       runs = h.runs;
+      last = shown_added _ _ u c value spelled;
       full = full_grown o c e l;
       input = subst (λ acts. input_len acts ≤ max_count) now i;
       output = subst (λ acts. output_len acts ≤ max_count) now x;
@@ -110,7 +121,7 @@ room done o c w e i x = absurd (true≢false (sym e))
 pub boundary_value : (done : List Component) (b : Boundary) → actions (done ++ AnnotationBoundary b ∷ []) ≡ actions done
 boundary_value done b = actions-add done (AnnotationBoundary b) ∙ append-nil (actions done)
 
-pub settled_same : (done : List Component) (o : Option Component) (u w : ChangeSet) (shut_down : List Component) → shut_down ≡ done ++ shut o → running shut_down ≡ running done → running done ≡ u → same_changes u w ≡ true
+pub settled_same : (done : List Component) (o : Option Component) (u w : ChangeSet) (shut_down : List Component) → shut_down ≡ done ++ shut o → running shut_down ≡ running done → running done ≡ u → IsTurn None u w
     → IsSettled done o u w shut_down
 settled_same done o u w shut_down is r q e = record {
   value = is ∙ sym (append-nil (done ++ shut o)) ∙ ap (λ t. done ++ shut o ++ cond t [] (AnnotationBoundary (boundary_between u w) ∷ [])) (sym e);
@@ -118,13 +129,9 @@ settled_same done o u w shut_down is r q e = record {
   acts = ap actions is;
 }
 
-pub settled_turned : (done : List Component) (o : Option Component) (u w : ChangeSet) (shut_down all : List Component) (b : Boundary) → shut_down ≡ done ++ shut o → same_changes u w ≡ false → b ≡ boundary_between u w
-    → all ≡ shut_down ++ AnnotationBoundary b ∷ [] → running all ≡ w → IsSettled done o u w all
-settled_turned done o u w shut_down all b is e f g r = record {
-  value = g ∙ (λ k. is k ++ AnnotationBoundary (f k) ∷ []) ∙ ap (λ t. done ++ shut o ++ cond t [] (AnnotationBoundary (boundary_between u w) ∷ [])) (sym e);
-  runs = r;
-  acts = ap actions g ∙ boundary_value shut_down b ∙ ap actions is;
-}
+pub neither : (j s : Bool) → s ≡ false → (j && s) ≡ false
+neither true s e = e
+neither false s e = refl
 
 pub opened : (done : List Component) (o : Option Component) (u w : ChangeSet) (c : Component) (settled : List Component) → IsOpenNormal (actions (done ++ shut o)) done o u → IsSettled done o u w settled → IsSpelling w c
     → (joins o c && same_changes u w) ≡ false → 0 < component_len c
@@ -135,6 +142,7 @@ opened done o u w c settled h t s e l i x =
     record {
       normal = λ rest. ap (λ acts. normal_form (acts ++ rest)) value ∙ goes_fresh (actions (done ++ shut o)) done o u w c h.normal s e rest ∙ ap (λ cs. cs ++ in_front c (normal_from w rest)) (sym t.value);
       runs = t.runs;
+      last = shown_added _ _ w c value s;
       full = l;
       input = subst (λ acts. input_len acts ≤ max_count) (sym value) i;
       output = subst (λ acts. output_len acts ≤ max_count) (sym value) x;
@@ -168,6 +176,7 @@ set_down done o u w c settled all h t l is r i x =
           ap (λ acts. normal_form (acts ++ rest)) value ∙ goes_fresh (actions (done ++ shut o)) done o u w c h.normal l.spelled (lone_joins o c (same_changes u w) l.lone) rest
           ∙ (λ k. sym t.value k ++ lone_in_front c (normal_from w rest) l.lone k) ∙ sym (append_assoc settled (c ∷ []) (normal_from w rest)) ∙ ap (λ cs. cs ++ normal_from w rest) (sym is);
       runs = r;
+      last = shown_added _ _ w c value l.spelled;
       full = tt;
       input = subst (λ acts. input_len acts ≤ max_count) (sym value) i;
       output = subst (λ acts. output_len acts ≤ max_count) (sym value) x;
@@ -179,6 +188,17 @@ pub some_boundary : (u w : ChangeSet) (ends : List (List ℕ)) (changes : List C
 some_boundary u w [] [] e h = absurd (true≢false (sym (ap (same_changes u) (sym h) ∙ same_changes-refl u) ∙ e))
 some_boundary u w [] (c ∷ changes) e h = omega arith
 some_boundary u w (k ∷ ends) changes e h = omega arith
+
+-- a turn is none exactly where the changes are the same
+pub turn_test : (t : Option Boundary) (u w : ChangeSet) (b : Bool) → is_some t ≡ not b → IsTurn t u w → b ≡ same_changes u w
+turn_test None u w true e h = sym h
+turn_test None u w false e h = absurd (true≢false (sym e))
+turn_test (Some x) u w true e h = absurd (true≢false e)
+turn_test (Some x) u w false e h = sym h.differ
+
+pub turn_fits : (t : Option Boundary) (u w : ChangeSet) → IsTurn t u w → IfSome t (IsTurnOf u)
+turn_fits None u w h = tt
+turn_fits (Some b) u w h = (some_boundary u w b.end b.change h.differ h.after, h.fits)
 
 pub ended : (done : List Component) (o : Option Component) (u : ChangeSet) (settled : List Component) → IsOpenNormal (actions (done ++ shut o)) done o u → IsSettled done o u none_running settled → settled ≡ normal_form (actions (done ++ shut o))
 ended done o u settled h t = t.value ∙ sym (goes_to_end (actions (done ++ shut o)) done o u h.normal)

@@ -18,9 +18,10 @@ use Rattle.change_view.specs.Texts.{change_list, boundary_between}
 use Rattle.change_view.proofs.Sets.{same_changes-refl}
 use Rattle.doc_op.specs.declared.component.Component.{Component}
 use Rattle.doc_op.specs.declared.component.Component.TheVariants.{Retain, Characters, ElementStart, ElementEnd, DeleteCharacters, DeleteElementStart, DeleteElementEnd, ReplaceAttributes, UpdateAttributes, AnnotationBoundary}
-use Rattle.doc_op.specs.Actions.{Action, Ins, Del, new_values, old_values, keep, insertion, deletion, component_actions}
+use Rattle.doc_op.specs.Actions.{Unchanged, Action, Ins, Del, new_values, old_values, keep, insertion, deletion, component_actions}
 use Rattle.doc_op.specs.Normal.{gone, shown, component_of, in_front, step, normal_from, normal_form}
 use Rattle.doc_op.specs.Outputs.{joins, is_lone, shut, onto, IsSpelling}
+use Rattle.doc_op.proofs.Shown.{shown_mapped, shown_copies}
 
 -- ---- what runs over an item
 
@@ -190,44 +191,68 @@ spelling_more w a acts c d e j h u rest =
 
 pub spelling_retain : (w : ChangeSet) (n : ℕ) → 0 < n → IsSpelling w (Retain n)
 spelling_retain w zero h = absurd (omega (arith, h))
-spelling_retain w (suc zero) h = λ u rest. spelling_first w (keep w) u rest refl
+spelling_retain w (suc zero) h = record { spelled = λ u rest. spelling_first w (keep w) u rest refl; shown = λ u. refl }
 spelling_retain w (suc (suc n)) h =
     let e : 1 + suc n ≡ suc (suc n) = omega arith in
-    spelling_more w (keep w) (replicate (suc n) (keep w)) (Retain (suc n)) (Retain (suc (suc n))) refl
-    (λ cs. in_front_retain 1 (suc n) cs ∙ ap (λ k. in_front (Retain k) cs) e)
-    (spelling_retain w (suc n) (omega arith))
+    record {
+      spelled = spelling_more w (keep w) (replicate (suc n) (keep w)) (Retain (suc n)) (Retain (suc (suc n))) refl
+          (λ cs. in_front_retain 1 (suc n) cs ∙ ap (λ k. in_front (Retain k) cs) e)
+          (spelling_retain w (suc n) (omega arith)).spelled;
+      shown = shown_copies (suc (suc n)) w Unchanged h;
+    }
+
+spelled_text : (w : ChangeSet) (text : List ℕ) → as_inserted w ≡ w → 0 < length text → (u : ChangeSet) (rest : List Action)
+    → normal_from u (component_actions w (Characters text) ++ rest) ≡ step u w ++ in_front (Characters text) (normal_from w rest)
+spelled_text w [] e h = absurd (omega (arith, h))
+spelled_text w (c ∷ []) e h = λ u rest. spelling_first w (insertion w (Character c)) u rest (shown_inserted w (Character c) ∙ e)
+spelled_text w (c ∷ d ∷ text) e h =
+    spelling_more w (insertion w (Character c)) (map (λ x. insertion w (Character x)) (d ∷ text)) (Characters (d ∷ text)) (Characters (c ∷ d ∷ text))
+    (shown_inserted w (Character c) ∙ e) (in_front_text (c ∷ []) (d ∷ text)) (spelled_text w (d ∷ text) e (omega arith))
 
 pub spelling_text : (w : ChangeSet) (text : List ℕ) → as_inserted w ≡ w → 0 < length text → IsSpelling w (Characters text)
-spelling_text w [] e h = absurd (omega (arith, h))
-spelling_text w (c ∷ []) e h = λ u rest. spelling_first w (insertion w (Character c)) u rest (shown_inserted w (Character c) ∙ e)
-spelling_text w (c ∷ d ∷ text) e h =
-    spelling_more w (insertion w (Character c)) (map (λ x. insertion w (Character x)) (d ∷ text)) (Characters (d ∷ text)) (Characters (c ∷ d ∷ text))
-    (shown_inserted w (Character c) ∙ e) (in_front_text (c ∷ []) (d ∷ text)) (spelling_text w (d ∷ text) e (omega arith))
+spelling_text w text e h = record {
+  spelled = spelled_text w text e h;
+  shown = shown_mapped (λ x. insertion w (Character x)) text w (λ x. shown_inserted w (Character x) ∙ e) h;
+}
+
+spelled_deletion : (w : ChangeSet) (text : List ℕ) → as_deleted w ≡ w → 0 < length text → (u : ChangeSet) (rest : List Action)
+    → normal_from u (component_actions w (DeleteCharacters text) ++ rest) ≡ step u w ++ in_front (DeleteCharacters text) (normal_from w rest)
+spelled_deletion w [] e h = absurd (omega (arith, h))
+spelled_deletion w (c ∷ []) e h = λ u rest. spelling_first w (deletion w (Character c)) u rest (shown_deleted w (Character c) ∙ e)
+spelled_deletion w (c ∷ d ∷ text) e h =
+    spelling_more w (deletion w (Character c)) (map (λ x. deletion w (Character x)) (d ∷ text)) (DeleteCharacters (d ∷ text)) (DeleteCharacters (c ∷ d ∷ text))
+    (shown_deleted w (Character c) ∙ e) (in_front_deletion (c ∷ []) (d ∷ text)) (spelled_deletion w (d ∷ text) e (omega arith))
 
 pub spelling_deletion : (w : ChangeSet) (text : List ℕ) → as_deleted w ≡ w → 0 < length text → IsSpelling w (DeleteCharacters text)
-spelling_deletion w [] e h = absurd (omega (arith, h))
-spelling_deletion w (c ∷ []) e h = λ u rest. spelling_first w (deletion w (Character c)) u rest (shown_deleted w (Character c) ∙ e)
-spelling_deletion w (c ∷ d ∷ text) e h =
-    spelling_more w (deletion w (Character c)) (map (λ x. deletion w (Character x)) (d ∷ text)) (DeleteCharacters (d ∷ text)) (DeleteCharacters (c ∷ d ∷ text))
-    (shown_deleted w (Character c) ∙ e) (in_front_deletion (c ∷ []) (d ∷ text)) (spelling_deletion w (d ∷ text) e (omega arith))
+spelling_deletion w text e h = record {
+  spelled = spelled_deletion w text e h;
+  shown = shown_mapped (λ x. deletion w (Character x)) text w (λ x. shown_deleted w (Character x) ∙ e) h;
+}
 
 pub spelling_start : (w : ChangeSet) (kind : List ℕ) (attributes : Map Key) → as_inserted w ≡ w → IsSpelling w (ElementStart kind attributes)
-spelling_start w kind attributes e = λ u rest. spelling_first w (insertion w (Start kind attributes)) u rest (shown_inserted w (Start kind attributes) ∙ e)
+spelling_start w kind attributes e =
+    let same = shown_inserted w (Start kind attributes) ∙ e in
+    record { spelled = λ u rest. spelling_first w (insertion w (Start kind attributes)) u rest same; shown = λ u. same }
 
 pub spelling_end : (w : ChangeSet) → as_inserted w ≡ w → IsSpelling w ElementEnd
-spelling_end w e = λ u rest. spelling_first w (insertion w End) u rest (shown_inserted w End ∙ e)
+spelling_end w e = let same = shown_inserted w End ∙ e in record { spelled = λ u rest. spelling_first w (insertion w End) u rest same; shown = λ u. same }
 
 pub spelling_deleted_start : (w : ChangeSet) (kind : List ℕ) (attributes : Map Key) → as_deleted w ≡ w → IsSpelling w (DeleteElementStart kind attributes)
-spelling_deleted_start w kind attributes e = λ u rest. spelling_first w (deletion w (Start kind attributes)) u rest (shown_deleted w (Start kind attributes) ∙ e)
+spelling_deleted_start w kind attributes e =
+    let same = shown_deleted w (Start kind attributes) ∙ e in
+    record { spelled = λ u rest. spelling_first w (deletion w (Start kind attributes)) u rest same; shown = λ u. same }
 
 pub spelling_deleted_end : (w : ChangeSet) → as_deleted w ≡ w → IsSpelling w DeleteElementEnd
-spelling_deleted_end w e = λ u rest. spelling_first w (deletion w End) u rest (shown_deleted w End ∙ e)
+spelling_deleted_end w e = let same = shown_deleted w End ∙ e in record { spelled = λ u rest. spelling_first w (deletion w End) u rest same; shown = λ u. same }
 
 pub spelling_replace : (w : ChangeSet) (old new : Map Key) → IsSpelling w (ReplaceAttributes old new)
-spelling_replace w old new = λ u rest. refl
+spelling_replace w old new = record { spelled = λ u rest. refl; shown = λ u. refl }
 
 pub spelling_update : (w : ChangeSet) (changes : List Change) → changes ≡ change_list (change_set changes) → IsSpelling w (UpdateAttributes changes)
-spelling_update w changes e = λ u rest. ap (λ (list : List Change). step u w ++ in_front (UpdateAttributes list) (normal_from w rest)) (sym e)
+spelling_update w changes e = record {
+  spelled = λ u rest. ap (λ (list : List Change). step u w ++ in_front (UpdateAttributes list) (normal_from w rest)) (sym e);
+  shown = λ u. refl;
+}
 
 -- ---- an output that goes on
 
@@ -240,7 +265,7 @@ pub goes_fresh : (acts : List Action) (done : List Component) (last : Option Com
 goes_fresh acts done last u w c g s e rest =
     let cs = normal_from w rest in
     ap normal_form (append_assoc acts (component_actions w c) rest) ∙ g (component_actions w c ++ rest)
-    ∙ ap (λ x. done ++ x) (ap (onto last) (s u rest) ∙ goes_after last u w c cs e)
+    ∙ ap (λ x. done ++ x) (ap (onto last) (s.spelled u rest) ∙ goes_after last u w c cs e)
     ∙ sym (append_assoc done (shut last ++ step u w) (in_front c cs)) ∙ ap (λ x. x ++ in_front c cs) (sym (append_assoc done (shut last) (step u w)))
 
 -- to its end

@@ -8,4 +8,5 @@ pub mod Codes
 pub mod Runs
 pub mod Cursors
 pub mod Normal
+pub mod Known
 pub mod Outputs

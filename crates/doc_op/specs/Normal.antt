@@ -1,6 +1,8 @@
 -- The normal form: the one list of components that is written for some actions.
 --     shown a              the changes that run over an action's item: over an insertion its annotations, as absent before; over
 --                          a deletion the annotations that it names, as absent afterwards
+--     shown_after u acts   what runs over the last of these actions, or u where there are none
+--     shown_last acts      what runs over the last action; nothing where there are none
 --     component_of a       the component of one action
 --     in_front c cs        a component in front of others, as one with the first of them where both are retains, characters or
 --                          deleted characters
@@ -33,6 +35,13 @@ abbrev pub shown : Action → ChangeSet
 shown (Keep u a) = u
 shown (Ins x) = from_absent x.notes
 shown (Del c n) = to_absent n
+
+abbrev pub shown_after : ChangeSet → List Action → ChangeSet
+shown_after u [] = u
+shown_after u (a ∷ acts) = shown_after (shown a) acts
+
+abbrev pub shown_last : List Action → ChangeSet
+shown_last acts = shown_after none_running acts
 
 abbrev pub kept_component : AttributeChange → Component
 kept_component Unchanged = Retain 1

@@ -1,13 +1,14 @@
-ghost use Rattle.std.specs.Prelude.{◌≡◌, ◌<◌, ◌≤◌, ◌++◌, [], length, map, drop, IfOk, OnOk};
+ghost use Rattle.std.specs.Prelude.{◌≡◌, ◌<◌, ◌≤◌, [], length, map, drop, IfOk, OnOk};
 ghost use Rattle.doc_items.specs.declared.item.Content.TheVariants.{Character};
 ghost use Rattle.doc_op.specs.Runs.{contents};
-ghost use Rattle.doc_items.specs.Changes.{ChangeSet, IsAscending, change_set};
+ghost use Rattle.doc_items.specs.Changes.{ChangeSet};
+ghost use Rattle.change_table.specs.Keys.{Touches};
 ghost use Rattle.doc_op.specs.Actions.{actions, actions_from, component_actions};
 ghost use Rattle.doc_op.specs.Cursors.{IsSoundFrom, IsPast, head_text};
 
 use crate::{AttributePart, Component, ContentRun, DocOp, Head};
-use annotation_track::Track;
-use doc_items::{Changes, Memory};
+use change_table::{ChangeTable, Touched};
+use doc_items::Memory;
 use std::alloc::Global;
 use std::marker::Model;
 
@@ -21,21 +22,20 @@ pub struct Cursor<'a> {
     // The number of actions of the first, and its characters.
     len: u64,
     text: Vec<char>,
-    track: Track,
+    running: ChangeTable,
 }
 
 impl<'a> Model for Cursor<'a> {
-    ghost use Rattle.doc_items.specs.Changes.{change_set};
     ghost use Rattle.doc_op.specs.Cursors.{Way, way_code, way, IsSoundFrom, IsHead};
 
     ghost Value = { Way };
 
     ghost coded = { way_code };
 
-    ghost view = { λ c. way (change_set c.track) c.rest.now c.used };
+    ghost view = { λ c. way c.running c.rest.now c.used };
 
-    ghost invariant = { λ c. IsSoundFrom (change_set c.track) c.rest.now
-        × IsHead (change_set c.track) c.rest.now c.used c.len c.text.items };
+    ghost invariant = { λ c. IsSoundFrom c.running c.rest.now
+        × IsHead c.running c.rest.now c.used c.len c.text.items };
 }
 
 // What is left of a text.
@@ -49,18 +49,20 @@ fn characters(text: &[char], used: u64) -> ContentRun<'_>
 // Goes past the boundaries at the front of an operation's components.
 fn past_boundaries<'a>(
     alloc: Global,
-    track: &mut Track,
+    running: &mut ChangeTable,
+    touched: &mut Touched,
     components: &'a [Component],
 ) -> Result<&'a [Component], Memory>
-    requires { IsSoundFrom (change_set track.old) components.now }
-    ensures sound { IfOk result (λ cs. IsSoundFrom (change_set track.new) cs.now) }
-    ensures same { IfOk result
-        (λ cs. actions_from (change_set track.new) cs.now ≡ actions_from (change_set track.old) components.entry.now) }
+    requires { IsSoundFrom running.old components.now }
+    ensures sound { IfOk result (λ cs. IsSoundFrom running.new cs.now) }
+    ensures same { IfOk result (λ cs. actions_from running.new cs.now ≡ actions_from running.old components.entry.now) }
     ensures past { IfOk result (λ cs. IsPast cs.now) }
+    ensures touched { IfOk result (λ _. Touches touched.old running.old touched.new running.new) }
 {
     let mut rest = components;
     while let Some(Component::AnnotationBoundary(boundary)) = rest.first() {
-        track.step(alloc, boundary)?;
+        running.step(alloc, boundary)?;
+        touched.add(alloc, boundary)?;
         rest = &rest[1..];
     }
     Ok(rest)
@@ -116,17 +118,19 @@ impl<'a> Cursor<'a> {
             used: 0,
             len: 0,
             text: Vec::new(alloc),
-            track: Track::new(alloc),
+            running: ChangeTable::new(alloc),
         };
-        cursor.enter(alloc, op.as_slice())?;
+        cursor.enter(alloc, op.as_slice(), &mut Touched::any())?;
         Ok(cursor)
     }
 
-    /// Goes past so many actions of the run. After want of memory nothing is left.
-    pub fn skip(&mut self, alloc: Global, count: u64) -> Result<(), Memory>
+    /// Goes past so many actions of the run, and notes the keys at which changes start or end on the way. After want of memory nothing
+    /// is left.
+    pub fn skip(&mut self, alloc: Global, count: u64, touched: &mut Touched) -> Result<(), Memory>
         requires some { 0 < count }
         requires fits { count ≤ length self.old.front }
-        ensures { OnOk result (left self.new ≡ drop count (left self.old)) }
+        ensures left { OnOk result (left self.new ≡ drop count (left self.old)) }
+        ensures touched { OnOk result (Touches touched.old self.old.under touched.new self.new.under) }
     {
         let used = self.used + count;
         if used < self.len {
@@ -134,16 +138,22 @@ impl<'a> Cursor<'a> {
             return Ok(());
         }
         let behind = &self.rest[1..];
-        self.enter(alloc, behind)
+        self.enter(alloc, behind, touched)
     }
 
     // Goes to the first of these components that has actions.
-    fn enter(&mut self, alloc: Global, components: &'a [Component]) -> Result<(), Memory>
+    fn enter(
+        &mut self,
+        alloc: Global,
+        components: &'a [Component],
+        touched: &mut Touched,
+    ) -> Result<(), Memory>
         requires { IsSoundFrom self.old.under components.now }
-        ensures { OnOk result (left self.new ≡ actions_from self.old.under components.entry.now) }
+        ensures left { OnOk result (left self.new ≡ actions_from self.old.under components.entry.now) }
+        ensures touched { OnOk result (Touches touched.old self.old.under touched.new self.new.under) }
     {
         self.rest = &[];
-        let rest = past_boundaries(alloc, &mut self.track, components)?;
+        let rest = past_boundaries(alloc, &mut self.running, touched, components)?;
         let Some(first) = rest.first() else {
             return Ok(());
         };
@@ -188,11 +198,10 @@ impl<'a> Cursor<'a> {
         }
     }
 
-    /// The running changes, in byte order of their keys.
-    pub fn running(&self) -> &Changes
-        ensures value { change_set result.now ≡ self.now.under }
-        ensures ascending { IsAscending result.now }
+    /// The running changes.
+    pub fn running(&self) -> &ChangeTable
+        ensures { result.now ≡ self.now.under }
     {
-        self.track.running()
+        &self.running
     }
 }

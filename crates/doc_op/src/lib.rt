@@ -9,10 +9,12 @@ mod fault;
 mod keys;
 mod normal;
 mod normal_builder;
+mod normal_output;
 mod op;
 mod open;
 mod run;
 mod running;
+mod shown_changes;
 
 pub use builder::Builder;
 pub use component::Component;

@@ -1,14 +1,13 @@
-ghost use Rattle.std.specs.Prelude.{◌≡◌, ◌≤◌, ◌+◌, ◌++◌, ◌∷◌, [], List, length, IfOk, OnOk};
+ghost use Rattle.std.specs.Prelude.{◌≡◌, ◌≤◌, List, IfOk};
 ghost use Rattle.doc_items.specs.Limits.{max_count};
-ghost use Rattle.doc_op.specs.Actions.{Action, Keep, actions};
+ghost use Rattle.doc_op.specs.Actions.{Action, actions};
 ghost use Rattle.doc_op.specs.Cursors.{left};
 ghost use Rattle.doc_op.specs.Lengths.{input_len, output_len};
 ghost use Rattle.doc_op.specs.Normal.{normal_form, AreWritable};
 ghost use Rattle.doc_op.specs.Refusals.{IsBuilt};
-ghost use Rattle.doc_op.specs.Runs.{part_change, IsFitPart};
 
-use crate::{AttributePart, Cursor, DocOp, Head, NormalBuilder};
-use change_view::ChangeView;
+use crate::normal_output::NormalOutput;
+use crate::{Cursor, DocOp};
 use doc_items::Memory;
 use std::alloc::Global;
 
@@ -42,66 +41,12 @@ fn written(alloc: Global, mut cursor: Cursor<'_>) -> Result<DocOp, Memory>
     ensures normal { IfOk result (λ op. op ≡ normal_form (left cursor.entry)) }
     ensures actions { IfOk result (λ op. actions op ≡ left cursor.entry) }
 {
-    let mut out = NormalBuilder::new(alloc);
+    let mut out = NormalOutput::new(alloc);
     loop {
-        let count = add_run(alloc, &mut out, &cursor)?;
+        let count = out.add(alloc, &cursor)?;
         if count == 0 {
             return out.finish(alloc);
         }
-        cursor.skip(alloc, count)?;
-    }
-}
-
-// Adds the run at which the cursor stands, and tells its length, which is 0 where nothing is left.
-fn add_run(alloc: Global, out: &mut NormalBuilder, cursor: &Cursor<'_>) -> Result<u64, Memory>
-    requires input { input_len out.old + input_len cursor.now.front ≤ max_count }
-    requires output { output_len out.old + output_len cursor.now.front ≤ max_count }
-    ensures added { IfOk result (λ _. out.new ≡ out.old ++ cursor.now.front) }
-    ensures count { IfOk result (λ count. count ≡ length cursor.now.front) }
-    ensures end { IfOk result (λ count. count ≡ 0 → left cursor.now ≡ []) }
-{
-    let changes = ChangeView::of(alloc, cursor.running())?;
-    match cursor.head() {
-        Head::Keep(count) => {
-            out.keep(alloc, count, &changes)?;
-            Ok(count)
-        }
-        Head::Change(part) => {
-            add_change(alloc, out, &changes, part)?;
-            Ok(1)
-        }
-        Head::Insert(run) => {
-            out.insert(alloc, run, &changes)?;
-            Ok(run.len())
-        }
-        Head::Delete(run) => {
-            out.delete(alloc, run, &changes)?;
-            Ok(run.len())
-        }
-        Head::Nothing => Ok(0),
-    }
-}
-
-fn add_change(
-    alloc: Global,
-    out: &mut NormalBuilder,
-    changes: &ChangeView<'_>,
-    part: AttributePart<'_>,
-) -> Result<(), Memory>
-    requires fit { IsFitPart part }
-    requires input { input_len out.old + 1 ≤ max_count }
-    requires output { output_len out.old + 1 ≤ max_count }
-    ensures { OnOk result (out.new ≡ out.old ++ Keep changes.now (part_change part.entry) ∷ []) }
-{
-    match part {
-        AttributePart::Update(updates) => {
-            let updates = ChangeView::of(alloc, updates)?;
-            out.update(alloc, changes, &updates)?;
-            Ok(())
-        }
-        AttributePart::Replace { old, new } => {
-            out.replace(alloc, changes, old, new)?;
-            Ok(())
-        }
+        out.pass(alloc, &mut cursor, count)?;
     }
 }

@@ -1,19 +1,22 @@
-ghost use Rattle.std.specs.Prelude.{◌≡◌, ◌≢◌, ◌&&◌, ◌+◌, ◌≤◌, ◌<◌, ◌++◌, ◌∷◌, [], map, replicate, length, IfOk, OnOk, OnErr};
+ghost use Rattle.std.specs.Prelude.{◌≡◌, ◌≢◌, ◌&&◌, ◌+◌, ◌≤◌, ◌<◌, ◌++◌, ◌∷◌, [], map, replicate, length, IfOk, IfSome, OnOk, OnErr};
 ghost use Rattle.doc_items.specs.Limits.{max_count};
-ghost use Rattle.doc_items.specs.Changes.{Fits, none_running, change_set, after_boundary};
-ghost use Rattle.change_view.specs.Sets.{same_changes, as_inserted, as_deleted};
+ghost use Rattle.doc_items.specs.Changes.{ChangeSet, Fits, none_running, after_boundary};
+ghost use Rattle.change_view.specs.Sets.{as_inserted, as_deleted};
+ghost use Rattle.change_table.specs.Keys.{AgreeBut};
+ghost use Rattle.change_table.specs.Joints.{together, IsTurn};
 ghost use Rattle.doc_op.specs.Actions.{Keep, Update, Replace, keep, insertion, deletion, actions, running, component_actions};
 ghost use Rattle.doc_op.specs.Refusals.{component_len};
-ghost use Rattle.doc_op.specs.Outputs.{open_component, more_component, shut, joins, IsFull, IsSpelling, IsLone, IsSettled};
+ghost use Rattle.doc_op.specs.Outputs.{open_component, more_component, shut, shown_changes, IsReady, IsTurnOf, IsFull, IsSpelling, IsLone, IsSettled};
 ghost use Rattle.doc_op.specs.Lengths.{input_len, output_len};
-ghost use Rattle.doc_op.specs.Normal.{normal_form};
+ghost use Rattle.doc_op.specs.Normal.{normal_form, shown_last};
 ghost use Rattle.doc_op.specs.Runs.{contents};
 
 use crate::open::{More, Open, closed, pushed};
+use crate::shown_changes::Shown;
 use crate::{Component, ContentRun, DocOp};
-use annotation_track::Track;
+use change_table::{ChangeTable, Joint};
 use change_view::ChangeView;
-use doc_items::{Attributes, Boundary, Memory};
+use doc_items::{Attributes, Boundary, Memory, Text};
 use std::alloc::Global;
 use std::marker::Model;
 use std::mem;
@@ -22,7 +25,7 @@ use std::mem;
 pub struct NormalBuilder {
     // The components that are done, the changes that run after them, and the last component.
     done: DocOp,
-    track: Track,
+    written: ChangeTable,
     last: Open,
 }
 
@@ -30,7 +33,7 @@ impl Drop for NormalBuilder {
     fn drop(self) {
         let NormalBuilder {
             done: _done,
-            track: _track,
+            written: _written,
             last: _last,
         } = self;
     }
@@ -39,7 +42,6 @@ impl Drop for NormalBuilder {
 impl Model for NormalBuilder {
     ghost use Rattle.std.specs.Prelude.{List, ◌++◌};
     ghost use Rattle.std.specs.Coded.{coded_list};
-    ghost use Rattle.doc_items.specs.Changes.{change_set};
     ghost use Rattle.doc_op.specs.Actions.{Action, actions};
     ghost use Rattle.doc_op.specs.Codes.{action_code};
     ghost use Rattle.doc_op.specs.Outputs.{open_component, shut, IsOpenNormal};
@@ -51,45 +53,30 @@ impl Model for NormalBuilder {
     ghost view = { λ b. actions (b.done ++ shut (open_component b.last)) };
 
     ghost invariant = { λ b. IsOpenNormal (actions (b.done ++ shut (open_component b.last))) b.done (open_component b.last)
-        (change_set b.track) };
+        b.written };
 }
 
-// Whether these changes run.
-fn runs(track: &Track, shown: &ChangeView<'_>) -> bool
-    ensures { result ≡ same_changes (change_set track.now) shown.now }
-{
-    shown.same_as(track.running())
-}
-
-// Whether the last component goes on with this one, over which the changes are shown.
-fn is_continued(last: &Open, track: &Track, more: More<'_>, shown: &ChangeView<'_>) -> bool
-    ensures { result ≡ (joins (open_component last.now) (more_component more.entry) && same_changes (change_set track.now) shown.now) }
-{
-    last.is_joined_by(more) && runs(track, shown)
-}
-
-// The components with the last, which grows no more, and after them these changes.
+// The components with the last, which grows no more, and after them the boundary, if there is one; and what runs then.
 fn settled(
     alloc: Global,
     done: DocOp,
     last: Open,
-    track: Track,
-    shown: &ChangeView<'_>,
-) -> Result<(DocOp, Track), Memory>
-    requires runs { running done ≡ change_set track }
+    written: ChangeTable,
+    turn: Option<Boundary>,
+) -> Result<(DocOp, ChangeTable), Memory>
+    requires runs { running done ≡ written }
+    requires turn { IfSome turn (IsTurnOf written) }
     requires full { IsFull (open_component last) }
     requires input { input_len (actions (done ++ shut (open_component last))) ≤ max_count }
     requires output { output_len (actions (done ++ shut (open_component last))) ≤ max_count }
-    ensures settled { IfOk result (λ r. IsSettled done (open_component last) (change_set track) shown.now r.0) }
-    ensures track { IfOk result (λ r. change_set r.1 ≡ shown.now) }
+    ensures settled { IfOk result (λ r. (w : ChangeSet) → IsTurn turn written w → IsSettled done (open_component last) written w r.0) }
+    ensures written { IfOk result (λ r. (w : ChangeSet) → IsTurn turn written w → r.1 ≡ w) }
 {
     let done = closed(alloc, done, last)?;
-    if runs(&track, shown) {
-        return Ok((done, track));
+    match turn {
+        Some(boundary) => turned(alloc, done, written, boundary),
+        None => Ok((done, written)),
     }
-    let boundary = shown.boundary_from(alloc, track.running())?;
-    let (done, track) = turned(alloc, done, track, boundary)?;
-    Ok((done, track))
 }
 
 // The components with a boundary more, and what runs after it.
@@ -97,22 +84,22 @@ fn settled(
 fn turned(
     alloc: Global,
     done: DocOp,
-    mut track: Track,
+    mut written: ChangeTable,
     boundary: Boundary,
-) -> Result<(DocOp, Track), Memory>
-    requires runs { running done ≡ change_set track }
+) -> Result<(DocOp, ChangeTable), Memory>
+    requires runs { running done ≡ written }
     requires some { 0 < component_len (Component.AnnotationBoundary boundary) }
-    requires fits { Fits (change_set track) boundary }
+    requires fits { Fits written boundary }
     requires input { input_len (actions done) ≤ max_count }
     requires output { output_len (actions done) ≤ max_count }
     ensures value { IfOk result (λ r. r.0 ≡ done ++ Component.AnnotationBoundary boundary ∷ []) }
-    ensures track { IfOk result (λ r. change_set r.1 ≡ after_boundary (change_set track) boundary) }
-    ensures runs { IfOk result (λ r. running r.0 ≡ after_boundary (change_set track) boundary) }
+    ensures written { IfOk result (λ r. r.1 ≡ after_boundary written boundary) }
+    ensures runs { IfOk result (λ r. running r.0 ≡ after_boundary written boundary) }
     ensures acts { IfOk result (λ r. actions r.0 ≡ actions done) }
 {
-    track.step(alloc, &boundary)?;
+    written.step(alloc, &boundary)?;
     let done = pushed(done, Component::AnnotationBoundary(boundary))?;
-    Ok((done, track))
+    Ok((done, written))
 }
 
 impl NormalBuilder {
@@ -122,7 +109,7 @@ impl NormalBuilder {
     {
         NormalBuilder {
             done: DocOp::new(alloc),
-            track: Track::new(alloc),
+            written: ChangeTable::new(alloc),
             last: Open::Nothing,
         }
     }
@@ -143,22 +130,36 @@ impl NormalBuilder {
         self,
         alloc: Global,
         more: More<'_>,
-        shown: &ChangeView<'_>,
+        shown: Shown<'_, '_>,
     ) -> Result<NormalBuilder, Memory>
         requires some { 0 < component_len (more_component more) }
-        requires spelled { IsSpelling shown.now (more_component more) }
-        requires input { input_len (self ++ component_actions shown.now (more_component more)) ≤ max_count }
-        requires output { output_len (self ++ component_actions shown.now (more_component more)) ≤ max_count }
-        ensures { IfOk result (λ b. b ≡ self ++ component_actions shown.now (more_component more.entry)) }
+        requires ready { IsReady shown (shown_last self) }
+        requires spelled { IsSpelling (shown_changes shown) (more_component more) }
+        requires input { input_len (self ++ component_actions (shown_changes shown) (more_component more)) ≤ max_count }
+        requires output { output_len (self ++ component_actions (shown_changes shown) (more_component more)) ≤ max_count }
+        ensures { IfOk result (λ b. b ≡ self ++ component_actions (shown_changes shown.entry) (more_component more.entry)) }
     {
-        let NormalBuilder { done, track, last } = self;
-        if is_continued(&last, &track, more, shown) {
+        let NormalBuilder {
+            done,
+            written,
+            last,
+        } = self;
+        let turn = shown.turn_from(alloc, &written)?;
+        if turn.is_none() && last.is_joined_by(more) {
             let last = last.joined(more)?;
-            return Ok(NormalBuilder { done, track, last });
+            return Ok(NormalBuilder {
+                done,
+                written,
+                last,
+            });
         }
-        let (done, track) = settled(alloc, done, last, track, shown)?;
+        let (done, written) = settled(alloc, done, last, written, turn)?;
         let last = more.to_open(alloc)?;
-        Ok(NormalBuilder { done, track, last })
+        Ok(NormalBuilder {
+            done,
+            written,
+            last,
+        })
     }
 
     // With a component that joins no other.
@@ -166,19 +167,25 @@ impl NormalBuilder {
         self,
         alloc: Global,
         component: Component,
-        shown: &ChangeView<'_>,
+        shown: Shown<'_, '_>,
     ) -> Result<NormalBuilder, Memory>
-        requires lone { IsLone shown.now component }
-        requires input { input_len (self ++ component_actions shown.now component) ≤ max_count }
-        requires output { output_len (self ++ component_actions shown.now component) ≤ max_count }
-        ensures { IfOk result (λ b. b ≡ self ++ component_actions shown.now component) }
+        requires ready { IsReady shown (shown_last self) }
+        requires lone { IsLone (shown_changes shown) component }
+        requires input { input_len (self ++ component_actions (shown_changes shown) component) ≤ max_count }
+        requires output { output_len (self ++ component_actions (shown_changes shown) component) ≤ max_count }
+        ensures { IfOk result (λ b. b ≡ self ++ component_actions (shown_changes shown.entry) component) }
     {
-        let NormalBuilder { done, track, last } = self;
-        let (done, track) = settled(alloc, done, last, track, shown)?;
+        let NormalBuilder {
+            done,
+            written,
+            last,
+        } = self;
+        let turn = shown.turn_from(alloc, &written)?;
+        let (done, written) = settled(alloc, done, last, written, turn)?;
         let done = pushed(done, component)?;
         Ok(NormalBuilder {
             done,
-            track,
+            written,
             last: Open::Nothing,
         })
     }
@@ -188,13 +195,14 @@ impl NormalBuilder {
         self,
         alloc: Global,
         run: ContentRun<'_>,
-        shown: &ChangeView<'_>,
+        shown: Shown<'_, '_>,
     ) -> Result<NormalBuilder, Memory>
-        requires shown { as_inserted shown.now ≡ shown.now }
+        requires ready { IsReady shown (shown_last self) }
+        requires shown { as_inserted (shown_changes shown) ≡ shown_changes shown }
         requires some { 0 < length (contents run) }
-        requires input { input_len (self ++ map (insertion shown.now) (contents run)) ≤ max_count }
-        requires output { output_len (self ++ map (insertion shown.now) (contents run)) ≤ max_count }
-        ensures { IfOk result (λ b. b ≡ self ++ map (insertion shown.now) (contents run.entry)) }
+        requires input { input_len (self ++ map (insertion (shown_changes shown)) (contents run)) ≤ max_count }
+        requires output { output_len (self ++ map (insertion (shown_changes shown)) (contents run)) ≤ max_count }
+        ensures { IfOk result (λ b. b ≡ self ++ map (insertion (shown_changes shown.entry)) (contents run.entry)) }
     {
         match run {
             ContentRun::Characters(text) => self.put(alloc, More::Characters(text), shown),
@@ -212,13 +220,14 @@ impl NormalBuilder {
         self,
         alloc: Global,
         run: ContentRun<'_>,
-        shown: &ChangeView<'_>,
+        shown: Shown<'_, '_>,
     ) -> Result<NormalBuilder, Memory>
-        requires shown { as_deleted shown.now ≡ shown.now }
+        requires ready { IsReady shown (shown_last self) }
+        requires shown { as_deleted (shown_changes shown) ≡ shown_changes shown }
         requires some { 0 < length (contents run) }
-        requires input { input_len (self ++ map (deletion shown.now) (contents run)) ≤ max_count }
-        requires output { output_len (self ++ map (deletion shown.now) (contents run)) ≤ max_count }
-        ensures { IfOk result (λ b. b ≡ self ++ map (deletion shown.now) (contents run.entry)) }
+        requires input { input_len (self ++ map (deletion (shown_changes shown)) (contents run)) ≤ max_count }
+        requires output { output_len (self ++ map (deletion (shown_changes shown)) (contents run)) ≤ max_count }
+        ensures { IfOk result (λ b. b ≡ self ++ map (deletion (shown_changes shown.entry)) (contents run.entry)) }
     {
         match run {
             ContentRun::Characters(text) => self.put(alloc, More::DeleteCharacters(text), shown),
@@ -251,7 +260,28 @@ impl NormalBuilder {
             return Ok(());
         }
         let builder = self.take(alloc);
-        *self = builder.put(alloc, More::Retain(count), changes)?;
+        *self = builder.put(alloc, More::Retain(count), Shown::Listed(changes))?;
+        Ok(())
+    }
+
+    /// So many items stay, under the changes that two tables show together. They are those that ran last at each key but `keys`, at
+    /// which alone they are compared.
+    pub fn keep_joint(
+        &mut self,
+        alloc: Global,
+        count: u64,
+        joint: Joint<'_>,
+        keys: &[Text],
+    ) -> Result<(), Memory>
+        requires some { 0 < count }
+        requires ready { AgreeBut keys.now (shown_last self.old) (together joint) }
+        requires input { input_len self.old + count ≤ max_count }
+        requires output { output_len self.old + count ≤ max_count }
+        ensures added { OnOk result (self.new ≡ self.old ++ replicate count (keep (together joint.entry))) }
+        ensures emptied { OnErr result (self.new ≡ []) }
+    {
+        let builder = self.take(alloc);
+        *self = builder.put(alloc, More::Retain(count), Shown::Joint { joint, keys })?;
         Ok(())
     }
 
@@ -270,7 +300,7 @@ impl NormalBuilder {
     {
         let builder = self.take(alloc);
         let component = Component::UpdateAttributes(updates.to_changes(alloc)?);
-        *self = builder.put_lone(alloc, component, changes)?;
+        *self = builder.put_lone(alloc, component, Shown::Listed(changes))?;
         Ok(())
     }
 
@@ -291,7 +321,7 @@ impl NormalBuilder {
         let old = old.copy()?;
         let new = new.copy()?;
         let component = Component::ReplaceAttributes { old, new };
-        *self = builder.put_lone(alloc, component, changes)?;
+        *self = builder.put_lone(alloc, component, Shown::Listed(changes))?;
         Ok(())
     }
 
@@ -311,7 +341,28 @@ impl NormalBuilder {
         }
         let builder = self.take(alloc);
         let shown = changes.inserted(alloc)?;
-        *self = builder.put_inserted(alloc, run, &shown)?;
+        *self = builder.put_inserted(alloc, run, Shown::Listed(&shown))?;
+        Ok(())
+    }
+
+    /// The run is inserted under the changes that two tables show together, each from absent to a new value. They are those that ran
+    /// last at each key but `keys`, at which alone they are compared.
+    pub fn insert_joint(
+        &mut self,
+        alloc: Global,
+        run: ContentRun<'_>,
+        joint: Joint<'_>,
+        keys: &[Text],
+    ) -> Result<(), Memory>
+        requires some { 0 < length (contents run) }
+        requires shown { as_inserted (together joint) ≡ together joint }
+        requires ready { AgreeBut keys.now (shown_last self.old) (together joint) }
+        requires output { output_len self.old + length (contents run) ≤ max_count }
+        ensures added { OnOk result (self.new ≡ self.old ++ map (insertion (together joint.entry)) (contents run.entry)) }
+        ensures emptied { OnErr result (self.new ≡ []) }
+    {
+        let builder = self.take(alloc);
+        *self = builder.put_inserted(alloc, run, Shown::Joint { joint, keys })?;
         Ok(())
     }
 
@@ -331,7 +382,28 @@ impl NormalBuilder {
         }
         let builder = self.take(alloc);
         let shown = changes.deleted(alloc)?;
-        *self = builder.put_deleted(alloc, run, &shown)?;
+        *self = builder.put_deleted(alloc, run, Shown::Listed(&shown))?;
+        Ok(())
+    }
+
+    /// The run is deleted under the changes that two tables show together, each from an old value to absent. They are those that ran
+    /// last at each key but `keys`, at which alone they are compared.
+    pub fn delete_joint(
+        &mut self,
+        alloc: Global,
+        run: ContentRun<'_>,
+        joint: Joint<'_>,
+        keys: &[Text],
+    ) -> Result<(), Memory>
+        requires some { 0 < length (contents run) }
+        requires shown { as_deleted (together joint) ≡ together joint }
+        requires ready { AgreeBut keys.now (shown_last self.old) (together joint) }
+        requires input { input_len self.old + length (contents run) ≤ max_count }
+        ensures added { OnOk result (self.new ≡ self.old ++ map (deletion (together joint.entry)) (contents run.entry)) }
+        ensures emptied { OnErr result (self.new ≡ []) }
+    {
+        let builder = self.take(alloc);
+        *self = builder.put_deleted(alloc, run, Shown::Joint { joint, keys })?;
         Ok(())
     }
 
@@ -340,9 +412,13 @@ impl NormalBuilder {
         ensures normal { IfOk result (λ op. op ≡ normal_form self) }
         ensures actions { IfOk result (λ op. actions op ≡ self) }
     {
-        let NormalBuilder { done, track, last } = self;
-        let none = ChangeView::empty(alloc);
-        let (done, _track) = settled(alloc, done, last, track, &none)?;
+        let NormalBuilder {
+            done,
+            written,
+            last,
+        } = self;
+        let turn = written.turn_to(alloc, &ChangeView::empty(alloc))?;
+        let (done, _written) = settled(alloc, done, last, written, turn)?;
         Ok(done)
     }
 }

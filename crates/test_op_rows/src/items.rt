@@ -3,8 +3,9 @@ ghost use Rattle.std.specs.Prelude.{IfOk};
 ghost use Rattle.doc_items.specs.Changes.{IsAscending};
 
 use crate::fault::Fault;
+use change_table::ChangeTable;
 use change_view::{ChangeView, Rule, Test};
-use doc_items::{Boundary, Change, Changes, Memory, Notes, Text, TextMap};
+use doc_items::{Boundary, Change, Changes, Keys, Memory, Notes, Text, TextMap};
 use std::alloc::Global;
 use test_row_words::{parts, put, put_either, put_number};
 
@@ -184,12 +185,18 @@ fn put_step<'a>(
     next: &'a Changes,
     out: &mut String,
 ) -> Result<(), Fault>
-    requires running { IsAscending running.now }
-    requires next { IsAscending next.now }
+    requires { IsAscending next.now }
 {
-    let view = ChangeView::of(alloc, next)?;
-    put_either(out, view.same_as(running), "same", "other")?;
-    put_boundary(&view.boundary_from(alloc, running)?, out)
+    let end = Keys::from_vec(Vec::new(alloc));
+    let change = running.copy(alloc)?;
+    let mut table = ChangeTable::new(alloc);
+    table.step(alloc, &Boundary { end, change })?;
+    let turn = table.turn_to(alloc, &ChangeView::of(alloc, next)?)?;
+    put_either(out, turn.is_none(), "same", "other")?;
+    match turn {
+        Some(boundary) => put_boundary(&boundary, out),
+        None => Ok(out.push_str(" =>")?),
+    }
 }
 
 // Whether the changes that run and the next ones are the same, and the boundary between them.

@@ -1,13 +1,14 @@
 use Rattle.std.proofs.Common.{◌≡◌, length}
-use Rattle.doc_items.specs.Changes.{change_set}
+use Rattle.change_table.specs.Keys.{Touches}
 use Rattle.doc_op.specs.Actions.{actions_from}
 use Rattle.doc_op.specs.Cursors.{IsSoundFrom}
 use Rattle.doc_op.proofs.cursor.past_boundaries.Given as goal
 
 abbrev pub invariant-loop-boundary : goal.invariant-loop-boundary
 invariant-loop-boundary l = record {
-  sound : IsSoundFrom (change_set l.track) l.rest;
-  same : actions_from (change_set l.track) l.rest ≡ actions_from (change_set l.fn.track) l.fn.components;
+  sound : IsSoundFrom l.running l.rest;
+  same : actions_from l.running l.rest ≡ actions_from l.fn.running l.fn.components;
+  touched : Touches l.fn.touched l.fn.running l.touched l.running;
 }
 
 abbrev pub decreases-loop-boundary : goal.decreases-loop-boundary

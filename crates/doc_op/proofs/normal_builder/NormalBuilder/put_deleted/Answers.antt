@@ -5,12 +5,13 @@ use Rattle.doc_op.specs.declared.run.ContentRun.{ContentRun}
 use Rattle.doc_op.specs.Actions.{deletion}
 use Rattle.doc_op.specs.Lengths.{input_len, output_len}
 use Rattle.doc_op.specs.Runs.{contents}
+use Rattle.doc_op.specs.Outputs.{shown_changes}
 use Rattle.doc_op.proofs.Cursors.{mapped_twice, some_text}
 use Rattle.doc_op.proofs.Spelling.{spelling_deletion, spelling_deleted_start, spelling_deleted_end}
 use Rattle.doc_op.proofs.normal_builder.NormalBuilder.put_deleted.Goals as goal
 
-same : (c : goal.In-Characters) → map (deletion c.args.shown.now) (contents c.args.run) ≡ map (λ x. deletion c.args.shown.now (Character x)) c.in-Characters.text.now
-same c = ap (λ (r : ContentRun). map (deletion c.args.shown.now) (contents r)) c.in-Characters.is ∙ mapped_twice (deletion c.args.shown.now) c.in-Characters.text.now
+same : (c : goal.In-Characters) → map (deletion (shown_changes c.args.shown)) (contents c.args.run) ≡ map (λ x. deletion (shown_changes c.args.shown) (Character x)) c.in-Characters.text.now
+same c = ap (λ (r : ContentRun). map (deletion (shown_changes c.args.shown)) (contents r)) c.in-Characters.is ∙ mapped_twice (deletion (shown_changes c.args.shown)) c.in-Characters.text.now
 
 some : (c : goal.In-Characters) → 0 < length c.in-Characters.text.now
 some c = some_text c.in-Characters.text.now (subst (λ (r : ContentRun). 0 < length (contents r)) c.in-Characters.is c.requires.some)
@@ -19,7 +20,7 @@ pub put-requires-clause-some : goal.put-requires-clause-some
 put-requires-clause-some c = some c
 
 pub put-requires-clause-spelled : goal.put-requires-clause-spelled
-put-requires-clause-spelled c = spelling_deletion c.args.shown.now c.in-Characters.text.now c.requires.shown (some c)
+put-requires-clause-spelled c = spelling_deletion (shown_changes c.args.shown) c.in-Characters.text.now c.requires.shown (some c)
 
 pub put-requires-clause-input : goal.put-requires-clause-input
 put-requires-clause-input c = subst (λ acts. input_len (c.args.self ++ acts) ≤ max_count) (same c) c.requires.input
@@ -32,7 +33,7 @@ put_lone-requires-clause-lone c = record {
   lone = refl;
   some = omega arith;
   fit = tt;
-  spelled = spelling_deleted_start c.args.shown.now c.in_ok-kind-in-Start.kind c.in_ok-attributes-in-Start.attributes c.requires.shown;
+  spelled = spelling_deleted_start (shown_changes c.args.shown) c.in_ok-kind-in-Start.kind c.in_ok-attributes-in-Start.attributes c.requires.shown;
 }
 
 pub put_lone-requires-in-End-clause-lone : goal.put_lone-requires-in-End-clause-lone
@@ -40,10 +41,10 @@ put_lone-requires-in-End-clause-lone c = record {
   lone = refl;
   some = omega arith;
   fit = tt;
-  spelled = spelling_deleted_end c.args.shown.now c.requires.shown;
+  spelled = spelling_deleted_end (shown_changes c.args.shown) c.requires.shown;
 }
 
 pub returns-in-Characters : goal.returns-in-Characters
 returns-in-Characters c =
-    let text = ap (λ (r : ContentRun). map (deletion c.args.shown.now) (contents r)) c.in-Characters.is ∙ mapped_twice (deletion c.args.shown.now) c.in-Characters.text.now in
+    let text = ap (λ (r : ContentRun). map (deletion (shown_changes c.args.shown)) (contents r)) c.in-Characters.is ∙ mapped_twice (deletion (shown_changes c.args.shown)) c.in-Characters.text.now in
     subst (λ acts. IfOk c.put.result (λ b. b ≡ c.args.self ++ acts)) (sym text) c.put.ensures

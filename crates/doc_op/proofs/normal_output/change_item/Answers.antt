@@ -1,7 +1,7 @@
 use Rattle.std.proofs.Common.{sym, subst, ◌∙◌}
 use Rattle.doc_op.specs.Runs.{IsFitPart}
 use Rattle.doc_op.proofs.Cursors.{some_changes}
-use Rattle.doc_op.proofs.normal.add_change.Goals as goal
+use Rattle.doc_op.proofs.normal_output.change_item.Goals as goal
 
 pub update-requires-clause-spelled : goal.update-requires-clause-spelled
 update-requires-clause-spelled c =
