@@ -7,5 +7,6 @@ pub mod Named
 pub mod Rows
 pub mod Rooms
 pub mod Keys
+pub mod Touches
 pub mod Arms
 pub mod Steps

@@ -1,7 +1,7 @@
 -- What the composition makes of runs, whatever follows.
 --     deleted_first, inserted_second     a deletion of the first operation, an insertion of the second
 --     keeps_*, inserted_keep_*, keep_deleted_*, inserted_deleted_*     both operations at items that the first gives: they meet, or don't agree
-use Rattle.std.proofs.Common.{◌≡◌, ℕ, zero, suc, ◌+◌, ◌<◌, ◌≤◌, Bool, true, false, cond, ◌&&◌, List, [], ◌∷◌, ◌++◌, length, map, replicate, refl, sym, ap, ◌∙◌, arith, true≢false, Err, Option, None, Some}
+use Rattle.std.proofs.Common.{◌≡◌, ℕ, zero, suc, ◌+◌, ◌<◌, Bool, true, false, cond, ◌&&◌, List, [], ◌∷◌, ◌++◌, length, map, replicate, refl, sym, ap, ◌∙◌, arith, true≢false, Err, Option, None, Some}
 use Rattle.std.proofs.lemmas.Bool.{and_parts, and_from}
 use Rattle.doc_items.specs.Changes.{ChangeSet}
 use Rattle.doc_items.specs.declared.item.Content.{Content}
@@ -14,11 +14,11 @@ use Rattle.doc_items.specs.Maps.{matches}
 use Rattle.doc_op.specs.declared.run.AttributePart.{AttributePart}
 use Rattle.op_compose.specs.Chains.{follows, then, attributes_back, attributes_follow, attributes_then}
 use Rattle.op_compose.specs.Compose.{ahead, compose}
-use Rattle.op_compose.specs.Ahead.{kept_change, IsFitPartOf}
-use Rattle.op_compose.specs.Weaves.{common, all_agree}
+use Rattle.op_runs.specs.Kept.{kept_change, IsFitPartOf}
+use Rattle.op_runs.specs.Contents.{common, all_agree}
 use Rattle.op_compose.proofs.Fronts.{when, unless, Meets, Stops, MeetsSecond, meets_none, one_more, ahead_none}
 use Rattle.op_compose.proofs.Named.{named_there, agrees_there, put_new, named_follows, names_old}
-use Rattle.op_compose.proofs.Runs.{all_unchanged}
+use Rattle.op_runs.proofs.Runs.{all_unchanged}
 
 -- ---- one operation alone
 
@@ -161,8 +161,3 @@ inserted_deleted_unlike (c ∷ cs) (d ∷ es) w u l h e =
           record { is = λ f s. when _ _ _ (and_from _ _ t (named_there w u ∙ h)) ∙ ap (ahead [] 1) (rest.is f s) ∙ ap Err (one ∙ sym here) }
       | false ↦ λ t. record { is = λ f s. unless _ _ _ (ap (λ b. b && matches named (old_values u) (new_values w)) t) ∙ ap Err (sym (ap (λ b. cond b (suc (common es cs)) 0) t)) }
     ] refl
-
-pub common_le : (es cs : List Content) → length es ≡ length cs → common es cs ≤ length cs
-common_le [] cs l = omega arith
-common_le (e ∷ es) [] l = absurd (omega (arith, l))
-common_le (e ∷ es) (c ∷ cs) l = let r = common_le es cs (omega (arith, l)) in elim (same_content e c) as (λ b. cond b (suc (common es cs)) 0 ≤ suc (length cs)) [ true ↦ omega (arith, r) | false ↦ omega arith ]

@@ -3,29 +3,32 @@
 --     room_first, room_second     there is room for a run
 --     goes_*                 a step goes past runs
 --     unfit_both             a step is refused
+--     moved                  the cursors stand after a step
 --     giving_*, taking_*     runs that give items, and runs that take them
-use Rattle.std.proofs.Common.{◌≡◌, ℕ, zero, suc, ◌+◌, ◌<◌, ◌≤◌, Bool, false, List, [], ◌∷◌, ◌++◌, length, map, replicate, take, drop, refl, sym, ap, subst, ◌∙◌, arith, Ok, Err, length-append, length-drop}
+use Rattle.std.proofs.Common.{◌≡◌, ℕ, zero, suc, ◌+◌, ◌<◌, ◌≤◌, Bool, false, Option, List, [], ◌∷◌, ◌++◌, length, map, replicate, take, drop, refl, sym, ap, subst, ◌∙◌, arith, Ok, Err, length-append, length-drop}
 use Rattle.std.proofs.lemmas.List.{take-append-drop, append-nil, length-map, length-replicate, take-map, length-take-le}
 use Rattle.doc_items.specs.Changes.{ChangeSet}
 use Rattle.doc_items.specs.Limits.{max_count}
 use Rattle.doc_items.specs.declared.item.Content.{Content}
 use Rattle.doc_items.specs.declared.item.Item.{Item}
+use Rattle.change_table.specs.Keys.{Touches}
 use Rattle.doc_op.specs.Actions.{AttributeChange, Action, Keep, Ins, insertion, deletion, actions}
 use Rattle.doc_op.specs.Cursors.{Way, left}
 use Rattle.doc_op.specs.declared.component.Component.{Component}
-use Rattle.doc_op.specs.Normal.{normal_form}
+use Rattle.doc_op.specs.Normal.{normal_form, shown_last}
 use Rattle.doc_op.specs.Lengths.{input_len, output_len, inserted_len}
 use Rattle.doc_op.proofs.Lengths.{inserted_len-append}
-use Rattle.op_compose.specs.Ahead.{kept_change, kept_actions, IsFitKept}
+use Rattle.op_runs.specs.Kept.{kept_change, kept_actions, IsFitKept}
 use Rattle.op_compose.specs.Compose.{ahead, compose}
-use Rattle.op_compose.specs.Weaves.{NoDelete, expects, Passed, PassedSecond, Refused, HasRoom, Grows}
-use Rattle.op_compose.specs.Steps.{together, HasAllRoom, Goes, IsUnfit, IsAtEnd, IsStepped, IsComposition, IsDontFit, IsRefused}
-use Rattle.op_compose.specs.declared.ahead.Kept.{Kept}
+use Rattle.op_compose.specs.Weaves.{NoDelete, expects, Passed, PassedSecond, Refused, HasRoom, Grows, IsInStep}
+use Rattle.op_compose.specs.Steps.{together, HasAllRoom, Goes, IsUnfit, IsAtEnd, IsMoved, IsStepped, IsComposition, IsDontFit, IsRefused}
+use Rattle.op_runs.specs.declared.kept.Kept.{Kept}
 use Rattle.op_compose.specs.declared.fault.ComposeFault.{ComposeFault}
 use Rattle.op_compose.specs.declared.fault.ComposeFault.TheVariants.{CountTooLarge, DontFit, Memory}
 use Rattle.op_compose.specs.declared.weave.Weave.{Weave}
 use Rattle.op_compose.proofs.Depths.{composed_structured}
 use Rattle.op_compose.proofs.Rooms.{inserted_len-insertions, inserted_len-drop, both_lengths}
+use Rattle.op_compose.proofs.Touches.{moved_first, moved_second}
 
 -- ---- a run in front
 
@@ -111,8 +114,8 @@ all_room w f s o p h =
 
 -- ---- steps
 
-pub goes_first : (done after : Weave) (f s : Way) (x : List Action) (n : ℕ) → IsFirst f x n → Passed done x [] after → Grows done n after → HasAllRoom done (left f) (left s) → Goes done f s n 0 after
-goes_first done after f s x n h pass grow room =
+pub goes_first : (done after : Weave) (f s : Way) (x : List Action) (n : ℕ) → IsFirst f x n → Passed done x [] after → Grows done n after → HasAllRoom done (left f) (left s) → IsInStep after f.under s.under → Goes done f s n 0 after
+goes_first done after f s x n h pass grow room same =
     let fits = h.fits in
     let len = length-drop n (left f) in
     let all = left_len f in
@@ -121,11 +124,12 @@ goes_first done after f s x n h pass grow room =
       first_fits = fits;
       second_fits = omega arith;
       room = grown done after n (length (drop n (left f)) + inserted_len (left s)) (length (left f) + inserted_len (left s)) room grow (omega (arith, fits, len, all));
+      in_step = same;
     }
 
 pub goes_second : (done after : Weave) (f s : Way) (u w : ChangeSet) (cs : List Content) (n : ℕ) → map (insertion u) cs ≡ s.front → n ≡ length cs → IsFirst s (map (insertion w) cs) n → NoDelete (left f) → PassedSecond done (map (insertion w) cs) after → Grows done n after
-    → HasAllRoom done (left f) (left s) → Goes done f s 0 n after
-goes_second done after f s u w cs n p same h nd pass grow room =
+    → HasAllRoom done (left f) (left s) → IsInStep after f.under s.under → Goes done f s 0 n after
+goes_second done after f s u w cs n p len h nd pass grow room same =
     let fits = h.fits in
     let whole = inserted_front s u cs p in
     let rest : inserted_len (left s) ≡ length cs + inserted_len (drop n (left s)) =
@@ -134,11 +138,12 @@ goes_second done after f s u w cs n p same h nd pass grow room =
       is = ap (expects done (left f)) (front_is s (map (insertion w) cs) n h) ∙ pass (left f) (drop n (left s)) nd;
       first_fits = omega arith;
       second_fits = fits;
-      room = grown done after n (length (left f) + inserted_len (drop n (left s))) (length (left f) + inserted_len (left s)) room grow (omega (arith, rest, same));
+      room = grown done after n (length (left f) + inserted_len (drop n (left s))) (length (left f) + inserted_len (left s)) room grow (omega (arith, rest, len));
+      in_step = same;
     }
 
-pub goes_both : (done after : Weave) (f s : Way) (x y : List Action) (n : ℕ) → IsFirst f x n → IsFirst s y n → Passed done x y after → Grows done n after → HasAllRoom done (left f) (left s) → Goes done f s n n after
-goes_both done after f s x y n h k pass grow room =
+pub goes_both : (done after : Weave) (f s : Way) (x y : List Action) (n : ℕ) → IsFirst f x n → IsFirst s y n → Passed done x y after → Grows done n after → HasAllRoom done (left f) (left s) → IsInStep after f.under s.under → Goes done f s n n after
+goes_both done after f s x y n h k pass grow room same =
     let fits = h.fits in
     let len = length-drop n (left f) in
     let all = left_len f in
@@ -148,12 +153,35 @@ goes_both done after f s x y n h k pass grow room =
       first_fits = fits;
       second_fits = k.fits;
       room = grown done after n (length (drop n (left f)) + inserted_len (drop n (left s))) (length (left f) + inserted_len (left s)) room grow (omega (arith, fits, len, all, less));
+      in_step = same;
     }
 
 pub unfit_both : (done : Weave) (f s : Way) (x y : List Action) (n : ℕ) (e : ComposeFault) → IsFirst f x n → IsFirst s y n → Refused done x y e → IsUnfit e done (left f) (left s)
 unfit_both done f s x y n CountTooLarge h k r = r
 unfit_both done f s x y n (DontFit place) h k r = (λ t. expects done (front_is f x n h t) (front_is s y n k t)) ∙ r (drop n (left f)) (drop n (left s))
 unfit_both done f s x y n Memory h k r = tt
+
+-- ---- the cursors stand after a step
+
+fewer_left : (l m : Way) (n : ℕ) → n ≤ length l.front → left m ≡ drop n (left l) → length (left m) + n ≡ length (left l)
+fewer_left l m n fits e =
+    let rest = ap length e ∙ length-drop n (left l) in
+    let all = left_len l in
+    omega (arith, rest, all, fits)
+
+-- the first operation's cursor goes on by n, and then the second's by m
+pub moved : (done mid : Weave) (f s g t : Way) (n m : ℕ) (touched last : Option (List (List ℕ))) → 0 < n + m → Goes done f s n m mid
+    → left g ≡ drop n (left f) → Touches mid.touched f.under touched g.under → left t ≡ drop m (left s) → Touches touched s.under last t.under
+    → IsMoved done f s (record { out = mid.out; place = mid.place; touched = last }) g t
+moved done mid f s g t n m touched last some h p k q j =
+    let first = fewer_left f g n h.first_fits p in
+    let second = fewer_left s t m h.second_fits q in
+    record {
+      is = h.is ∙ (λ i. expects mid (sym p i) (sym q i));
+      room = subst (λ l. HasAllRoom mid l (left t)) (sym p) (subst (HasAllRoom mid (drop n (left f))) (sym q) h.room);
+      in_step = moved_second touched last (shown_last mid.out) g.under s.under t.under j (moved_first mid.touched touched (shown_last mid.out) f.under g.under s.under k h.in_step);
+      smaller = omega (arith, first, second, some);
+    }
 
 -- ---- runs beside the end of the other operation
 

@@ -15,7 +15,7 @@ use Rattle.doc_op.specs.Lengths.{input_len, inserted_len}
 use Rattle.doc_op.specs.Normal.{normal_form}
 use Rattle.doc_op.specs.Structure.{Structured}
 use Rattle.op_compose.specs.Compose.{compose}
-use Rattle.op_compose.specs.Weaves.{expects, HasRoom}
+use Rattle.op_compose.specs.Weaves.{expects, HasRoom, IsInStep}
 use Rattle.op_compose.specs.declared.fault.ComposeFault.{ComposeFault}
 use Rattle.op_compose.specs.declared.fault.ComposeFault.TheVariants.{CountTooLarge, DontFit, Memory}
 use Rattle.op_compose.specs.declared.step.Progress.{Progress}
@@ -35,6 +35,7 @@ pub record Goes (done : Weave) (f s : Way) (n m : ℕ) (after : Weave) : Type 0 
   pub first_fits : n ≤ length f.front
   pub second_fits : m ≤ length s.front
   pub room : HasAllRoom after (drop n (left f)) (drop m (left s))
+  pub in_step : IsInStep after f.under s.under
 
 abbrev pub IsAtEnd : Weave → Way → Way → Weave → Type 0
 IsAtEnd done f s after = (left f ≡ []) × (left s ≡ []) × (after ≡ done)
@@ -48,6 +49,7 @@ IsStep (Both n) done f s after = (0 < n) × Goes done f s n n after
 pub record IsMoved (done : Weave) (f s : Way) (after : Weave) (f_after s_after : Way) : Type 0 where
   pub is : expects done (left f) (left s) ≡ expects after (left f_after) (left s_after)
   pub room : HasAllRoom after (left f_after) (left s_after)
+  pub in_step : IsInStep after f_after.under s_after.under
   pub smaller : length (left f_after) + length (left s_after) < length (left f) + length (left s)
 
 abbrev pub IsStepped : Bool → Weave → Way → Way → Weave → Way → Way → Type 0

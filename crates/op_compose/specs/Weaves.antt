@@ -1,14 +1,15 @@
 -- What the steps of the composition keep, whatever actions follow.
---     common cs es           how many contents are equal before the first that isn't
---     all_agree a cs         the attribute change a agrees with each content
 --     expects w f s          what comes out in the end, where these actions are still to come
 --     NoDelete f             the actions don't begin with a deletion, so that an insertion of the second operation comes first
 --     Passed, PassedSecond   the walk went past actions of both, or an insertion of the second operation
 --     Refused                it is refused within them
 --     HasRoom w n, Grows     the output and the place have room for n more;  they grow by n at most
+--     IsInStepBut ks v b w u the changes v are b, and u can come after w, at each key but these, which may be any
+--     IsInStep done w u      so for the touched keys, where v was shown last, and b is w and then u
+--     IsKeptTwice            what comes of items that both operations keep
 --     IsInsertedAfter        what comes of an insertion that the second operation keeps
 --     IsDeletedBefore        what comes of a deletion of what the first operation keeps
-use Rattle.std.specs.Prelude.{◌≡◌, ℕ, suc, ◌+◌, ◌≤◌, Bool, true, false, cond, ◌&&◌, List, [], ◌∷◌, ◌++◌, map, Err}
+use Rattle.std.specs.Prelude.{◌≡◌, ℕ, ◌+◌, ◌≤◌, Bool, true, false, ◌&&◌, List, [], ◌∷◌, ◌++◌, map, replicate, Option, None, Some, Err}
 use Rattle.doc_items.specs.Changes.{ChangeSet}
 use Rattle.doc_items.specs.Limits.{max_count}
 use Rattle.doc_items.specs.declared.item.Content.{Content}
@@ -16,23 +17,20 @@ use Rattle.doc_items.specs.declared.item.Item.{Item}
 use Rattle.change_view.specs.declared.rule.Rule.TheVariants.{Second}
 use Rattle.change_view.specs.declared.rule.Test.TheVariants.{NewIsOld, OldIsThere}
 use Rattle.change_view.specs.Sets.{joined, passes}
-use Rattle.doc_op.specs.Actions.{AttributeChange, Action, Ins, insertion, deletion}
-use Rattle.doc_op.specs.Apply.{content_agrees, put_content, same_content}
+use Rattle.change_table.specs.declared.joint.Joint.{Joint}
+use Rattle.change_table.specs.Joints.{together}
+use Rattle.change_table.specs.Keys.{AgreeBut, PassBut}
+use Rattle.doc_op.specs.Actions.{AttributeChange, Action, Keep, Ins, insertion, deletion}
+use Rattle.doc_op.specs.Apply.{put_content}
 use Rattle.doc_op.specs.Lengths.{input_len, output_len}
-use Rattle.op_compose.specs.Chains.{attributes_back}
+use Rattle.doc_op.specs.Normal.{shown_last}
+use Rattle.op_runs.specs.Contents.{all_agree}
+use Rattle.op_runs.specs.Rooms.{HasRoomFor}
+use Rattle.op_compose.specs.Chains.{follows, then, attributes_back, attributes_follow, attributes_then}
 use Rattle.op_compose.specs.Compose.{Composed, ahead, compose}
 use Rattle.op_compose.specs.declared.fault.ComposeFault.{ComposeFault}
 use Rattle.op_compose.specs.declared.fault.ComposeFault.TheVariants.{CountTooLarge, DontFit, Memory}
 use Rattle.op_compose.specs.declared.weave.Weave.{Weave}
-
-abbrev pub common : List Content → List Content → ℕ
-common [] es = 0
-common (c ∷ cs) [] = 0
-common (c ∷ cs) (e ∷ es) = cond (same_content c e) (suc (common cs es)) 0
-
-abbrev pub all_agree : AttributeChange → List Content → Bool
-all_agree a [] = true
-all_agree a (c ∷ cs) = content_agrees a c && all_agree a cs
 
 -- ---- the walk
 
@@ -55,16 +53,28 @@ Refused old x y Memory = Unit {0}
 
 -- ---- lengths
 
-abbrev pub HasRoomFor : List Action → ℕ → Type 0
-HasRoomFor acts n = (input_len acts + n ≤ max_count) × (output_len acts + n ≤ max_count)
-
 abbrev pub HasRoom : Weave → ℕ → Type 0
 HasRoom w n = HasRoomFor w.out n × (w.place + n ≤ max_count)
 
 abbrev pub Grows : Weave → ℕ → Weave → Type 0
 Grows old n new = (input_len new.out ≤ input_len old.out + n) × (output_len new.out ≤ output_len old.out + n) × (new.place ≤ old.place + n)
 
+-- ---- since both operations kept
+
+abbrev pub IsInStepBut : Option (List (List ℕ)) → ChangeSet → ChangeSet → ChangeSet → ChangeSet → Type 0
+IsInStepBut None v b w u = Unit {0}
+IsInStepBut (Some ks) v b w u = AgreeBut ks v b × PassBut ks NewIsOld w u
+
+abbrev pub IsInStep : Weave → ChangeSet → ChangeSet → Type 0
+IsInStep done w u = IsInStepBut done.touched (shown_last done.out) (then w u) w u
+
 -- ---- one output
+
+-- n items, kept under the joint's first changes, stay under its second, and their attributes change by o and then by a
+abbrev pub IsKeptTwice : Bool → Joint → AttributeChange → AttributeChange → ℕ → List Action → List Action → Type 0
+IsKeptTwice false j o a n old new = (follows j.first.now j.second.now && attributes_follow o a) ≡ false
+IsKeptTwice true j o a n old new = ((follows j.first.now j.second.now && attributes_follow o a) ≡ true)
+    × (new ≡ old ++ replicate n (Keep (together j) (attributes_then o a)))
 
 -- the run cs, inserted under w, stays under u, and its attributes change by a
 abbrev pub IsInsertedAfter : Bool → ChangeSet → ChangeSet → AttributeChange → List Content → List Action → List Action → Type 0

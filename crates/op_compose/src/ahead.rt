@@ -1,10 +1,10 @@
 // What the walk finds ahead in an operation.
-ghost use Rattle.std.specs.Prelude.{◌≡◌, ◌≤◌, ◌<◌, take};
-ghost use Rattle.doc_items.specs.Changes.{ChangeSet};
+ghost use Rattle.std.specs.Prelude.{◌≡◌};
 ghost use Rattle.doc_op.specs.Cursors.{left};
-ghost use Rattle.op_compose.specs.Ahead.{ahead_actions, kept_actions, IsFitAhead, IsFitKept, IsLast};
+ghost use Rattle.op_compose.specs.Ahead.{ahead_actions, IsFitAhead, IsLast};
 
-use doc_op::{AttributePart, ContentRun, Cursor, Head};
+use doc_op::{ContentRun, Cursor, Head};
+use op_runs::Kept;
 
 /// The run at which a cursor stands.
 #[derive(Clone, Copy)]
@@ -17,13 +17,6 @@ pub(crate) enum Ahead<'a> {
     Deletes(ContentRun<'a>),
     /// Items stay.
     Keeps(Kept<'a>),
-}
-
-/// So many items that stay; where one element's attributes change, it is one item.
-#[derive(Clone, Copy)]
-pub(crate) struct Kept<'a> {
-    pub count: u64,
-    pub part: Option<AttributePart<'a>>,
 }
 
 /// What a cursor stands at.
@@ -41,23 +34,5 @@ pub(crate) fn ahead_of<'a>(cursor: &'a Cursor<'_>) -> Ahead<'a>
         Head::Insert(run) => Ahead::Inserts(run),
         Head::Delete(run) => Ahead::Deletes(run),
         Head::Nothing => Ahead::Nothing,
-    }
-}
-
-impl<'a> Kept<'a> {
-    /// The first of its items.
-    #[tactic(auto, using(crate::proofs::Runs::firsts))]
-    pub fn first(self, count: u64) -> Kept<'a>
-        requires fit { IsFitKept self }
-        requires some { 0 < count }
-        requires fewer { count ≤ self.count }
-        ensures actions { (u : ChangeSet) → kept_actions u result ≡ take count (kept_actions u self.entry) }
-        ensures count { result.count ≡ count }
-        ensures fit { IsFitKept result }
-    {
-        Kept {
-            count,
-            part: self.part,
-        }
     }
 }

@@ -4,14 +4,14 @@ ghost use Rattle.doc_items.specs.Changes.{IsAscending, change_set};
 ghost use Rattle.doc_op.specs.Actions.{Keep, Update};
 ghost use Rattle.doc_op.specs.Runs.{part_change, IsFitPart};
 ghost use Rattle.op_compose.specs.Chains.{follows, attributes_follow, attributes_then};
-ghost use Rattle.op_compose.specs.Ahead.{kept_change, IsFitKept};
-ghost use Rattle.op_compose.specs.Weaves.{HasRoomFor};
+ghost use Rattle.op_runs.specs.Kept.{kept_change, IsFitKept};
+ghost use Rattle.op_runs.specs.Rooms.{HasRoomFor};
 
-use crate::ahead::Kept;
-use crate::contents::{agree, agree_back, put, put_back};
+use crate::back::{agree_back, put_back};
 use change_view::{ChangeView, Rule, Test};
 use doc_items::{Changes, Memory};
 use doc_op::{AttributePart, NormalBuilder};
+use op_runs::{Kept, agree, put, write_kept, write_part};
 use std::alloc::Global;
 
 /// Whether items that stay in the first operation can stay in the second, under the running changes `w` and `u`.
@@ -79,43 +79,6 @@ fn follows_update(
         AttributePart::Replace { old, new: _ } => {
             agree_back(alloc, AttributePart::Update(changes), old)
         }
-    }
-}
-
-// Writes a change as it is.
-fn write_part(
-    out: &mut NormalBuilder,
-    alloc: Global,
-    running: &ChangeView<'_>,
-    part: AttributePart<'_>,
-) -> Result<(), Memory>
-    requires fit { IsFitPart part }
-    requires room { HasRoomFor out.old 1 }
-    ensures { OnOk result (out.new ≡ out.old ++ Keep running.now (part_change part.entry) ∷ []) }
-{
-    match part {
-        AttributePart::Update(changes) => {
-            let view = ChangeView::of(alloc, changes)?;
-            out.update(alloc, running, &view)
-        }
-        AttributePart::Replace { old, new } => out.replace(alloc, running, old, new),
-    }
-}
-
-// Writes items that stay as one operation has them.
-fn write_kept(
-    out: &mut NormalBuilder,
-    alloc: Global,
-    running: &ChangeView<'_>,
-    kept: Kept<'_>,
-) -> Result<(), Memory>
-    requires fit { IsFitKept kept }
-    requires room { HasRoomFor out.old kept.count }
-    ensures { OnOk result (out.new ≡ out.old ++ replicate kept.entry.count (Keep running.now (kept_change kept.entry.part))) }
-{
-    match kept.part {
-        None => out.keep(alloc, kept.count, running),
-        Some(part) => write_part(out, alloc, running, part),
     }
 }
 

@@ -1,13 +1,12 @@
-ghost use Rattle.std.specs.Prelude.{◌≡◌, ◌≤◌, ◌<◌, IfOk, IfErr, OnOk, MatchResult, IsTrue, ◌↔◌};
+ghost use Rattle.std.specs.Prelude.{◌≤◌, ◌<◌, IfOk, IfErr, OnOk, MatchResult, IsTrue, ◌↔◌};
 ghost use Rattle.doc_items.specs.Limits.{max_count};
 ghost use Rattle.doc_op.specs.Actions.{actions};
-ghost use Rattle.doc_op.specs.Normal.{normal_form};
 ghost use Rattle.op_compose.specs.Steps.{together, IsComposition, IsDontFit, IsRefused};
 
 use crate::ComposeFault;
 use crate::step::step;
 use crate::weave::Weave;
-use doc_items::{MAX_COUNT, Memory};
+use doc_items::MAX_COUNT;
 use doc_op::{Cursor, DocOp};
 use std::alloc::Global;
 
@@ -45,20 +44,10 @@ fn weave_over(alloc: Global, first: &DocOp, second: &DocOp) -> Result<DocOp, Com
         match step(alloc, &mut done, &mut f, &mut s) {
             Ok(more) => {
                 if !more {
-                    return Ok(finish(alloc, done)?);
+                    return Ok(done.finish(alloc)?);
                 }
             }
             Err(fault) => return Err(fault),
         }
     }
-}
-
-// The operation that came out.
-fn finish(alloc: Global, done: Weave) -> Result<DocOp, Memory>
-    ensures normal { IfOk result (λ op. op ≡ normal_form (actions op)) }
-    ensures actions { IfOk result (λ op. actions op ≡ done.out) }
-{
-    let Weave { out, place: _ } = done;
-    let op = out.finish(alloc)?;
-    Ok(op)
 }

@@ -3,9 +3,10 @@
 
 mod ahead;
 mod attributes;
+mod back;
 mod composition;
-mod contents;
 mod fault;
+mod kept;
 mod laws;
 mod output;
 mod step;

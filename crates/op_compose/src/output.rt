@@ -2,14 +2,15 @@
 ghost use Rattle.std.specs.Prelude.{◌≡◌, ◌≤◌, length, IfOk, OnOk};
 ghost use Rattle.doc_op.specs.Actions.{Unchanged};
 ghost use Rattle.doc_op.specs.Runs.{contents, part_change, IsFitPart};
-ghost use Rattle.op_compose.specs.Ahead.{kept_change, IsFitKept};
-ghost use Rattle.op_compose.specs.Weaves.{HasRoomFor, IsInsertedAfter, IsDeletedBefore};
+ghost use Rattle.op_runs.specs.Kept.{kept_change, IsFitKept};
+ghost use Rattle.op_runs.specs.Rooms.{HasRoomFor};
+ghost use Rattle.op_compose.specs.Weaves.{IsInsertedAfter, IsDeletedBefore};
 
-use crate::ahead::Kept;
-use crate::contents::{agree, agree_back, put, put_back};
+use crate::back::{agree_back, put_back};
 use change_view::{ChangeView, Rule, Test};
 use doc_items::Memory;
 use doc_op::{AttributePart, ContentRun, NormalBuilder};
+use op_runs::{Kept, agree, put};
 use std::alloc::Global;
 
 /// Writes a run that the first operation inserts under `w` and the second keeps under `u`; false where they don't agree.
@@ -33,7 +34,7 @@ pub(crate) fn insert_after<'a>(
 }
 
 // The run's contents stay as they are.
-#[tactic(auto, using(crate::proofs::Runs::all_unchanged, crate::proofs::Runs::put_all_unchanged))]
+#[tactic(auto, using(op_runs::proofs::Runs::all_unchanged, op_runs::proofs::Runs::put_all_unchanged))]
 fn insert_same<'a>(
     out: &mut NormalBuilder,
     alloc: Global,
@@ -104,7 +105,7 @@ pub(crate) fn delete_before<'a>(
 }
 
 // The run's contents are before as they are after.
-#[tactic(auto, using(crate::proofs::Runs::all_unchanged, crate::proofs::Runs::put_all_unchanged))]
+#[tactic(auto, using(op_runs::proofs::Runs::all_unchanged, op_runs::proofs::Runs::put_all_unchanged))]
 fn delete_same<'a>(
     out: &mut NormalBuilder,
     alloc: Global,

@@ -3,15 +3,15 @@ ghost use Rattle.std.specs.Prelude.{◌≡◌, ◌<◌, [], min, length, map, Ma
 ghost use Rattle.doc_op.specs.Actions.{insertion, deletion};
 ghost use Rattle.doc_op.specs.Cursors.{left};
 ghost use Rattle.doc_op.specs.Runs.{contents};
-ghost use Rattle.op_compose.specs.Ahead.{kept_actions, IsFitKept};
-ghost use Rattle.op_compose.specs.Weaves.{NoDelete};
+ghost use Rattle.op_runs.specs.Kept.{kept_actions, IsFitKept};
+ghost use Rattle.op_compose.specs.Weaves.{NoDelete, IsInStep};
 ghost use Rattle.op_compose.specs.Steps.{HasAllRoom, IsStep, IsStepped, IsUnfit};
 
 use crate::ComposeFault;
-use crate::ahead::{Ahead, Kept, ahead_of};
+use crate::ahead::{Ahead, ahead_of};
 use crate::weave::Weave;
-use change_view::ChangeView;
 use doc_op::{ContentRun, Cursor};
+use op_runs::Kept;
 use std::alloc::Global;
 
 /// How many actions of the two operations are passed.
@@ -41,7 +41,7 @@ fn first_deletes(
         (λ p. IsStep p done.old f.now s.now done.new)
         (λ e. IsUnfit e done.old (left f.now) (left s.now)) }
 {
-    let changes = ChangeView::of(alloc, f.running())?;
+    let changes = f.running().view(alloc)?;
     done.delete_first(alloc, run, &changes)?;
     Ok(Progress::First(run.len()))
 }
@@ -61,7 +61,7 @@ fn second_inserts(
         (λ p. IsStep p done.old f.now s.now done.new)
         (λ e. IsUnfit e done.old (left f.now) (left s.now)) }
 {
-    let changes = ChangeView::of(alloc, s.running())?;
+    let changes = s.running().view(alloc)?;
     done.insert_second(alloc, run, &changes)?;
     Ok(Progress::Second(run.len()))
 }
@@ -79,14 +79,19 @@ fn both_keep<'a>(
     requires ahead_x { kept_actions f.now.under x ≡ f.now.front }
     requires ahead_y { kept_actions s.now.under y ≡ s.now.front }
     requires room { HasAllRoom done.old (left f.now) (left s.now) }
+    requires in_step { IsInStep done.old f.now.under s.now.under }
     ensures { MatchResult result
         (λ p. IsStep p done.old f.now s.now done.new)
         (λ e. IsUnfit e done.old (left f.now) (left s.now)) }
 {
-    let w = ChangeView::of(alloc, f.running())?;
-    let u = ChangeView::of(alloc, s.running())?;
     let count = smaller(x.count, y.count);
-    match done.keep_both(alloc, x.first(count), &w, y.first(count), &u) {
+    match done.keep_both(
+        alloc,
+        x.first(count),
+        f.running(),
+        y.first(count),
+        s.running(),
+    ) {
         Ok(()) => Ok(Progress::Both(count)),
         Err(fault) => Err(fault),
     }
@@ -110,8 +115,8 @@ fn kept_is_deleted<'a>(
         (λ p. IsStep p done.old f.now s.now done.new)
         (λ e. IsUnfit e done.old (left f.now) (left s.now)) }
 {
-    let w = ChangeView::of(alloc, f.running())?;
-    let u = ChangeView::of(alloc, s.running())?;
+    let w = f.running().view(alloc)?;
+    let u = s.running().view(alloc)?;
     let count = smaller(x.count, run.len());
     match done.delete_kept(alloc, x.first(count), &w, run.first(count), &u) {
         Ok(()) => Ok(Progress::Both(count)),
@@ -137,8 +142,8 @@ fn inserted_is_kept<'a>(
         (λ p. IsStep p done.old f.now s.now done.new)
         (λ e. IsUnfit e done.old (left f.now) (left s.now)) }
 {
-    let w = ChangeView::of(alloc, f.running())?;
-    let u = ChangeView::of(alloc, s.running())?;
+    let w = f.running().view(alloc)?;
+    let u = s.running().view(alloc)?;
     let count = smaller(run.len(), y.count);
     match done.keep_inserted(alloc, run.first(count), &w, y.first(count), &u) {
         Ok(()) => Ok(Progress::Both(count)),
@@ -164,8 +169,8 @@ fn inserted_is_deleted<'a>(
         (λ p. IsStep p done.old f.now s.now done.new)
         (λ e. IsUnfit e done.old (left f.now) (left s.now)) }
 {
-    let w = ChangeView::of(alloc, f.running())?;
-    let u = ChangeView::of(alloc, s.running())?;
+    let w = f.running().view(alloc)?;
+    let u = s.running().view(alloc)?;
     let count = smaller(run.len(), other.len());
     match done.drop_inserted(run.first(count), &w, other.first(count), &u) {
         Ok(()) => Ok(Progress::Both(count)),
@@ -190,6 +195,7 @@ fn past_kept<'a>(
     requires fit { IsFitKept x }
     requires ahead { kept_actions f.now.under x ≡ f.now.front }
     requires room { HasAllRoom done.old (left f.now) (left s.now) }
+    requires in_step { IsInStep done.old f.now.under s.now.under }
     ensures { MatchResult result
         (λ p. IsStep p done.old f.now s.now done.new)
         (λ e. IsUnfit e done.old (left f.now) (left s.now)) }
@@ -253,7 +259,8 @@ fn advance<'a>(
     f: &'a Cursor<'_>,
     s: &'a Cursor<'_>,
 ) -> Result<Progress, ComposeFault>
-    requires { HasAllRoom done.old (left f.now) (left s.now) }
+    requires room { HasAllRoom done.old (left f.now) (left s.now) }
+    requires in_step { IsInStep done.old f.now.under s.now.under }
     ensures { MatchResult result
         (λ p. IsStep p done.old f.now s.now done.new)
         (λ e. IsUnfit e done.old (left f.now) (left s.now)) }
@@ -273,7 +280,8 @@ pub(crate) fn step(
     f: &mut Cursor<'_>,
     s: &mut Cursor<'_>,
 ) -> Result<bool, ComposeFault>
-    requires { HasAllRoom done.old (left f.old) (left s.old) }
+    requires room { HasAllRoom done.old (left f.old) (left s.old) }
+    requires in_step { IsInStep done.old f.old.under s.old.under }
     ensures { MatchResult result
         (λ more. IsStepped more done.old f.old s.old done.new f.new s.new)
         (λ e. IsUnfit e done.old (left f.old) (left s.old)) }
@@ -285,16 +293,16 @@ pub(crate) fn step(
     match progress {
         Progress::End => Ok(false),
         Progress::First(count) => {
-            f.skip(alloc, count)?;
+            f.skip(alloc, count, &mut done.touched)?;
             Ok(true)
         }
         Progress::Second(count) => {
-            s.skip(alloc, count)?;
+            s.skip(alloc, count, &mut done.touched)?;
             Ok(true)
         }
         Progress::Both(count) => {
-            f.skip(alloc, count)?;
-            s.skip(alloc, count)?;
+            f.skip(alloc, count, &mut done.touched)?;
+            s.skip(alloc, count, &mut done.touched)?;
             Ok(true)
         }
     }

@@ -1,26 +1,39 @@
 // The composition so far, and what each pair of runs adds to it.
-ghost use Rattle.std.specs.Prelude.{◌≡◌, ◌<◌, ◌+◌, [], List, length, map, IfOk, MatchResult};
-ghost use Rattle.doc_op.specs.Actions.{Action, insertion, deletion};
+ghost use Rattle.std.specs.Prelude.{◌≡◌, ◌<◌, ◌+◌, [], None, List, length, map, IfOk, OnOk, MatchResult};
+ghost use Rattle.doc_op.specs.Actions.{Action, actions, insertion, deletion};
+ghost use Rattle.doc_op.specs.Normal.{normal_form};
 ghost use Rattle.doc_op.specs.Runs.{contents};
 ghost use Rattle.op_compose.specs.Compose.{compose};
-ghost use Rattle.op_compose.specs.Ahead.{kept_actions, IsFitKept};
-ghost use Rattle.op_compose.specs.Weaves.{expects, Passed, PassedSecond, Refused, HasRoom, Grows};
+ghost use Rattle.op_runs.specs.Kept.{kept_actions, IsFitKept};
+ghost use Rattle.op_compose.specs.Weaves.{expects, Passed, PassedSecond, Refused, HasRoom, Grows, IsInStep};
 
 use crate::ComposeFault;
-use crate::ahead::Kept;
-use crate::attributes::{follow, write_then};
-use crate::contents::common;
+use crate::kept::write_both;
 use crate::output::{delete_before, insert_after};
+use change_table::{ChangeTable, Joint, Touched};
 use change_view::{ChangeView, Rule, Test};
 use doc_items::Memory;
-use doc_op::{ContentRun, NormalBuilder};
+use doc_op::{ContentRun, DocOp, NormalBuilder};
+use op_runs::{Kept, common};
 use std::alloc::Global;
 
 /// What comes out so far, and how many items that the first operation gives are passed.
-#[derive(Drop)]
 pub(crate) struct Weave {
     pub out: NormalBuilder,
     pub place: u64,
+    /// The keys at which a change started or ended in either operation since the last pair of runs that both keep; any key at the
+    /// beginning and after other runs.
+    pub touched: Touched,
+}
+
+impl Drop for Weave {
+    fn drop(self) {
+        let Weave {
+            out: _out,
+            place: _,
+            touched: _touched,
+        } = self;
+    }
 }
 
 impl Weave {
@@ -30,10 +43,12 @@ impl Weave {
         ensures start { (f s : List Action) → expects result f s ≡ compose f s }
         ensures out { result.out ≡ [] }
         ensures place { result.place ≡ 0 }
+        ensures touched { result.touched ≡ None }
     {
         Weave {
             out: NormalBuilder::new(alloc),
             place: 0,
+            touched: Touched::any(),
         }
     }
 
@@ -47,7 +62,9 @@ impl Weave {
         requires { HasRoom self.old (length (contents run)) }
         ensures passed { IfOk result (λ _. Passed self.old (map (deletion changes.now) (contents run.entry)) [] self.new) }
         ensures room { IfOk result (λ _. Grows self.old (length (contents run.entry)) self.new) }
+        ensures touched { OnOk result (self.new.touched ≡ None) }
     {
+        self.touched.forget();
         self.out.delete(alloc, run, changes)?;
         Ok(())
     }
@@ -62,7 +79,9 @@ impl Weave {
         requires { HasRoom self.old (length (contents run)) }
         ensures passed { IfOk result (λ _. PassedSecond self.old (map (insertion changes.now) (contents run.entry)) self.new) }
         ensures room { IfOk result (λ _. Grows self.old (length (contents run.entry)) self.new) }
+        ensures touched { OnOk result (self.new.touched ≡ None) }
     {
+        self.touched.forget();
         self.out.insert(alloc, run, changes)?;
         Ok(())
     }
@@ -72,24 +91,30 @@ impl Weave {
         &mut self,
         alloc: Global,
         x: Kept<'a>,
-        w: &ChangeView<'a>,
+        w: &'a ChangeTable,
         y: Kept<'a>,
-        u: &ChangeView<'a>,
+        u: &'a ChangeTable,
     ) -> Result<(), ComposeFault>
         requires fit_x { IsFitKept x }
         requires fit_y { IsFitKept y }
         requires same { x.count ≡ y.count }
         requires room { HasRoom self.old x.count }
+        requires in_step { IsInStep self.old w.now u.now }
         ensures passed { MatchResult result
             (λ _. Passed self.old (kept_actions w.now x.entry) (kept_actions u.now y.entry) self.new)
             (λ e. Refused self.old (kept_actions w.now x.entry) (kept_actions u.now y.entry) e) }
         ensures room { IfOk result (λ _. Grows self.old x.entry.count self.new) }
+        ensures in_step { IfOk result (λ _. IsInStep self.new w.now u.now) }
     {
-        if !follow(alloc, x, w, y, u)? {
+        let joint = Joint {
+            first: w,
+            second: u,
+            rule: Rule::Then,
+        };
+        if !write_both(&mut self.out, alloc, x, y, joint, &self.touched)? {
             return Err(ComposeFault::DontFit(self.place));
         }
-        let both = w.merged(alloc, u, Rule::Then)?;
-        write_then(&mut self.out, alloc, &both, x, y)?;
+        self.touched.clear(alloc);
         self.place += x.count;
         Ok(())
     }
@@ -110,7 +135,9 @@ impl Weave {
             (λ _. Passed self.old (kept_actions w.now x.entry) (map (deletion u.now) (contents run.entry)) self.new)
             (λ e. Refused self.old (kept_actions w.now x.entry) (map (deletion u.now) (contents run.entry)) e) }
         ensures room { IfOk result (λ _. Grows self.old x.entry.count self.new) }
+        ensures touched { OnOk result (self.new.touched ≡ None) }
     {
+        self.touched.forget();
         if !delete_before(&mut self.out, alloc, run, u, x, w)? {
             return Err(ComposeFault::DontFit(self.place));
         }
@@ -134,7 +161,9 @@ impl Weave {
             (λ _. Passed self.old (map (insertion w.now) (contents run.entry)) (kept_actions u.now y.entry) self.new)
             (λ e. Refused self.old (map (insertion w.now) (contents run.entry)) (kept_actions u.now y.entry) e) }
         ensures room { IfOk result (λ _. Grows self.old y.entry.count self.new) }
+        ensures touched { OnOk result (self.new.touched ≡ None) }
     {
+        self.touched.forget();
         if !insert_after(&mut self.out, alloc, run, w, y, u)? {
             return Err(ComposeFault::DontFit(self.place));
         }
@@ -157,7 +186,9 @@ impl Weave {
             (λ _. Passed self.old (map (insertion w.now) (contents run.entry)) (map (deletion u.now) (contents other.entry)) self.new)
             (λ e. Refused self.old (map (insertion w.now) (contents run.entry)) (map (deletion u.now) (contents other.entry)) e) }
         ensures room { IfOk result (λ _. Grows self.old (length (contents run.entry)) self.new) }
+        ensures touched { OnOk result (self.new.touched ≡ None) }
     {
+        self.touched.forget();
         if !w.passes(u, Test::OldIsThere) {
             return Err(ComposeFault::DontFit(self.place));
         }
@@ -168,5 +199,19 @@ impl Weave {
         }
         self.place += count;
         Ok(())
+    }
+
+    /// The operation that came out.
+    pub fn finish(self, alloc: Global) -> Result<DocOp, Memory>
+        ensures normal { IfOk result (λ op. op ≡ normal_form (actions op)) }
+        ensures actions { IfOk result (λ op. actions op ≡ self.out) }
+    {
+        let Weave {
+            out,
+            place: _,
+            touched: _touched,
+        } = self;
+        let op = out.finish(alloc)?;
+        Ok(op)
     }
 }

@@ -10,6 +10,7 @@ ghost use Rattle.op_invert.specs.Walks.{items_of};
 
 use crate::items::Items;
 use crate::reversal::Reversal;
+use change_table::Touched;
 use doc_items::{Document, Memory};
 use doc_op::{Cursor, DocOp};
 use doc_rope::Rope;
@@ -60,6 +61,6 @@ fn undo_over(alloc: Global, op: &DocOp, items: Items<'_>) -> Result<DocOp, Memor
             let undo = done.finish(alloc)?;
             return Ok(undo);
         }
-        cursor.skip(alloc, count)?;
+        cursor.skip(alloc, count, &mut Touched::any())?;
     }
 }

@@ -50,7 +50,7 @@ impl Reversal {
         ensures count { IfOk result (λ count. count ≡ length cursor.now.front) }
         ensures end { IfOk result (λ count. count ≡ 0 → left cursor.now ≡ []) }
     {
-        let changes = ChangeView::of(alloc, cursor.running())?;
+        let changes = cursor.running().view(alloc)?;
         match cursor.head() {
             Head::Keep(count) => {
                 self.keep(alloc, count, &changes)?;

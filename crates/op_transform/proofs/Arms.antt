@@ -1,22 +1,25 @@
 -- The steps of the walk, as what is done and what is still to come.
-use Rattle.std.proofs.Common.{◌≡◌, ℕ, zero, suc, ◌+◌, ◌<◌, ◌≤◌, ◌⊎◌, inl, inr, Bool, true, false, ◌&&◌, List, [], ◌∷◌, ◌++◌, length, map, replicate, refl, sym, ap, subst, ◌∙◌, arith, Err, Option}
+use Rattle.std.proofs.Common.{◌≡◌, ℕ, ◌+◌, ◌<◌, inl, inr, Bool, true, false, List, [], ◌++◌, length, map, replicate, refl, sym, ap, subst, ◌∙◌, arith, Err, Option}
 use Rattle.std.proofs.lemmas.List.{append-nil}
 use Rattle.doc_items.specs.Changes.{ChangeSet, back}
-use Rattle.doc_items.specs.Maps.{matches, merge}
+use Rattle.doc_items.specs.Maps.{matches}
 use Rattle.doc_items.specs.declared.item.Content.{Content}
-use Rattle.change_view.specs.Rules.{one_second_turned, same_old}
+use Rattle.change_view.specs.Rules.{same_old}
 use Rattle.change_view.specs.Sets.{as_inserted}
 use Rattle.doc_op.specs.Actions.{AttributeChange, Action, Keep, insertion, deletion}
-use Rattle.doc_op.specs.Apply.{put_content}
 use Rattle.doc_op.specs.declared.run.AttributePart.{AttributePart}
-use Rattle.op_transform.specs.Crossing.{cross, over, under, attributes_cross, attributes_over, attributes_under, keep_all}
-use Rattle.op_transform.specs.Taken.{kept_change, IsFitPartOf}
+use Rattle.op_transform.specs.Crossing.{under, attributes_under, keep_all}
+use Rattle.op_runs.specs.Kept.{kept_change, kept_actions, IsFitPartOf}
 use Rattle.op_transform.specs.Transform.{Outcome, front, transform_from}
-use Rattle.op_transform.specs.Walks.{levels, common, all_agree, NoInsert, IsInserted, IsDeletedBehind}
+use Rattle.op_runs.specs.Contents.{common}
+use Rattle.op_transform.specs.Walks.{levels, NoInsert, expects, IsInserted, IsDeletedBehind, AreKept, AreBothKept}
 use Rattle.op_transform.specs.declared.side.Side.{Side}
+use Rattle.op_runs.specs.declared.kept.Kept.{Kept}
+use Rattle.op_transform.specs.declared.walk.Walk.{Walk}
 use Rattle.op_transform.proofs.Fronts.{front_twice, passes, stops}
 use Rattle.op_transform.proofs.Rooms.{zero_or_more, levels-put}
-use Rattle.op_transform.proofs.Rows.{later_free, later_under, earlier_free, earlier_under, keeps_meet, keeps_stop, keep_delete_meet, keep_delete_stop, delete_keep_meet, delete_keep_stop, deletes_meet, deletes_stop, names_stop, common_le}
+use Rattle.op_runs.proofs.Runs.{common_le}
+use Rattle.op_transform.proofs.Rows.{later_free, later_under, earlier_free, earlier_under, keeps_meet, keeps_stop, keep_delete_meet, keep_delete_stop, delete_keep_meet, delete_keep_stop, deletes_meet, deletes_stop, names_stop}
 
 -- ---- insertions
 
@@ -49,18 +52,31 @@ earlier_inserted u cs l e l' e' k h ls es ni =
 
 -- ---- both keep
 
-pub both_kept : (lo eo lo' eo' : List Action) (k b d n m : ℕ) (u w : ChangeSet) (a o : AttributeChange) (t : Bool) → n ≡ m → t ≡ (cross u w && attributes_cross a o) → t ≡ true
-    → lo' ≡ lo ++ replicate n (Keep (over u w) (attributes_over a o)) → eo' ≡ eo ++ replicate m (Keep (under w u) (attributes_under o a))
-    → (ls es : List Action) → front lo eo (transform_from k b (replicate n (Keep u a) ++ ls) d (replicate m (Keep w o) ++ es)) ≡ front lo' eo' (transform_from (k + n) b ls d es)
-both_kept lo eo lo' eo' k b d n m u w a o t e c h p q ls es =
-    ap (λ j. front lo eo (transform_from k b (replicate n (Keep u a) ++ ls) d (replicate j (Keep w o) ++ es))) (sym e)
-    ∙ passes _ _ _ _ _ _ _ _ _ _ _ _ _ _ _ p (q ∙ ap (λ j. eo ++ replicate j (Keep (under w u) (attributes_under o a))) (sym e)) refl (keeps_meet n u w a o k b d (sym c ∙ h)) ls es
+both_after : (t : Bool) (x y : Kept) (u w : ChangeSet) (done after : Walk) → t ≡ true → AreKept t x u y w done after → AreBothKept x u y w done after
+both_after t x y u w done after e h = subst (λ b. AreKept b x u y w done after) e h
 
-pub both_refused : (lo eo : List Action) (k b d n m : ℕ) (u w : ChangeSet) (a o : AttributeChange) (t : Bool) → n ≡ m → 0 < n → t ≡ (cross u w && attributes_cross a o) → t ≡ false
-    → (ls es : List Action) → front lo eo (transform_from k b (replicate n (Keep u a) ++ ls) d (replicate m (Keep w o) ++ es)) ≡ Err k
-both_refused lo eo k b d n m u w a o t e s c h ls es =
-    ap (λ j. front lo eo (transform_from k b (replicate n (Keep u a) ++ ls) d (replicate j (Keep w o) ++ es))) (sym e)
-    ∙ stops _ _ _ _ _ _ _ _ _ refl (keeps_stop n u w a o k b d s (sym c ∙ h)) ls es
+none_after : (t : Bool) (x y : Kept) (u w : ChangeSet) (done after : Walk) → t ≡ false → AreKept t x u y w done after → AreKept false x u y w done after
+none_after t x y u w done after e h = subst (λ b. AreKept b x u y w done after) e h
+
+pub both_kept : (x y : Kept) (u w : ChangeSet) (done after : Walk) (t : Bool) → x.count ≡ y.count → t ≡ true → AreKept t x u y w done after
+    → (ls es : List Action) → expects done (kept_actions u x ++ ls) (kept_actions w y ++ es) ≡ front after.later.out after.earlier.out (transform_from (after.place + x.count) after.later.depth ls after.earlier.depth es)
+both_kept x y u w done after t same is h ls es =
+    let k = both_after t x y u w done after is h in
+    let a = kept_change x.part in
+    let o = kept_change y.part in
+    ap (λ n. expects done (kept_actions u x ++ ls) (replicate n (Keep w o) ++ es)) (sym same)
+    ∙ passes _ _ _ _ _ _ _ _ _ _ _ _ _ _ _ k.later.out (k.earlier.out ∙ ap (λ n. done.earlier.out ++ replicate n (Keep (under w u) (attributes_under o a))) (sym same)) refl (keeps_meet x.count u w a o done.place done.later.depth done.earlier.depth k.stays) ls es
+    ∙ (λ i. front after.later.out after.earlier.out (transform_from (sym k.place i + x.count) (sym k.later.depth i) ls (sym k.earlier.depth i) es))
+
+pub both_refused : (x y : Kept) (u w : ChangeSet) (done after : Walk) (t : Bool) → x.count ≡ y.count → 0 < x.count → t ≡ false → AreKept t x u y w done after
+    → (ls es : List Action) → expects done (kept_actions u x ++ ls) (kept_actions w y ++ es) ≡ Err after.place
+both_refused x y u w done after t same s is h ls es =
+    let k = none_after t x y u w done after is h in
+    let a = kept_change x.part in
+    let o = kept_change y.part in
+    ap (λ n. expects done (kept_actions u x ++ ls) (replicate n (Keep w o) ++ es)) (sym same)
+    ∙ stops _ _ _ _ _ _ _ _ _ refl (keeps_stop x.count u w a o done.place done.later.depth done.earlier.depth s k.0) ls es
+    ∙ ap (λ v. Err v.place) (sym k.1)
 
 -- ---- one keeps, the other deletes
 

@@ -3,7 +3,7 @@
 --     when, unless                a test that is passed, or not
 --     Meets, Stops                what the walk makes of two lists in front, whatever follows
 --     MeetsEarlier                so of one list of the earlier operation
-use Rattle.std.proofs.Common.{◌≡◌, ℕ, suc, ◌+◌, Bool, true, false, cond, List, [], ◌∷◌, ◌++◌, refl, sym, ap, ◌∙◌, append_assoc, arith, Ok, Err}
+use Rattle.std.proofs.Common.{◌≡◌, ℕ, suc, ◌+◌, Bool, true, false, cond, List, [], ◌++◌, refl, sym, ap, ◌∙◌, append_assoc, arith, Ok, Err}
 use Rattle.doc_op.specs.Actions.{Action}
 use Rattle.op_transform.specs.Transform.{Outcome, front, transform_from}
 use Rattle.op_transform.specs.Walks.{NoInsert}

@@ -1,13 +1,13 @@
 -- The transform makes no update without a key, which has no spelling.
 --     IsFull, AreFull     each update has a key
 --     are_full            so it is of both results, where it is of both operations
-use Rattle.std.proofs.Common.{◌≡◌, ◌≢◌, ℕ, zero, suc, ◌&&◌, Bool, true, false, cond, List, [], ◌∷◌, refl, sym, ap, subst, ◌∙◌, Option, None, Some, Ok}
+use Rattle.std.proofs.Common.{◌≡◌, ◌≢◌, ℕ, zero, suc, ◌&&◌, true, false, cond, List, [], ◌∷◌, refl, sym, ap, subst, ◌∙◌, Option, None, Some, Ok}
 use Rattle.std.specs.FinMap.{get, get-empty}
 use Rattle.std.specs.Ordering.{nat_cmp}
 use Rattle.std.specs.Cmp.Lexicographic.{slice_cmp}
 use Rattle.doc_items.specs.Balance.{level}
 use Rattle.doc_items.specs.Changes.{KeyChange, ChangeSet, none_running}
-use Rattle.doc_items.specs.Maps.{Key, Map, merge}
+use Rattle.doc_items.specs.Maps.{Key, Map}
 use Rattle.doc_items.specs.declared.item.Item.{Item}
 use Rattle.doc_items.proofs.Maps.{get-merge, alike}
 use Rattle.change_view.specs.Rules.{one_over}

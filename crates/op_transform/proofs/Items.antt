@@ -3,7 +3,7 @@ use Rattle.std.proofs.Common.{◌≡◌, true, false, cond, ◌&&◌, refl, sym,
 use Rattle.std.specs.Option.{option_map}
 use Rattle.std.specs.FinMap.{get, empty}
 use Rattle.std.specs.Cmp.Lexicographic.{bytes_decides}
-use Rattle.std.proofs.lemmas.Bool.{and_parts, and_from, eqb-true, eq-eqb}
+use Rattle.std.proofs.lemmas.Bool.{and_parts, and_from, eq-eqb}
 use Rattle.doc_items.specs.Maps.{Key, Map, same_values, matches}
 use Rattle.doc_items.specs.Changes.{KeyChange, ChangeSet, fits_old, set_new, agrees, put}
 use Rattle.op_transform.specs.Crossing.{cross, over, under, is_empty, attributes_cross, attributes_over, attributes_under, update_if_any, named_old, one_name_after, names_after, can_follow, named_alike, delete_alike}

@@ -1,38 +1,19 @@
 -- Change sets that aren't empty, as updates have to be.
---     some_change            so is the set of a list that isn't empty
 --     over_some, start_some  a change set keeps its keys
 --     kept_if_none, update_if_some      what is written of an update that may be empty
-use Rattle.std.proofs.Common.{◌≡◌, ◌≢◌, ℕ, ◌<◌, ◌==◌, Bool, true, false, cond, refl, sym, ap, ◌∙◌, arith, true≢false, List, [], ◌∷◌, length, Option, None, Some}
-use Rattle.std.specs.FinMap.{get, len, get-empty, len-empty}
+use Rattle.std.proofs.Common.{◌≡◌, ◌≢◌, ◌<◌, ◌==◌, true, false, cond, refl, sym, ap, ◌∙◌, true≢false, List, length, None, Some}
+use Rattle.std.specs.FinMap.{get, len, len-empty}
 use Rattle.std.specs.Ordering.{nat_cmp}
 use Rattle.std.specs.Cmp.Lexicographic.{slice_cmp}
-use Rattle.std.specs.Str.{encode_utf8_all}
 use Rattle.doc_items.specs.Maps.{Key, Map, merge}
-use Rattle.doc_items.specs.Changes.{KeyChange, ChangeSet, key_change, change_set, none_running, IsAscending}
+use Rattle.doc_items.specs.Changes.{KeyChange, ChangeSet, change_set, none_running, IsAscending}
 use Rattle.doc_items.specs.declared.change.Change.{Change}
-use Rattle.doc_items.proofs.ChangeSets.{get_change}
 use Rattle.doc_items.proofs.Maps.{get-merge}
 use Rattle.change_view.specs.Rules.{one_over}
 use Rattle.change_view.specs.Sets.{one_from, start_at}
 use Rattle.doc_op.specs.Actions.{Unchanged, Update}
-use Rattle.doc_op.specs.Runs.{IsFitPart}
-use Rattle.doc_op.specs.declared.run.AttributePart.{AttributePart}
-use Rattle.doc_op.specs.declared.run.AttributePart.TheVariants.{Update as UpdatePart}
-use Rattle.doc_op.proofs.Applying.{no_value}
+use Rattle.op_runs.proofs.Keys.{HasKey, not_none, has_first}
 use Rattle.op_transform.specs.Crossing.{is_empty, update_if_any}
-
--- a key that changes
-record HasKey (u : ChangeSet) : Type 0 where
-  key : Key
-  change : KeyChange
-  is : get u key ≡ Some change
-
-not_none : (u : ChangeSet) → HasKey u → u ≢ none_running
-not_none u h e = no_value (sym (get-empty (slice_cmp nat_cmp) h.key) ∙ ap (λ x. get x h.key) (sym e) ∙ h.is)
-
-has_first : (cs : List Change) → 0 < length cs → IsAscending cs → HasKey (change_set cs)
-has_first [] s a = absurd (omega (arith, s))
-has_first (c ∷ cs) s a = record { key = encode_utf8_all c.key; change = key_change c; is = get_change (c ∷ cs) 0 c a (omega arith) refl }
 
 over_has : (u w : ChangeSet) → HasKey u → HasKey (merge one_over u w)
 over_has u w h =
@@ -44,9 +25,6 @@ over_has u w h =
 
 start_has : (u : ChangeSet) (m : Map Key) → HasKey u → HasKey (start_at u m)
 start_has u m h = record { key = h.key; change = record { old = get m h.key; new = h.change.new }; is = get-merge one_from u m h.key refl ∙ ap (λ x. one_from x (get m h.key)) h.is }
-
-pub some_change : (cs : List Change) (u : ChangeSet) → 0 < length cs → IsAscending cs → u ≡ change_set cs → u ≢ none_running
-some_change cs u s a e f = not_none (change_set cs) (has_first cs s a) (sym e ∙ f)
 
 pub over_some : (cs : List Change) (u w o : ChangeSet) → 0 < length cs → IsAscending cs → u ≡ change_set cs → o ≡ merge one_over u w → o ≢ none_running
 over_some cs u w o s a e p f = not_none (merge one_over (change_set cs) w) (over_has (change_set cs) w (has_first cs s a)) (ap (λ x. merge one_over x w) (sym e) ∙ sym p ∙ f)

@@ -13,3 +13,4 @@ pub mod Rows
 pub mod Steps
 pub mod Runs
 pub mod Structures
+pub mod Touches

@@ -1,6 +1,6 @@
 -- One induction over the walk of the transform, which uses the rows alone.
-use Rattle.std.proofs.Common.{◌≡◌, ℕ, zero, suc, Bool, true, false, cond, ◌&&◌, refl, sym, ap, subst, ◌∙◌, true≢false, Option, None, Some, Result, Ok, Err, is_some, List, [], ◌∷◌}
-use Rattle.std.specs.Option.{option_map, unwrap_or}
+use Rattle.std.proofs.Common.{◌≡◌, ℕ, zero, suc, Bool, true, cond, ◌&&◌, refl, sym, ap, subst, ◌∙◌, None, Some, Ok, Err, List, [], ◌∷◌}
+use Rattle.std.specs.Option.{option_map}
 use Rattle.std.specs.FinMap.{empty}
 use Rattle.doc_items.specs.Balance.{level}
 use Rattle.doc_items.specs.Changes.{ChangeSet}
@@ -8,7 +8,7 @@ use Rattle.doc_items.specs.declared.item.Content.{Content}
 use Rattle.doc_items.specs.declared.item.Item.{Item}
 use Rattle.doc_op.specs.Actions.{AttributeChange, Unchanged, Names, Action, Keep, Ins, Del}
 use Rattle.doc_op.specs.Apply.{keeps, kept, fits, names_of, put_content, apply}
-use Rattle.op_transform.specs.Crossing.{cross, over, under, attributes_cross, attributes_over, attributes_under, names_after, can_follow, delete_alike, delete_all, keep_all}
+use Rattle.op_transform.specs.Crossing.{cross, over, under, attributes_cross, attributes_over, attributes_under, names_after, can_follow, delete_alike, keep_all}
 use Rattle.op_transform.specs.Transform.{Outcome, front, later_inserts, earlier_inserts, transform_from}
 use Rattle.op_transform.specs.Square.{Meets}
 use Rattle.doc_op.proofs.Applying.{no_value, same_Some, mapped, passed}

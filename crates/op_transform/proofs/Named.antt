@@ -5,11 +5,11 @@
 --     names_inserted    all annotations of an inserted item, as names
 use Rattle.std.proofs.Common.{◌≡◌, Bool, true, false, refl, sym, ap, ◌∙◌, Option, None, Some}
 use Rattle.std.specs.Option.{option_map, option_and_then}
-use Rattle.std.specs.FinMap.{get, keys}
-use Rattle.doc_items.specs.Maps.{Key, Map, matches, merge, each}
+use Rattle.std.specs.FinMap.{get}
+use Rattle.doc_items.specs.Maps.{Key, matches, merge}
 use Rattle.doc_items.specs.Changes.{KeyChange, ChangeSet, turned, back}
 use Rattle.doc_items.proofs.Maps.{get-merge, get-each, get-picked, matches_at, matches_all, alike}
-use Rattle.doc_op.specs.Actions.{Names, new_values, old_values}
+use Rattle.doc_op.specs.Actions.{new_values, old_values}
 use Rattle.doc_op.specs.Apply.{names_of}
 use Rattle.change_view.specs.Rules.{one_second_turned, same_old}
 use Rattle.change_view.specs.Sets.{fresh, one_inserted, as_inserted}

@@ -1,5 +1,5 @@
 -- The lengths of what is written, and the depths.
-use Rattle.std.proofs.Common.{◌≡◌, ℕ, zero, suc, ◌+◌, ◌-◌, ◌<◌, ◌≤◌, ◌⊎◌, inl, inr, Bool, true, List, [], ◌∷◌, ◌++◌, length, map, replicate, refl, sym, ap, subst, ◌∙◌, arith}
+use Rattle.std.proofs.Common.{◌≡◌, ℕ, zero, suc, ◌+◌, ◌<◌, ◌≤◌, ◌⊎◌, inl, inr, Bool, true, List, [], ◌∷◌, ◌++◌, length, map, replicate, refl, sym, ap, subst, ◌∙◌, arith}
 use Rattle.std.proofs.lemmas.List.{length-map}
 use Rattle.doc_items.specs.Balance.{level}
 use Rattle.doc_items.specs.Changes.{ChangeSet, back}
@@ -13,8 +13,10 @@ use Rattle.doc_op.specs.Apply.{put_content}
 use Rattle.doc_op.specs.Lengths.{input_len, output_len}
 use Rattle.doc_op.proofs.Lengths.{input_len-append, output_len-append, input_len-kept, output_len-kept, input_len-insertions, output_len-insertions, input_len-deletions, output_len-deletions}
 use Rattle.op_transform.specs.Crossing.{keep_all}
-use Rattle.op_transform.specs.Walks.{levels, IsInserted, IsDeleted, IsDeletedBehind, IsSideWithin}
+use Rattle.op_transform.specs.Walks.{levels, IsInserted, IsDeleted, IsDeletedBehind, IsSideWithin, IsWithin, IsKept, AreKept}
 use Rattle.op_transform.specs.declared.side.Side.{Side}
+use Rattle.op_runs.specs.declared.kept.Kept.{Kept}
+use Rattle.op_transform.specs.declared.walk.Walk.{Walk}
 
 pub zero_or_more : (n : ℕ) → (n ≡ 0) ⊎ (0 < n)
 zero_or_more zero = inl refl
@@ -40,11 +42,20 @@ longer out acts more l n e s t =
     let o = ap output_len e ∙ output_len-append acts more in
     (omega (arith, i, s.0, t.0), omega (arith, o, s.1, t.1))
 
-pub kept_within : (out acts : List Action) (d place l n m : ℕ) (u : ChangeSet) (a : AttributeChange) → out ≡ acts ++ replicate m (Keep u a) → m ≡ n → (input_len acts ≤ l) × (output_len acts ≤ l) × (d ≤ place)
-    → (input_len out ≤ l + n) × (output_len out ≤ l + n) × (d ≤ place + n)
-kept_within out acts d place l n m u a e same h =
-    let k = longer out acts (replicate m (Keep u a)) l m e (h.0, h.1) (short_kept m u a) in
-    (omega (arith, k.0, same), omega (arith, k.1, same), omega (arith, h.2))
+kept_within : (n : ℕ) (u : ChangeSet) (a : AttributeChange) (s s' : Side) (place l : ℕ) → IsKept n u a s s' → IsSideWithin s place l → IsSideWithin s' (place + n) (l + n)
+kept_within n u a s s' place l h p =
+    let k = longer s'.out s.out (replicate n (Keep u a)) l n h.out (p.0, p.1) (short_kept n u a) in
+    let d = h.depth in
+    (omega (arith, k.0), omega (arith, k.1), omega (arith, d, p.2))
+
+pub both_kept_within : (x y : Kept) (u w : ChangeSet) (done after : Walk) (t : Bool) → t ≡ true → AreKept t x u y w done after → x.count ≡ y.count → IsWithin done
+    → (IsSideWithin after.later (after.place + x.count) (after.length + x.count) × IsSideWithin after.earlier (after.place + x.count) (after.length + x.count) × (after.place + x.count ≤ after.length + x.count)) × (after.length + x.count ≡ done.length + x.count)
+both_kept_within x y u w done after t is h same p =
+    let k = subst (λ b. AreKept b x u y w done after) is h in
+    let l = kept_within x.count _ _ done.later after.later done.place done.length k.later p.0 in
+    let e = kept_within y.count _ _ done.earlier after.earlier done.place done.length k.earlier p.1 in
+    let at = k.place in let n = k.length in
+    (((omega (arith, l.0, n), omega (arith, l.1, n), omega (arith, l.2, at)), (omega (arith, e.0, n, same), omega (arith, e.1, n, same), omega (arith, e.2, at, same)), omega (arith, p.2, n, at)), omega (arith, n))
 
 pub inserted_within : (u : ChangeSet) (cs : List Content) (mine other mine' other' : Side) (place l n : ℕ) → IsInserted u cs mine other mine' other' → n ≡ length cs → IsSideWithin mine place l → IsSideWithin other place l
     → IsSideWithin mine' place (l + n) × IsSideWithin other' place (l + n)

@@ -1,23 +1,23 @@
 -- The rows of the transform over runs.
-use Rattle.std.proofs.Common.{◌≡◌, ℕ, zero, suc, ◌+◌, ◌<◌, ◌≤◌, Bool, true, false, cond, ◌&&◌, List, [], ◌∷◌, ◌++◌, length, map, replicate, refl, sym, ap, ◌∙◌, arith, Err, Option, None, Some}
+use Rattle.std.proofs.Common.{◌≡◌, ℕ, zero, suc, ◌+◌, ◌<◌, Bool, true, false, cond, ◌&&◌, List, [], ◌∷◌, ◌++◌, length, map, replicate, refl, sym, ap, ◌∙◌, arith, Err, Option, None, Some}
 use Rattle.std.proofs.lemmas.Bool.{and_parts, and_from}
 use Rattle.doc_items.specs.Balance.{level}
-use Rattle.doc_items.specs.Changes.{ChangeSet, none_running, back}
+use Rattle.doc_items.specs.Changes.{ChangeSet, back}
 use Rattle.doc_items.specs.Maps.{matches, merge}
 use Rattle.doc_items.specs.declared.item.Content.{Content}
-use Rattle.doc_items.specs.declared.item.Content.TheVariants.{Character, Start, End}
-use Rattle.doc_op.specs.Actions.{AttributeChange, Unchanged, Names, Action, Keep, Ins, Del, keep, insertion, deletion, new_values, old_values}
+use Rattle.doc_op.specs.Actions.{AttributeChange, Action, Keep, Del, insertion, deletion, new_values, old_values}
 use Rattle.doc_op.specs.Runs.{part_change}
 use Rattle.doc_op.specs.declared.run.AttributePart.{AttributePart}
 use Rattle.doc_op.specs.Apply.{content_agrees, put_content, same_content, names_of}
 use Rattle.change_view.specs.Rules.{one_second_turned, same_old}
 use Rattle.change_view.specs.Sets.{as_inserted}
-use Rattle.op_transform.specs.Crossing.{cross, over, under, attributes_cross, attributes_over, attributes_under, named_old, names_after, named_alike, can_follow, keep_all}
+use Rattle.op_transform.specs.Crossing.{cross, over, under, attributes_cross, attributes_over, attributes_under, names_after, named_alike, can_follow, keep_all}
 use Rattle.op_transform.specs.Transform.{Outcome, front, transform_from}
-use Rattle.op_transform.specs.Taken.{kept_change, IsFitPartOf}
-use Rattle.op_transform.specs.Walks.{levels, common, all_agree, NoInsert}
-use Rattle.op_transform.proofs.Fronts.{front_none, front_twice, when, unless, Meets, Stops, MeetsEarlier, past_one, past_none}
-use Rattle.op_transform.proofs.Runs.{agrees_unchanged, all_unchanged}
+use Rattle.op_runs.specs.Kept.{kept_change, IsFitPartOf}
+use Rattle.op_runs.specs.Contents.{common, all_agree}
+use Rattle.op_transform.specs.Walks.{levels, NoInsert}
+use Rattle.op_transform.proofs.Fronts.{front_none, front_twice, when, unless, Meets, Stops, past_one, past_none}
+use Rattle.op_runs.proofs.Runs.{agrees_unchanged, all_unchanged}
 use Rattle.op_transform.proofs.Named.{names_cross, names_alike, names_behind, names_inserted}
 
 -- ---- insertions
@@ -182,8 +182,3 @@ pub names_stop : (cs es : List Content) (v w : ChangeSet) (k b d : ℕ) → 0 < 
 names_stop [] es v w k b d s p h = absurd (omega (arith, s))
 names_stop (c ∷ cs) [] v w k b d s p h = absurd (omega (arith, p))
 names_stop (c ∷ cs) (e ∷ es) v w k b d s p h = record { is = λ ls more. names_go (same_content c e) _ _ _ (names_alike v w ∙ h) }
-
-pub common_le : (cs es : List Content) → common cs es ≤ length cs
-common_le [] es = omega arith
-common_le (c ∷ cs) [] = omega arith
-common_le (c ∷ cs) (e ∷ es) = elim (same_content c e) as (λ t. cond t (suc (common cs es)) 0 ≤ suc (length cs)) [ true ↦ omega (arith, common_le cs es) | false ↦ omega arith ]

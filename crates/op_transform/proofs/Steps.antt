@@ -1,19 +1,22 @@
 -- One step of the walk, from what the arms keep.
-use Rattle.std.proofs.Common.{◌≡◌, ℕ, zero, suc, ◌+◌, ◌-◌, ◌<◌, ◌≤◌, min, max, Bool, true, false, List, [], ◌∷◌, ◌++◌, length, map, replicate, take, drop, refl, sym, ap, subst, ◌∙◌, arith, zero-add, Ok, Err}
+use Rattle.std.proofs.Common.{◌≡◌, ℕ, zero, suc, ◌+◌, ◌<◌, ◌≤◌, min, Bool, false, List, [], ◌∷◌, ◌++◌, length, map, replicate, take, drop, refl, sym, ap, subst, ◌∙◌, arith, zero-add, Ok, Err, Option, None}
 use Rattle.std.proofs.Math.Nat.{le-max_left, le-max_right, min-le_left, min-le_right, le-min}
 use Rattle.std.proofs.lemmas.List.{take-append-drop, append-nil, length-append, length-map, length-replicate, length-take}
 use Rattle.doc_items.specs.Changes.{ChangeSet}
 use Rattle.doc_items.specs.Limits.{max_count}
 use Rattle.doc_items.specs.declared.item.Content.{Content}
-use Rattle.doc_op.specs.Actions.{AttributeChange, Action, Keep, Ins, Del, Names, insertion, deletion, actions}
+use Rattle.change_table.specs.Keys.{Touches}
+use Rattle.doc_op.specs.Actions.{AttributeChange, Action, Keep, Del, Names, insertion, deletion, actions}
 use Rattle.doc_op.specs.Cursors.{Way, left}
 use Rattle.doc_op.specs.Lengths.{input_len, inserted_len}
 use Rattle.doc_op.specs.Runs.{contents}
 use Rattle.doc_op.specs.Structure.{Structured}
 use Rattle.doc_op.specs.declared.component.Component.{Component}
 use Rattle.doc_op.proofs.Lengths.{input_len-append, inserted_len-append, input_len-kept, inserted_len-kept, input_len-insertions, input_len-deletions}
-use Rattle.op_transform.specs.Taken.{kept_change, taken_actions, taken_len, IsFitTaken}
+use Rattle.op_runs.specs.Kept.{kept_change}
+use Rattle.op_transform.specs.Taken.{taken_actions, taken_len, IsFitTaken}
 use Rattle.op_transform.specs.Transform.{front, transform_from, transform}
+use Rattle.op_transform.specs.Touches.{IsInStep}
 use Rattle.op_transform.specs.Walks.{NoInsert, expects, Passed, PassedEarlier, Refused, IsWithin, HasRoom, Grows}
 use Rattle.op_transform.specs.Results.{together, IsTransform, IsRefused}
 use Rattle.op_transform.specs.Steps.{needs, HasAllRoom, Goes, IsMoved, IsAtEnd, IsStepped, IsBroken, IsPairOf, IsConflict}
@@ -24,6 +27,7 @@ use Rattle.op_transform.specs.declared.taken.Taken.TheVariants.{Kept as KeptRun,
 use Rattle.op_transform.specs.declared.walk.Walk.{Walk}
 use Rattle.op_transform.specs.declared.pair.Pair.{Pair}
 use Rattle.op_transform.proofs.Laws.{are_structured}
+use Rattle.op_transform.proofs.Touches.{forgotten, skipped_later, skipped_earlier}
 
 -- ---- what is left after a run
 
@@ -90,9 +94,9 @@ room_later w l es u cs e h = let f = insertions_fit l.front l.behind es cs u w.l
 pub room_earlier : (w : Walk) (ls : List Action) (e : Way) (u : ChangeSet) (cs : List Content) → map (insertion u) cs ≡ e.front → HasAllRoom w ls (left e) → HasRoom w (length cs)
 room_earlier w ls e u cs p h = let f = insertions_fit e.front e.behind ls cs u w.length (length cs) (sym p) refl h.earlier in (h.within, omega (arith, f))
 
-pub goes_later : (done after : Walk) (l e : Way) (u : ChangeSet) (cs : List Content) (n : ℕ) → map (insertion u) cs ≡ l.front → n ≡ length cs → Passed done (map (insertion u) cs) [] after → Grows done (length cs) after
+pub goes_later : (done after : Walk) (l e : Way) (u : ChangeSet) (cs : List Content) (n : ℕ) → map (insertion u) cs ≡ l.front → n ≡ length cs → Passed done (map (insertion u) cs) [] after → Grows done (length cs) after → after.touched ≡ None
     → HasAllRoom done (left l) (left e) → Goes done l e n 0 after
-goes_later done after l e u cs n p same pass grow room =
+goes_later done after l e u cs n p same pass grow any room =
     let whole : n ≡ length l.front = same ∙ sym (length-map cs (insertion u)) ∙ ap length p in
     let rest : drop n (left l) ≡ l.behind = drop-front l.front l.behind n whole in
     let g = grow.1 in
@@ -105,11 +109,12 @@ goes_later done after l e u cs n p same pass grow room =
         later = let f = insertions_fit l.front l.behind (left e) cs u done.length (length cs) (sym p) refl room.later in omega (arith, f, g);
         earlier = let f = insertions_fit_other l.front l.behind (left e) cs u done.length (length cs) (sym p) refl room.earlier in omega (arith, f, g);
       });
+      in_step = forgotten after.touched after.later.out after.earlier.out l.under e.under any;
     }
 
-pub goes_earlier : (done after : Walk) (l e : Way) (u : ChangeSet) (cs : List Content) (n : ℕ) → map (insertion u) cs ≡ e.front → n ≡ length cs → NoInsert (left l) → PassedEarlier done (map (insertion u) cs) after → Grows done (length cs) after
+pub goes_earlier : (done after : Walk) (l e : Way) (u : ChangeSet) (cs : List Content) (n : ℕ) → map (insertion u) cs ≡ e.front → n ≡ length cs → NoInsert (left l) → PassedEarlier done (map (insertion u) cs) after → Grows done (length cs) after → after.touched ≡ None
     → HasAllRoom done (left l) (left e) → Goes done l e 0 n after
-goes_earlier done after l e u cs n p same ni pass grow room =
+goes_earlier done after l e u cs n p same ni pass grow any room =
     let whole : n ≡ length e.front = same ∙ sym (length-map cs (insertion u)) ∙ ap length p in
     let rest : drop n (left e) ≡ e.behind = drop-front e.front e.behind n whole in
     let g = grow.1 in
@@ -122,6 +127,7 @@ goes_earlier done after l e u cs n p same ni pass grow room =
         later = let f = insertions_fit_other e.front e.behind (left l) cs u done.length (length cs) (sym p) refl room.later in omega (arith, f, g);
         earlier = let f = insertions_fit e.front e.behind (left l) cs u done.length (length cs) (sym p) refl room.earlier in omega (arith, f, g);
       });
+      in_step = forgotten after.touched after.later.out after.earlier.out l.under e.under any;
     }
 
 -- ---- both take items
@@ -164,9 +170,9 @@ inserted_of l u x n f = ap inserted_len (front_is l u x n f) ∙ inserted_len-ap
 pub room_both : (w : Walk) (l : Way) (es : List Action) (u : ChangeSet) (x : Taken) (n : ℕ) → IsFirst l u x n → HasAllRoom w (left l) es → HasRoom w (taken_len x)
 room_both w l es u x n f h = let i = input_of l u x n f in let r = h.later in (h.within, omega (arith, r, i, f.len))
 
-pub goes_both : (done after : Walk) (l e : Way) (u w : ChangeSet) (x y : Taken) (n : ℕ) → IsFirst l u x n → IsFirst e w y n → Passed done (taken_actions u x) (taken_actions w y) after → Grows done (taken_len x) after
+pub goes_both : (done after : Walk) (l e : Way) (u w : ChangeSet) (x y : Taken) (n : ℕ) → IsFirst l u x n → IsFirst e w y n → Passed done (taken_actions u x) (taken_actions w y) after → Grows done (taken_len x) after → u ≡ l.under → w ≡ e.under → IsInStep after u w
     → HasAllRoom done (left l) (left e) → Goes done l e n n after
-goes_both done after l e u w x y n f g pass grow room =
+goes_both done after l e u w x y n f g pass grow p q step room =
     let i = input_of l u x n f in let j = input_of e w y n g in
     let a = inserted_of l u x n f in let b = inserted_of e w y n g in
     let k = grow.1 in let s = f.len in
@@ -179,6 +185,7 @@ goes_both done after l e u w x y n f g pass grow room =
         later = let r = room.later in omega (arith, r, i, a, b, k, s);
         earlier = let r = room.earlier in omega (arith, r, j, a, b, k, s);
       };
+      in_step = subst (λ v. IsInStep after v e.under) p (subst (λ v. IsInStep after u v) q step);
     }
 
 pub broken_both : (done : Walk) (l e : Way) (u w : ChangeSet) (x y : Taken) (n : ℕ) (f : TransformFault) → IsFirst l u x n → IsFirst e w y n → Refused done (taken_actions u x) (taken_actions w y) f → IsBroken f done (left l) (left e)
@@ -228,43 +235,44 @@ no_insert_left l e = subst NoInsert (sym e) no_insert_end
 
 -- ---- the cursors go on
 
-fewer : (n : ℕ) (xs : List Action) → 0 < n → n ≤ length xs → length (drop n xs) < length xs
-fewer n xs s h = omega (arith, s, h, ap length (take-append-drop n xs), length-append (take n xs) (drop n xs), length-take n xs)
+shorter : (n : ℕ) (xs : List Action) → n ≤ length xs → length (drop n xs) + n ≡ length xs
+shorter n xs h = omega (arith, h, ap length (take-append-drop n xs), length-append (take n xs) (drop n xs), length-take n xs)
 
 front_shorter : (l : Way) → length l.front ≤ length (left l)
 front_shorter l = omega (arith, length-append l.front l.behind)
 
-pub moved_later : (done after : Walk) (l e l' : Way) (n : ℕ) → 0 < n → Goes done l e n 0 after → left l' ≡ drop n (left l) → IsMoved done l e after l' e
-moved_later done after l e l' n s g h =
-    let f = g.later_fits in let k = front_shorter l in
-    let less = fewer n (left l) s (omega (arith, f, k)) in
-    record {
-      is = g.is ∙ ap (λ x. expects after x (left e)) (sym h);
-      room = subst (λ x. HasAllRoom after x (left e)) (sym h) g.room;
-      smaller = omega (arith, less, ap length h);
-    }
+-- the walk with other touched keys
+abbrev pub with_touched : Option (List (List ℕ)) → Walk → Walk
+with_touched t w = record { later = w.later; earlier = w.earlier; touched = t; place = w.place; length = w.length }
 
-pub moved_earlier : (done after : Walk) (l e e' : Way) (n : ℕ) → 0 < n → Goes done l e 0 n after → left e' ≡ drop n (left e) → IsMoved done l e after l e'
-moved_earlier done after l e e' n s g h =
-    let f = g.earlier_fits in let k = front_shorter e in
-    let less = fewer n (left e) s (omega (arith, f, k)) in
-    record {
-      is = g.is ∙ ap (λ x. expects after (left l) x) (sym h);
-      room = subst (λ x. HasAllRoom after (left l) x) (sym h) g.room;
-      smaller = omega (arith, less, ap length h);
-    }
-
-pub moved_both : (done after : Walk) (l e l' e' : Way) (n : ℕ) → 0 < n → Goes done l e n n after → left l' ≡ drop n (left l) → left e' ≡ drop n (left e) → IsMoved done l e after l' e'
-moved_both done after l e l' e' n s g h j =
+moved : (done after : Walk) (l e l' e' : Way) (n m : ℕ) (t : Option (List (List ℕ))) → 0 < n + m → Goes done l e n m after → left l' ≡ drop n (left l) → left e' ≡ drop m (left e)
+    → IsInStep (with_touched t after) l'.under e'.under → IsMoved done l e (with_touched t after) l' e'
+moved done after l e l' e' n m t s g h j step =
     let f = g.later_fits in let k = front_shorter l in
     let fe = g.earlier_fits in let ke = front_shorter e in
-    let less = fewer n (left l) s (omega (arith, f, k)) in
-    let less_e = fewer n (left e) s (omega (arith, fe, ke)) in
+    let less = shorter n (left l) (omega (arith, f, k)) in
+    let less_e = shorter m (left e) (omega (arith, fe, ke)) in
+    let room = subst (λ x. HasAllRoom after x (left e')) (sym h) (subst (λ y. HasAllRoom after (drop n (left l)) y) (sym j) g.room) in
     record {
       is = g.is ∙ (λ i. expects after (sym h i) (sym j i));
-      room = subst (λ x. HasAllRoom after x (left e')) (sym h) (subst (λ y. HasAllRoom after (drop n (left l)) y) (sym j) g.room);
-      smaller = omega (arith, less, less_e, ap length h, ap length j);
+      room = record { within = room.within; later = room.later; earlier = room.earlier };
+      in_step = step;
+      smaller = omega (arith, less, less_e, ap length h, ap length j, s);
     }
+
+pub moved_later : (done after : Walk) (l e l' : Way) (n : ℕ) (t : Option (List (List ℕ))) → 0 < n → Goes done l e n 0 after → left l' ≡ drop n (left l) → Touches after.touched l.under t l'.under → IsMoved done l e (with_touched t after) l' e
+moved_later done after l e l' n t s g h k =
+    moved done after l e l' e n 0 t (omega (arith, s)) g h refl (skipped_later after.touched t after.later.out after.earlier.out l.under l'.under e.under k g.in_step)
+
+pub moved_earlier : (done after : Walk) (l e e' : Way) (n : ℕ) (t : Option (List (List ℕ))) → 0 < n → Goes done l e 0 n after → left e' ≡ drop n (left e) → Touches after.touched e.under t e'.under → IsMoved done l e (with_touched t after) l e'
+moved_earlier done after l e e' n t s g h k =
+    moved done after l e l e' 0 n t (omega (arith, s)) g refl h (skipped_earlier after.touched t after.later.out after.earlier.out l.under e.under e'.under k g.in_step)
+
+pub moved_both : (done after : Walk) (l e l' e' : Way) (n : ℕ) (s t : Option (List (List ℕ))) → 0 < n → Goes done l e n n after → left l' ≡ drop n (left l) → Touches after.touched l.under s l'.under → left e' ≡ drop n (left e) → Touches s e.under t e'.under
+    → IsMoved done l e (with_touched t after) l' e'
+moved_both done after l e l' e' n s t p g h k j i =
+    moved done after l e l' e' n n t (omega (arith, p)) g h j
+    (skipped_earlier s t after.later.out after.earlier.out l'.under e.under e'.under i (skipped_later after.touched s after.later.out after.earlier.out l.under l'.under e.under k g.in_step))
 
 -- ---- the end
 

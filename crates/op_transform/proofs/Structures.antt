@@ -1,5 +1,5 @@
 -- Both results of the transform of structured operations are structured.
-use Rattle.std.proofs.Common.{Ok, ◌≡◌, ℕ, zero, suc, ◌+◌, ◌-◌, ◌<◌, ◌&&◌, sym, subst, Some, List, [], ◌∷◌, arith}
+use Rattle.std.proofs.Common.{Ok, ◌≡◌, ℕ, zero, suc, ◌+◌, ◌-◌, ◌<◌, ◌&&◌, sym, subst, List, [], ◌∷◌, arith}
 use Rattle.std.proofs.lemmas.Bool.{and_parts}
 use Rattle.doc_items.specs.Balance.{level, Closes}
 use Rattle.doc_items.specs.Changes.{ChangeSet}

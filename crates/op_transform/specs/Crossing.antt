@@ -11,7 +11,7 @@
 --     keep_all               an item is kept as it is
 use Rattle.std.specs.Prelude.{Bool, true, cond, ◌&&◌, Option, None, Some, nat_eq}
 use Rattle.std.specs.FinMap.{len}
-use Rattle.doc_items.specs.Maps.{Key, Map, same_value, merge, matches}
+use Rattle.doc_items.specs.Maps.{Key, same_value, merge, matches}
 use Rattle.doc_items.specs.Changes.{KeyChange, ChangeSet, agrees, put, none_running}
 use Rattle.doc_items.specs.declared.item.Content.{Content}
 use Rattle.doc_items.specs.declared.item.Item.{Item}

@@ -1,6 +1,7 @@
 -- One step of the walk, and the whole of it.
 --     HasAllRoom w ls es     the walk's outputs have room for these actions too
---     Goes done l e n m done'     n actions of the later operation and m of the earlier one are passed
+--     Goes done l e n m done'     n actions of the later operation and m of the earlier one are passed, and what runs there is in
+--                            step
 --     IsStep s ..            so many as the step says; at the end of both nothing happens
 --     IsStepped              so, and the cursors stand after them
 --     IsBroken               the walk is refused
@@ -14,6 +15,7 @@ use Rattle.doc_op.specs.Cursors.{Way, left}
 use Rattle.doc_op.specs.Lengths.{input_len, inserted_len}
 use Rattle.doc_op.specs.Normal.{normal_form}
 use Rattle.op_transform.specs.Transform.{transform}
+use Rattle.op_transform.specs.Touches.{IsInStep}
 use Rattle.op_transform.specs.Walks.{expects, IsWithin}
 use Rattle.op_transform.specs.declared.fault.TransformFault.{TransformFault}
 use Rattle.op_transform.specs.declared.fault.TransformFault.TheVariants.{CountTooLarge, Conflict, Memory}
@@ -37,6 +39,7 @@ pub record Goes (done : Walk) (l e : Way) (n m : ℕ) (after : Walk) : Type 0 wh
   pub later_fits : n ≤ length l.front
   pub earlier_fits : m ≤ length e.front
   pub room : HasAllRoom after (drop n (left l)) (drop m (left e))
+  pub in_step : IsInStep after l.under e.under
 
 abbrev pub IsAtEnd : Walk → Way → Way → Walk → Type 0
 IsAtEnd done l e after = (left l ≡ []) × (left e ≡ []) × (after ≡ done)
@@ -50,6 +53,7 @@ IsStep (Both n) done l e after = (0 < n) × Goes done l e n n after
 pub record IsMoved (done : Walk) (l e : Way) (after : Walk) (l_after e_after : Way) : Type 0 where
   pub is : expects done (left l) (left e) ≡ expects after (left l_after) (left e_after)
   pub room : HasAllRoom after (left l_after) (left e_after)
+  pub in_step : IsInStep after l_after.under e_after.under
   pub smaller : length (left l_after) + length (left e_after) < length (left l) + length (left e)
 
 abbrev pub IsStepped : Bool → Walk → Way → Way → Walk → Way → Way → Type 0

@@ -1,14 +1,17 @@
 -- What the steps of the walk keep, whatever actions follow.
 --     levels cs n            the depth after these contents, from the depth n before them
---     common cs es           how many contents are equal before the first that isn't
 --     NoInsert l             the actions don't begin with an insertion, so that one of the earlier operation comes first
 --     expects w ls es        what comes out in the end, where these actions are still to come
 --     Passed, PassedEarlier  the walk went past actions of both, or an insertion of the earlier operation
 --     Refused                it is refused within them
---     HasRoomFor             an output may take and give so many items more
+--     HasRoomForOne          an output has room for one item more
 --     IsWithin w, HasRoom w n, Grows     no output is longer than the walk's length;  it has room for n items;  it has n more
+--     HasRoomForBoth w x y   x and y are fit runs of items that stay, equally long, and the walk has room for them
 --     IsInserted, IsDeleted, IsDeletedBehind     what an insertion makes of the two sides, and a deletion of one
-use Rattle.std.specs.Prelude.{◌≡◌, ℕ, suc, ◌+◌, ◌<◌, ◌≤◌, Bool, true, false, cond, ◌&&◌, List, [], ◌∷◌, ◌++◌, length, map, replicate, Err}
+--     can_stay x u y w       the two runs of items can stay in both ways
+--     IsKept                 what a run of items that stay makes of a side
+--     AreBothKept, AreKept   what two such runs make of the walk;  or they can't stay, and nothing happens
+use Rattle.std.specs.Prelude.{◌≡◌, ℕ, ◌+◌, ◌<◌, ◌≤◌, Bool, true, false, ◌&&◌, List, [], ◌∷◌, ◌++◌, length, map, replicate, Err}
 use Rattle.doc_items.specs.Balance.{level}
 use Rattle.doc_items.specs.Changes.{ChangeSet, back}
 use Rattle.doc_items.specs.Limits.{max_count}
@@ -17,24 +20,23 @@ use Rattle.doc_items.specs.declared.item.Content.{Content}
 use Rattle.doc_items.specs.declared.item.Item.{Item}
 use Rattle.change_view.specs.Rules.{one_second_turned, same_old}
 use Rattle.change_view.specs.Sets.{as_inserted}
-use Rattle.doc_op.specs.Actions.{AttributeChange, Action, Ins, insertion, deletion}
-use Rattle.doc_op.specs.Apply.{content_agrees, put_content, same_content}
+use Rattle.doc_op.specs.Actions.{AttributeChange, Action, Keep, Ins, insertion, deletion}
+use Rattle.doc_op.specs.Apply.{put_content}
 use Rattle.doc_op.specs.Lengths.{input_len, output_len}
-use Rattle.op_transform.specs.Crossing.{keep_all}
+use Rattle.op_transform.specs.Crossing.{cross, over, under, attributes_cross, attributes_over, attributes_under, keep_all}
+use Rattle.op_runs.specs.Contents.{all_agree}
+use Rattle.op_runs.specs.Kept.{kept_change, IsFitKept}
+use Rattle.op_runs.specs.Rooms.{HasRoomFor}
 use Rattle.op_transform.specs.Transform.{Outcome, front, earlier_inserts, transform_from}
 use Rattle.op_transform.specs.declared.fault.TransformFault.{TransformFault}
 use Rattle.op_transform.specs.declared.fault.TransformFault.TheVariants.{CountTooLarge, Conflict, Memory}
 use Rattle.op_transform.specs.declared.side.Side.{Side}
+use Rattle.op_runs.specs.declared.kept.Kept.{Kept}
 use Rattle.op_transform.specs.declared.walk.Walk.{Walk}
 
 abbrev pub levels : List Content → ℕ → ℕ
 levels [] n = n
 levels (c ∷ cs) n = levels cs (level c n)
-
-abbrev pub common : List Content → List Content → ℕ
-common [] es = 0
-common (c ∷ cs) [] = 0
-common (c ∷ cs) (e ∷ es) = cond (same_content c e) (suc (common cs es)) 0
 
 abbrev pub NoInsert : List Action → Type 0
 NoInsert l = (y : Item) (k b d : ℕ) (es : List Action) → transform_from k b l d (Ins y ∷ es)
@@ -58,9 +60,6 @@ Refused old x y Memory = Unit {0}
 
 -- ---- lengths
 
-abbrev pub HasRoomFor : List Action → ℕ → Type 0
-HasRoomFor acts n = (input_len acts + n ≤ max_count) × (output_len acts + n ≤ max_count)
-
 abbrev pub HasRoomForOne : List Action → Type 0
 HasRoomForOne acts = HasRoomFor acts 1
 
@@ -73,6 +72,12 @@ IsWithin w = IsSideWithin w.later w.place w.length × IsSideWithin w.earlier w.p
 
 abbrev pub HasRoom : Walk → ℕ → Type 0
 HasRoom w n = IsWithin w × (w.length + n ≤ max_count)
+
+pub record HasRoomForBoth (w : Walk) (x y : Kept) : Type 0 where
+  pub fit_x : IsFitKept x
+  pub fit_y : IsFitKept y
+  pub same : x.count ≡ y.count
+  pub room : HasRoom w x.count
 
 abbrev pub Grows : Walk → ℕ → Walk → Type 0
 Grows old n new = IsWithin new × (new.length ≡ old.length + n)
@@ -90,12 +95,27 @@ pub record IsDeleted (w : ChangeSet) (cs : List Content) (side after : Side) : T
   pub out : after.out ≡ side.out ++ map (deletion w) cs
   pub depth : after.depth ≡ levels cs side.depth
 
-abbrev pub all_agree : AttributeChange → List Content → Bool
-all_agree a [] = true
-all_agree a (c ∷ cs) = content_agrees a c && all_agree a cs
-
 -- a deletion of cs with the names v, where the other operation keeps them under the changes u and a
 abbrev pub IsDeletedBehind : Bool → ChangeSet → ChangeSet → AttributeChange → List Content → Side → Side → Type 0
 IsDeletedBehind false v u a cs side after = (all_agree a cs && matches same_old v u) ≡ false
 IsDeletedBehind true v u a cs side after = ((all_agree a cs && matches same_old v u) ≡ true)
     × IsDeleted (merge one_second_turned v u) (map (put_content a) cs) side after
+
+pub record IsKept (n : ℕ) (u : ChangeSet) (a : AttributeChange) (side after : Side) : Type 0 where
+  pub out : after.out ≡ side.out ++ replicate n (Keep u a)
+  pub depth : after.depth ≡ side.depth
+
+abbrev pub can_stay : Kept → ChangeSet → Kept → ChangeSet → Bool
+can_stay x u y w = cross u w && attributes_cross (kept_change x.part) (kept_change y.part)
+
+-- the later operation keeps x where u runs, the earlier one y where w runs
+pub record AreBothKept (x : Kept) (u : ChangeSet) (y : Kept) (w : ChangeSet) (done after : Walk) : Type 0 where
+  pub stays : can_stay x u y w ≡ true
+  pub later : IsKept x.count (over u w) (attributes_over (kept_change x.part) (kept_change y.part)) done.later after.later
+  pub earlier : IsKept y.count (under w u) (attributes_under (kept_change y.part) (kept_change x.part)) done.earlier after.earlier
+  pub place : after.place ≡ done.place
+  pub length : after.length ≡ done.length
+
+abbrev pub AreKept : Bool → Kept → ChangeSet → Kept → ChangeSet → Walk → Walk → Type 0
+AreKept false x u y w done after = (can_stay x u y w ≡ false) × (after ≡ done)
+AreKept true x u y w done after = AreBothKept x u y w done after

@@ -4,14 +4,14 @@ ghost use Rattle.doc_items.specs.Changes.{IsAscending, change_set};
 ghost use Rattle.doc_op.specs.Actions.{Keep, Update};
 ghost use Rattle.doc_op.specs.Runs.{part_change, IsFitPart};
 ghost use Rattle.op_transform.specs.Crossing.{cross, attributes_cross, attributes_over, attributes_under, update_if_any};
-ghost use Rattle.op_transform.specs.Taken.{kept_change, IsFitKept};
-ghost use Rattle.op_transform.specs.Walks.{HasRoomFor, HasRoomForOne};
+ghost use Rattle.op_runs.specs.Kept.{kept_change, IsFitKept};
+ghost use Rattle.op_runs.specs.Rooms.{HasRoomFor};
+ghost use Rattle.op_transform.specs.Walks.{HasRoomForOne};
 
-use crate::contents::{agree, put};
-use crate::taken::Kept;
 use change_view::{ChangeView, Rule, Test};
 use doc_items::{Attributes, Changes, Memory};
 use doc_op::{AttributePart, NormalBuilder};
+use op_runs::{Kept, agree, put, write_kept, write_part};
 use std::alloc::Global;
 
 /// Whether items can stay in both ways, under the running changes `u` and `w`.
@@ -68,43 +68,6 @@ fn update_crosses(alloc: Global, changes: &Changes, b: AttributePart<'_>) -> Res
             Ok(mine.passes(&theirs, Test::SameOld))
         }
         AttributePart::Replace { old, new: _ } => Ok(changes.agrees(old)),
-    }
-}
-
-// Writes a change as it is.
-fn write_part(
-    out: &mut NormalBuilder,
-    alloc: Global,
-    running: &ChangeView<'_>,
-    part: AttributePart<'_>,
-) -> Result<(), Memory>
-    requires fit { IsFitPart part }
-    requires room { HasRoomForOne out.old }
-    ensures { OnOk result (out.new ≡ out.old ++ Keep running.now (part_change part.entry) ∷ []) }
-{
-    match part {
-        AttributePart::Update(changes) => {
-            let view = ChangeView::of(alloc, changes)?;
-            out.update(alloc, running, &view)
-        }
-        AttributePart::Replace { old, new } => { out.replace(alloc, running, old, new) }
-    }
-}
-
-// Writes items that stay.
-fn write_kept(
-    out: &mut NormalBuilder,
-    alloc: Global,
-    running: &ChangeView<'_>,
-    kept: Kept<'_>,
-) -> Result<(), Memory>
-    requires fit { IsFitKept kept }
-    requires room { HasRoomFor out.old kept.count }
-    ensures { OnOk result (out.new ≡ out.old ++ replicate kept.entry.count (Keep running.now (kept_change kept.entry.part))) }
-{
-    match kept.part {
-        None => out.keep(alloc, kept.count, running),
-        Some(part) => write_part(out, alloc, running, part),
     }
 }
 

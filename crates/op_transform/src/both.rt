@@ -69,6 +69,7 @@ fn finish(alloc: Global, done: Walk) -> Result<Pair, Memory>
     let Walk {
         later,
         earlier,
+        touched: _touched,
         place: _,
         length: _,
     } = done;

@@ -3,7 +3,7 @@
 
 mod attributes;
 mod both;
-mod contents;
+mod depth;
 mod fault;
 mod pair;
 mod side;

@@ -2,14 +2,16 @@
 ghost use Rattle.std.specs.Prelude.{◌≡◌, ◌<◌, ◌^◌, length, IfOk};
 ghost use Rattle.doc_op.specs.Actions.{Unchanged};
 ghost use Rattle.doc_op.specs.Runs.{contents, part_change, IsFitPart};
-ghost use Rattle.op_transform.specs.Taken.{kept_change, IsFitKept};
-ghost use Rattle.op_transform.specs.Walks.{HasRoomFor, IsInserted, IsDeletedBehind};
+ghost use Rattle.op_runs.specs.Kept.{kept_change, IsFitKept};
+ghost use Rattle.op_runs.specs.Rooms.{HasRoomFor};
+ghost use Rattle.op_transform.specs.Walks.{IsInserted, IsDeletedBehind};
 
-use crate::contents::{agree, level, put};
-use crate::taken::Kept;
+use crate::depth::level;
+use change_table::ChangeTable;
 use change_view::{ChangeView, Rule, Test};
 use doc_items::Memory;
 use doc_op::{AttributePart, ContentRun, NormalBuilder};
+use op_runs::{Kept, agree, put};
 use std::alloc::Global;
 
 /// What comes of an operation, and how many deleted elements it has open.
@@ -42,13 +44,13 @@ pub(crate) fn insert(
 
 impl Side {
     /// Deletes the run where the other operation keeps it under these changes, if they agree; or answers false.
-    pub fn delete<'a>(
+    pub fn delete(
         &mut self,
         alloc: Global,
         run: ContentRun<'_>,
-        names: &ChangeView<'a>,
+        names: &ChangeTable,
         kept: Kept<'_>,
-        changes: &ChangeView<'a>,
+        changes: &ChangeTable,
     ) -> Result<bool, Memory>
         requires same { kept.count ≡ length (contents run) }
         requires fit { IsFitKept kept }
@@ -57,14 +59,16 @@ impl Side {
         ensures { IfOk result (λ t. IsDeletedBehind t names.now changes.now (kept_change kept.entry.part)
             (contents run.entry) self.old self.new) }
     {
+        let names = names.view(alloc)?;
+        let changes = changes.view(alloc)?;
         match kept.part {
-            None => self.delete_after(alloc, run, names, changes),
-            Some(part) => self.delete_changed(alloc, run, names, part, changes),
+            None => self.delete_after(alloc, run, &names, &changes),
+            Some(part) => self.delete_changed(alloc, run, &names, part, &changes),
         }
     }
 
     // Deletes the run after the running changes of the other operation, if they agree with the names; or answers false.
-    #[tactic(auto, using(crate::proofs::Runs::all_unchanged, crate::proofs::Runs::put_all_unchanged))]
+    #[tactic(auto, using(op_runs::proofs::Runs::all_unchanged, op_runs::proofs::Runs::put_all_unchanged))]
     fn delete_after<'a>(
         &mut self,
         alloc: Global,

@@ -4,13 +4,13 @@ ghost use Rattle.doc_op.specs.Actions.{insertion};
 ghost use Rattle.doc_op.specs.Cursors.{left};
 ghost use Rattle.doc_op.specs.Runs.{contents};
 ghost use Rattle.op_transform.specs.Taken.{taken_actions, IsFitTaken};
+ghost use Rattle.op_transform.specs.Touches.{IsInStep};
 ghost use Rattle.op_transform.specs.Walks.{NoInsert};
 ghost use Rattle.op_transform.specs.Steps.{HasAllRoom, IsStep, IsStepped, IsBroken};
 
 use crate::TransformFault;
 use crate::taken::{Ahead, Taken, ahead_of};
 use crate::walk::Walk;
-use change_view::ChangeView;
 use doc_op::{ContentRun, Cursor};
 use std::alloc::Global;
 
@@ -41,7 +41,7 @@ fn later_inserts(
         (λ s. IsStep s done.old l.now e.now done.new)
         (λ f. IsBroken f done.old (left l.now) (left e.now)) }
 {
-    let changes = ChangeView::of(alloc, l.running())?;
+    let changes = l.running().view(alloc)?;
     done.insert_later(alloc, run, &changes)?;
     Ok(Progress::Later(run.len()))
 }
@@ -61,7 +61,7 @@ fn earlier_inserts(
         (λ s. IsStep s done.old l.now e.now done.new)
         (λ f. IsBroken f done.old (left l.now) (left e.now)) }
 {
-    let changes = ChangeView::of(alloc, e.running())?;
+    let changes = e.running().view(alloc)?;
     done.insert_earlier(alloc, run, &changes)?;
     Ok(Progress::Earlier(run.len()))
 }
@@ -79,14 +79,19 @@ fn both_take<'a>(
     requires ahead_x { taken_actions l.now.under x ≡ l.now.front }
     requires ahead_y { taken_actions e.now.under y ≡ e.now.front }
     requires room { HasAllRoom done.old (left l.now) (left e.now) }
+    requires in_step { IsInStep done.old l.now.under e.now.under }
     ensures { MatchResult result
         (λ s. IsStep s done.old l.now e.now done.new)
         (λ f. IsBroken f done.old (left l.now) (left e.now)) }
 {
-    let u = ChangeView::of(alloc, l.running())?;
-    let w = ChangeView::of(alloc, e.running())?;
     let count = smaller(x.len(), y.len());
-    match done.meet(alloc, x.first(count), &u, y.first(count), &w) {
+    match done.meet(
+        alloc,
+        x.first(count),
+        l.running(),
+        y.first(count),
+        e.running(),
+    ) {
         Ok(()) => Ok(Progress::Both(count)),
         Err(fault) => Err(fault),
     }
@@ -105,7 +110,8 @@ fn advance<'a>(
     l: &'a Cursor<'_>,
     e: &'a Cursor<'_>,
 ) -> Result<Progress, TransformFault>
-    requires { HasAllRoom done.old (left l.now) (left e.now) }
+    requires room { HasAllRoom done.old (left l.now) (left e.now) }
+    requires in_step { IsInStep done.old l.now.under e.now.under }
     ensures { MatchResult result
         (λ s. IsStep s done.old l.now e.now done.new)
         (λ f. IsBroken f done.old (left l.now) (left e.now)) }
@@ -132,7 +138,8 @@ pub(crate) fn step(
     l: &mut Cursor<'_>,
     e: &mut Cursor<'_>,
 ) -> Result<bool, TransformFault>
-    requires { HasAllRoom done.old (left l.old) (left e.old) }
+    requires room { HasAllRoom done.old (left l.old) (left e.old) }
+    requires in_step { IsInStep done.old l.old.under e.old.under }
     ensures { MatchResult result
         (λ more. IsStepped more done.old l.old e.old done.new l.new e.new)
         (λ f. IsBroken f done.old (left l.old) (left e.old)) }
@@ -144,16 +151,16 @@ pub(crate) fn step(
     match progress {
         Progress::End => Ok(false),
         Progress::Later(count) => {
-            l.skip(alloc, count)?;
+            l.skip(alloc, count, &mut done.touched)?;
             Ok(true)
         }
         Progress::Earlier(count) => {
-            e.skip(alloc, count)?;
+            e.skip(alloc, count, &mut done.touched)?;
             Ok(true)
         }
         Progress::Both(count) => {
-            l.skip(alloc, count)?;
-            e.skip(alloc, count)?;
+            l.skip(alloc, count, &mut done.touched)?;
+            e.skip(alloc, count, &mut done.touched)?;
             Ok(true)
         }
     }

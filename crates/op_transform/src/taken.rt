@@ -4,7 +4,8 @@ ghost use Rattle.doc_items.specs.Changes.{ChangeSet};
 ghost use Rattle.doc_op.specs.Cursors.{left};
 ghost use Rattle.op_transform.specs.Taken.{ahead_actions, taken_actions, taken_len, IsFitAhead, IsEndAhead, IsFitTaken};
 
-use doc_op::{AttributePart, ContentRun, Cursor, Head};
+use doc_op::{ContentRun, Cursor, Head};
+use op_runs::Kept;
 
 /// The run at which a cursor stands.
 #[derive(Clone, Copy)]
@@ -24,13 +25,6 @@ pub(crate) enum Taken<'a> {
     Kept(Kept<'a>),
     /// They are deleted.
     Deleted(ContentRun<'a>),
-}
-
-/// So many items that stay; where one element's attributes change, it is one item.
-#[derive(Clone, Copy)]
-pub(crate) struct Kept<'a> {
-    pub count: u64,
-    pub part: Option<AttributePart<'a>>,
 }
 
 /// What is ahead of a cursor.

@@ -4,6 +4,7 @@ use Rattle.doc_op.specs.Cursors.{left}
 use Rattle.op_compose.specs.Compose.{compose}
 use Rattle.op_compose.specs.Steps.{together}
 use Rattle.op_compose.proofs.Steps.{all_room, ended, composed}
+use Rattle.op_compose.proofs.Touches.{any_key}
 use Rattle.op_compose.proofs.composition.weave_over.Goals as goal
 
 pub walk-init : goal.walk-init
@@ -12,6 +13,7 @@ walk-init c =
     record {
       is = c.new-done.ensures.start (left c.in_ok-f.f) (left c.in_ok-s.s) ∙ (λ i. compose (c.in_ok-f.ensures i) (c.in_ok-s.ensures i));
       room = all_room c.new-done.result (left c.in_ok-f.f) (left c.in_ok-s.s) c.new-done.ensures.out c.new-done.ensures.place (omega (arith, same, c.requires));
+      in_step = any_key c.new-done.result c.in_ok-f.f.under c.in_ok-s.s.under c.new-done.ensures.touched;
     }
 
 pub returns-then-not-more : goal.returns-then-not-more

@@ -2,7 +2,7 @@ use Rattle.std.proofs.Common.{◌++◌, map, sym, ◌∙◌}
 use Rattle.std.proofs.lemmas.Bool.{and_from}
 use Rattle.doc_op.specs.Actions.{deletion}
 use Rattle.doc_op.specs.Runs.{contents}
-use Rattle.op_compose.proofs.Runs.{all_unchanged, put_all_unchanged}
+use Rattle.op_runs.proofs.Runs.{all_unchanged, put_all_unchanged}
 use Rattle.op_compose.proofs.output.delete_same.Goals as goal
 
 pub returns : goal.returns

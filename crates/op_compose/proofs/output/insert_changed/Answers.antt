@@ -1,4 +1,4 @@
-use Rattle.op_compose.proofs.Runs.{text_disagrees}
+use Rattle.op_runs.proofs.Runs.{text_disagrees}
 use Rattle.op_compose.proofs.output.insert_changed.Goals as goal
 
 pub returns-in-Characters : goal.returns-in-Characters

@@ -25,7 +25,7 @@ returns-then-count-eq0-clause-normal c = c.in_ok-undo.ensures.normal
     ∙ ap normal_form (walk_ends (items_of c.args.items) (actions c.args.op.now) c.walk.cursor.front c.walk.cursor.behind c.walk.done c.undo.new.self c.walk.invariant c.in_ok-count.ensures.undone (c.in_ok-count.ensures.end c.if-count-eq0.true))
 
 pub walk-preserved : goal.walk-preserved
-walk-preserved c = walk_goes (items_of c.args.items) (actions c.args.op.now) c.walk.cursor.front c.walk.cursor.behind (left c.skip.new.self) c.walk.done c.undo.new.self c.in_ok-count.count c.walk.invariant c.in_ok-count.ensures.undone c.in_ok-count.ensures.count c.in_ok-skip.ensures
+walk-preserved c = walk_goes (items_of c.args.items) (actions c.args.op.now) c.walk.cursor.front c.walk.cursor.behind (left c.skip.new.self) c.walk.done c.undo.new.self c.in_ok-count.count c.walk.invariant c.in_ok-count.ensures.undone c.in_ok-count.ensures.count c.in_ok-skip.ensures.left
 
 pub walk-smaller : goal.walk-smaller
-walk-smaller c = fewer c.walk.cursor.front c.walk.cursor.behind (left c.skip.new.self) c.in_ok-count.count c.in_ok-count.ensures.count (omega (arith, c.if-count-eq0.false)) c.in_ok-skip.ensures
+walk-smaller c = fewer c.walk.cursor.front c.walk.cursor.behind (left c.skip.new.self) c.in_ok-count.count c.in_ok-count.ensures.count (omega (arith, c.if-count-eq0.false)) c.in_ok-skip.ensures.left

@@ -10,5 +10,5 @@ insert_earlier-requires c = room_earlier c.args.done.now (left c.args.l.now) c.a
 
 pub returns : goal.returns
 returns c =
-    let ahead = ap (λ u. map (insertion u) (contents c.args.run)) (c.in_ok-changes.ensures ∙ c.running.ensures.value) ∙ c.requires.ahead in
-    (omega (arith, c.len.ensures, c.requires.some), goes_earlier _ _ _ _ c.in_ok-changes.changes (contents c.args.run) _ ahead c.len.ensures c.requires.behind c.in_ok-insert_earlier.ensures.passed c.in_ok-insert_earlier.ensures.room c.requires.room)
+    let ahead = ap (λ u. map (insertion u) (contents c.args.run)) (c.in_ok-changes.ensures ∙ c.running.ensures) ∙ c.requires.ahead in
+    (omega (arith, c.len.ensures, c.requires.some), goes_earlier _ _ _ _ c.in_ok-changes.changes (contents c.args.run) _ ahead c.len.ensures c.requires.behind c.in_ok-insert_earlier.ensures.passed c.in_ok-insert_earlier.ensures.room c.in_ok-insert_earlier.ensures.touched c.requires.room)

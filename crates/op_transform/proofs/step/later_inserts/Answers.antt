@@ -10,5 +10,5 @@ insert_later-requires c = room_later c.args.done.now c.args.l.now (left c.args.e
 
 pub returns : goal.returns
 returns c =
-    let ahead = ap (λ u. map (insertion u) (contents c.args.run)) (c.in_ok-changes.ensures ∙ c.running.ensures.value) ∙ c.requires.ahead in
-    (omega (arith, c.len.ensures, c.requires.some), goes_later _ _ _ _ c.in_ok-changes.changes (contents c.args.run) _ ahead c.len.ensures c.in_ok-insert_later.ensures.passed c.in_ok-insert_later.ensures.room c.requires.room)
+    let ahead = ap (λ u. map (insertion u) (contents c.args.run)) (c.in_ok-changes.ensures ∙ c.running.ensures) ∙ c.requires.ahead in
+    (omega (arith, c.len.ensures, c.requires.some), goes_later _ _ _ _ c.in_ok-changes.changes (contents c.args.run) _ ahead c.len.ensures c.in_ok-insert_later.ensures.passed c.in_ok-insert_later.ensures.room c.in_ok-insert_later.ensures.touched c.requires.room)

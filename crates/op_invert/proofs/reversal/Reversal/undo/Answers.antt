@@ -17,7 +17,7 @@ pub keep-requires-clause-output : goal.keep-requires-clause-output
 keep-requires-clause-output c = omega (arith, c.requires.room.output, ap input_len c.in-Keep.ensures.front, input_len-kept c.in-Keep.count c.args.cursor.now.under Unchanged)
 
 pub returns-in-Keep-clause-undone : goal.returns-in-Keep-clause-undone
-returns-in-Keep-clause-undone c = undone_kept (items_of c.args.items) _ _ _ _ _ Unchanged _ c.in-Keep.ensures.front (c.in_ok-changes.ensures ∙ c.running.ensures.value)
+returns-in-Keep-clause-undone c = undone_kept (items_of c.args.items) _ _ _ _ _ Unchanged _ c.in-Keep.ensures.front (c.in_ok-changes.ensures ∙ c.running.ensures)
     (omega (arith, c.requires.room.place, ap input_len c.in-Keep.ensures.front, input_len-kept c.in-Keep.count c.args.cursor.now.under Unchanged))
     c.in_ok-keep-in-Keep.ensures.out c.in_ok-keep-in-Keep.ensures.place
 
@@ -31,7 +31,7 @@ pub change_back-requires-clause-output : goal.change_back-requires-clause-output
 change_back-requires-clause-output c = omega (arith, c.requires.room.output, ap input_len c.in-Change.ensures.front)
 
 pub returns-in-Change-clause-undone : goal.returns-in-Change-clause-undone
-returns-in-Change-clause-undone c = undone_kept (items_of c.args.items) _ _ _ _ _ (part_change c.in-Change.part) 1 c.in-Change.ensures.front (c.in_ok-changes.ensures ∙ c.running.ensures.value)
+returns-in-Change-clause-undone c = undone_kept (items_of c.args.items) _ _ _ _ _ (part_change c.in-Change.part) 1 c.in-Change.ensures.front (c.in_ok-changes.ensures ∙ c.running.ensures)
     (omega (arith, c.requires.room.place, ap input_len c.in-Change.ensures.front))
     c.in_ok-change_back-in-Change.ensures.out c.in_ok-change_back-in-Change.ensures.place
 
@@ -39,7 +39,7 @@ pub delete-requires : goal.delete-requires
 delete-requires c = omega (arith, c.requires.room.input, ap output_len c.in-Insert.ensures.front, output_len-insertions c.args.cursor.now.under (contents c.in-Insert.run'))
 
 pub returns-in-Insert-clause-undone : goal.returns-in-Insert-clause-undone
-returns-in-Insert-clause-undone c = undone_inserted (items_of c.args.items) _ _ _ _ _ (contents c.in-Insert.run') c.in-Insert.ensures.front (c.in_ok-changes.ensures ∙ c.running.ensures.value)
+returns-in-Insert-clause-undone c = undone_inserted (items_of c.args.items) _ _ _ _ _ (contents c.in-Insert.run') c.in-Insert.ensures.front (c.in_ok-changes.ensures ∙ c.running.ensures)
     c.in_ok-delete-in-Insert.ensures.out c.delete.ensures.place
 
 pub put_back-requires-clause-place : goal.put_back-requires-clause-place

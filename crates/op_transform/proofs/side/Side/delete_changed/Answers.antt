@@ -1,4 +1,4 @@
-use Rattle.op_transform.proofs.Runs.{text_disagrees}
+use Rattle.op_runs.proofs.Runs.{text_disagrees}
 use Rattle.op_transform.proofs.side.Side.delete_changed.Goals as goal
 
 pub returns-in-Characters : goal.returns-in-Characters

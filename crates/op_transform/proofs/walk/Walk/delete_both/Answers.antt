@@ -1,17 +1,19 @@
-use Rattle.std.proofs.Common.{◌≡◌, ap, ◌+◌, arith}
+use Rattle.std.proofs.Common.{ap, ◌∙◌, ◌+◌, arith}
+use Rattle.doc_items.specs.Maps.{matches}
+use Rattle.change_view.specs.Rules.{same_old}
 use Rattle.doc_op.specs.Runs.{contents}
 use Rattle.op_transform.proofs.Arms.{both_deleted, both_unlike, names_unlike}
 use Rattle.op_transform.proofs.Rooms.{levels_less}
 use Rattle.op_transform.proofs.walk.Walk.delete_both.Goals as goal
 
 pub returns-then-not-passes-clause-passed : goal.returns-then-not-passes-clause-passed
-returns-then-not-passes-clause-passed c = names_unlike _ _ _ _ _ _ _ _ _ _ c.requires.some c.requires.same c.passes.ensures c.if-not-passes.true
+returns-then-not-passes-clause-passed c = names_unlike _ _ _ _ _ _ _ _ _ _ c.requires.some c.requires.same (c.passes.ensures ∙ (λ i. matches same_old (c.in_ok-u.ensures i) (c.in_ok-w.ensures i))) c.if-not-passes.true
 
 pub returns-then-same-count-clause-passed : goal.returns-then-same-count-clause-passed
-returns-then-same-count-clause-passed c = both_unlike _ _ _ _ _ _ _ _ _ _ _ _ c.requires.same c.len-count.ensures c.common-same.ensures c.if-same-count.true c.passes.ensures c.if-not-passes.false
+returns-then-same-count-clause-passed c = both_unlike _ _ _ _ _ _ _ _ _ _ _ _ c.requires.same c.len-count.ensures c.common-same.ensures c.if-same-count.true (c.passes.ensures ∙ (λ i. matches same_old (c.in_ok-u.ensures i) (c.in_ok-w.ensures i))) c.if-not-passes.false
 
 pub returns-clause-passed : goal.returns-clause-passed
-returns-clause-passed c = both_deleted _ _ _ _ _ _ _ _ _ _ _ _ _ _ c.requires.same c.len-count.ensures c.common-same.ensures (λ h. absurd (omega (arith, h, c.if-same-count.false))) c.passes.ensures c.if-not-passes.false c.level-self.ensures c.level-self-2.ensures
+returns-clause-passed c = both_deleted _ _ _ _ _ _ _ _ _ _ _ _ _ _ c.requires.same c.len-count.ensures c.common-same.ensures (λ h. absurd (omega (arith, h, c.if-same-count.false))) (c.passes.ensures ∙ (λ i. matches same_old (c.in_ok-u.ensures i) (c.in_ok-w.ensures i))) c.if-not-passes.false c.level-self.ensures c.level-self-2.ensures
 
 pub returns-clause-room : goal.returns-clause-room
 returns-clause-room c =

@@ -1,4 +1,4 @@
-use Rattle.std.proofs.Common.{◌≡◌, ap, ◌+◌, arith}
+use Rattle.std.proofs.Common.{ap, ◌+◌, arith}
 use Rattle.op_transform.proofs.Arms.{earlier_inserted}
 use Rattle.op_transform.proofs.Rooms.{inserted_within}
 use Rattle.op_transform.proofs.walk.Walk.insert_earlier.Goals as goal

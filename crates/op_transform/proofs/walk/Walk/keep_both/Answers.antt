@@ -1,23 +1,16 @@
-use Rattle.std.proofs.Common.{◌≡◌, refl, sym, ap, ◌∙◌, ◌+◌, ◌++◌, replicate, arith}
-use Rattle.doc_op.specs.Actions.{Keep}
-use Rattle.op_transform.specs.Crossing.{attributes_over, attributes_under}
-use Rattle.op_transform.specs.Taken.{kept_change}
 use Rattle.op_transform.proofs.Arms.{both_kept, both_refused}
-use Rattle.op_transform.proofs.Rooms.{kept_within}
+use Rattle.op_transform.proofs.Rooms.{both_kept_within}
+use Rattle.op_transform.proofs.Touches.{both_shown}
 use Rattle.op_transform.proofs.walk.Walk.keep_both.Goals as goal
 
 pub returns-then-not-branch-clause-passed : goal.returns-then-not-branch-clause-passed
-returns-then-not-branch-clause-passed c = both_refused _ _ _ _ _ _ _ _ _ _ _ _ c.requires.same c.requires.fit_x.0 c.in_ok-cross.ensures c.if-not-branch.true
+returns-then-not-branch-clause-passed c = both_refused c.args.x c.args.y _ _ _ _ _ c.requires.pair.same c.requires.pair.fit_x.0 c.if-not-branch.true c.in_ok-write_touched.ensures
 
 pub returns-clause-passed : goal.returns-clause-passed
-returns-clause-passed c =
-    let a = kept_change c.args.x.part in
-    let o = kept_change c.args.y.part in
-    both_kept _ _ _ _ _ _ _ _ _ _ _ a o _ c.requires.same c.in_ok-cross.ensures c.if-not-branch.false
-    (c.in_ok-write_over.ensures ∙ ap (λ v. c.args.self.now.later.out ++ replicate c.args.x.count (Keep v (attributes_over a o))) c.in_ok-over.ensures)
-    (c.in_ok-write_under.ensures ∙ ap (λ v. c.args.self.now.earlier.out ++ replicate c.args.y.count (Keep v (attributes_under o a))) c.in_ok-under.ensures)
+returns-clause-passed c = both_kept c.args.x c.args.y _ _ _ _ _ c.requires.pair.same c.if-not-branch.false c.in_ok-write_touched.ensures
 
 pub returns-clause-room : goal.returns-clause-room
-returns-clause-room c =
-    let room = c.requires.room.0 in
-    ((kept_within _ _ _ _ _ _ _ _ _ c.in_ok-write_over.ensures refl room.0, kept_within _ _ _ _ _ _ _ _ _ c.in_ok-write_under.ensures (sym c.requires.same) room.1, omega (arith, room.2)), refl)
+returns-clause-room c = both_kept_within c.args.x c.args.y _ _ _ _ _ c.if-not-branch.false c.in_ok-write_touched.ensures c.requires.pair.same c.requires.pair.room.0
+
+pub returns-clause-in_step : goal.returns-clause-in_step
+returns-clause-in_step c = both_shown c.args.x c.args.y _ _ _ _ _ _ c.if-not-branch.false c.in_ok-write_touched.ensures c.requires.pair.fit_x.0 c.requires.pair.fit_y.0 c.clear.ensures

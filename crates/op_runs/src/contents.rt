@@ -3,17 +3,15 @@ ghost use Rattle.std.specs.Prelude.{◌≡◌, length, map, IfOk};
 ghost use Rattle.doc_items.specs.declared.item.Content.TheVariants.{Character};
 ghost use Rattle.doc_op.specs.Apply.{attributes_agree, put_attributes};
 ghost use Rattle.doc_op.specs.Runs.{contents, part_change, IsFitPart};
-ghost use Rattle.op_compose.specs.Chains.{attributes_back};
-ghost use Rattle.op_compose.specs.Weaves.{common};
+ghost use Rattle.op_runs.specs.Contents.{common};
 
-use change_view::ChangeView;
 use doc_items::{Attributes, Memory};
 use doc_op::{AttributePart, ContentRun};
 use std::alloc::Global;
 
 /// How many contents are equal before the first that isn't.
 #[tactic(auto, using(crate::proofs::Runs::commons))]
-pub(crate) fn common(run: ContentRun<'_>, other: ContentRun<'_>) -> u64
+pub fn common(run: ContentRun<'_>, other: ContentRun<'_>) -> u64
     requires { length (contents run) ≡ length (contents other) }
     ensures { result ≡ common (contents run.entry) (contents other.entry) }
 {
@@ -58,7 +56,7 @@ fn common_text(text: &[char], words: &[char]) -> u64
 }
 
 /// Whether the attributes agree with the change.
-pub(crate) fn agree(part: AttributePart<'_>, attributes: &Attributes) -> bool
+pub fn agree(part: AttributePart<'_>, attributes: &Attributes) -> bool
     requires { IsFitPart part }
     ensures { result ≡ attributes_agree (part_change part.entry) attributes.now }
 {
@@ -69,7 +67,7 @@ pub(crate) fn agree(part: AttributePart<'_>, attributes: &Attributes) -> bool
 }
 
 /// The attributes with the change put.
-pub(crate) fn put(
+pub fn put(
     alloc: Global,
     part: AttributePart<'_>,
     attributes: &Attributes,
@@ -83,43 +81,5 @@ pub(crate) fn put(
             Ok(copy)
         }
         AttributePart::Replace { old: _, new } => new.copy(),
-    }
-}
-
-/// Whether the attributes agree with the change turned back.
-pub(crate) fn agree_back(
-    alloc: Global,
-    part: AttributePart<'_>,
-    attributes: &Attributes,
-) -> Result<bool, Memory>
-    requires { IsFitPart part }
-    ensures { IfOk result (λ t. t ≡ attributes_agree (attributes_back (part_change part.entry)) attributes.now) }
-{
-    match part {
-        AttributePart::Update(changes) => {
-            let view = ChangeView::of(alloc, changes)?;
-            let turned = view.turned(alloc)?;
-            Ok(turned.fits(attributes))
-        }
-        AttributePart::Replace { old: _, new } => Ok(new.same(attributes)),
-    }
-}
-
-/// The attributes with the change turned back put.
-pub(crate) fn put_back(
-    alloc: Global,
-    part: AttributePart<'_>,
-    attributes: &Attributes,
-) -> Result<Attributes, Memory>
-    requires { IsFitPart part }
-    ensures { IfOk result (λ m. m ≡ put_attributes (attributes_back (part_change part.entry)) attributes.now) }
-{
-    match part {
-        AttributePart::Update(changes) => {
-            let view = ChangeView::of(alloc, changes)?;
-            let turned = view.turned(alloc)?;
-            turned.put_on(alloc, attributes)
-        }
-        AttributePart::Replace { old, new: _ } => old.copy(),
     }
 }

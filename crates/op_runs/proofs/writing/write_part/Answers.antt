@@ -1,7 +1,7 @@
 use Rattle.std.proofs.Common.{subst}
 use Rattle.doc_op.specs.Runs.{IsFitPart}
-use Rattle.op_transform.proofs.Keys.{some_change}
-use Rattle.op_transform.proofs.attributes.write_part.Goals as goal
+use Rattle.op_runs.proofs.Keys.{some_change}
+use Rattle.op_runs.proofs.writing.write_part.Goals as goal
 
 pub update-requires-clause-spelled : goal.update-requires-clause-spelled
 update-requires-clause-spelled c =
