@@ -2,8 +2,7 @@
 --     lists                     lists of what is read as it is written
 --     attribute_lists           attributes, whose entries are inserted in order
 --     changes, boundaries, elements, replacements
-use Rattle.std.proofs.Common.{◌≡◌, ℕ, zero, suc, ◌+◌, ◌^◌, ◌<◌, Bool, true, false, cond, List, [], ◌∷◌, ◌++◌, length, Option, Some, None, refl, sym, ap, subst, ◌∙◌, append_assoc, append-nil, arith}
-use Rattle.std.specs.Prelude.{IfSome}
+use Rattle.std.proofs.Common.{◌≡◌, ℕ, zero, suc, ◌^◌, ◌<◌, cond, List, [], ◌∷◌, ◌++◌, length, Option, Some, None, refl, sym, ap, subst, ◌∙◌, append_assoc, append-nil}
 use Rattle.std.specs.List.{flat_map, AllByRecursion}
 use Rattle.std.specs.Int.{w32, to_be_bytes}
 use Rattle.std.specs.FinMap as finite
@@ -11,7 +10,7 @@ use Rattle.std.proofs.lemmas.List.Concat.{flat_map-cons}
 use Rattle.doc_items.specs.Maps.{Key, Map, is_next}
 use Rattle.doc_items.specs.declared.change.Change.{Change}
 use Rattle.doc_items.specs.declared.change.Boundary.{Boundary}
-use Rattle.doc_items.proofs.Rising.{Rising, entries_rise, Follow, follow_rising, rising_follow, insert_all, all_inserted, entries-inserted}
+use Rattle.doc_items.proofs.Rising.{entries_rise, Follow, follow_rising, rising_follow, insert_all, all_inserted, entries-inserted}
 use Rattle.op_codec.specs.Spelling.{text, optional, listed, attribute, attributes, change, boundary, IsText, IsAttribute, AreAll, AreAttributes, IsChange, IsBoundary}
 use Rattle.op_codec.specs.Reading.{Read, ◌>>=◌, number_at, text_at, optional_at, list_of, list_at, attribute_at, attributes_of, attributes_at, change_at, boundary_at, element_at, replaced_at}
 use Rattle.op_codec.proofs.Fields.{IsBytes, bind_some, guard_on, some_is, Takes, Takes-then, IsCodec, counts, keys, texts, optionals, pairs}

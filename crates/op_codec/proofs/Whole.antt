@@ -2,17 +2,16 @@
 --     components            a component by its tag
 --     operation_takes, operation_again     an operation
 --     read_once             a spelling at the front of bytes is the only one
-use Rattle.std.proofs.Common.{◌≡◌, ℕ, zero, suc, ◌+◌, ◌^◌, ◌<◌, Bool, true, false, cond, List, [], ◌∷◌, ◌++◌, length, Option, Some, None, is_none, refl, sym, ap, subst, ◌∙◌, append_assoc, append-nil, arith, eqb}
+use Rattle.std.proofs.Common.{◌≡◌, ℕ, zero, suc, ◌^◌, ◌<◌, Bool, true, false, cond, List, [], ◌∷◌, ◌++◌, length, Option, Some, None, is_none, refl, sym, ap, subst, ◌∙◌, append_assoc, append-nil, eqb}
 use Rattle.std.specs.List.{flat_map, AllByRecursion}
-use Rattle.std.specs.Int.{w32, w64, to_be_bytes}
+use Rattle.std.specs.Int.{w32, to_be_bytes}
 use Rattle.std.proofs.lemmas.Bool.{eqb-true}
 use Rattle.std.proofs.lemmas.List.Concat.{flat_map-cons}
-use Rattle.doc_items.specs.Maps.{Key, Map}
 use Rattle.doc_op.specs.declared.component.Component.{Component}
 use Rattle.doc_op.specs.declared.component.Component.TheVariants.{Retain, Characters, ElementStart, ElementEnd, DeleteCharacters, DeleteElementStart, DeleteElementEnd, ReplaceAttributes, UpdateAttributes, AnnotationBoundary}
 use Rattle.doc_op.specs.Refusals.{refusal, takes, BuiltFrom, IsBuilt}
 use Rattle.op_codec.specs.Spelling.{component, spelling, IsComponent, IsSpelled}
-use Rattle.op_codec.specs.Reading.{Read, ◌>>=◌, number_at, text_at, list_at, change_at, boundary_at, element_at, replaced_at, made, tagged_at, component_at, components_of, operation_at}
+use Rattle.op_codec.specs.Reading.{Read, ◌>>=◌, number_at, made, tagged_at, component_at, components_of, operation_at}
 use Rattle.op_codec.proofs.Fields.{IsBytes, IsBytes-rest, bind_some, guard_on, some_is, Takes, Takes-then, IsCodec, counts, numbers, texts}
 use Rattle.op_codec.proofs.Lists.{lists, changes, boundaries, elements, replacements}
 

@@ -5,7 +5,7 @@
 --     change_at, boundary_at, component_at     what Spelling says
 --     operation_at            components, each of which a builder takes in turn
 --     Gives view r read       a call's result, seen by view, is what reading gives, unless memory ran out
-use Rattle.std.specs.Prelude.{◌≡◌, ℕ, zero, suc, ◌==◌, List, [], ◌∷◌, ◌++◌, length, take, drop, Bool, true, false, if◌then◌else◌, nat_lt, Option, Some, None, Result, Ok, Err}
+use Rattle.std.specs.Prelude.{◌≡◌, ℕ, zero, suc, ◌==◌, List, [], ◌∷◌, ◌++◌, length, take, drop, if◌then◌else◌, nat_lt, Option, Some, None, Result, Ok, Err}
 use Rattle.std.specs.Int.{Width, w32, w64, byte_len, from_be_bytes}
 use Rattle.std.specs.Str.{chars, is_utf8}
 use Rattle.std.specs.FinMap.{empty, insert}

@@ -1,4 +1,4 @@
-use Rattle.std.proofs.Common.{refl, take, length, arith}
+use Rattle.std.proofs.Common.{refl, take, arith}
 use Rattle.std.proofs.lemmas.List.{length-take}
 use Rattle.doc_items.specs.Changes.{none_running}
 use Rattle.op_build.specs.Plans.{retained}

@@ -1,9 +1,3 @@
-use Rattle.std.proofs.Common.{◌≡◌, ◌↔◌, ◌<◌, ◌∙◌, Bool, List, ap, sym, subst, length}
-use Rattle.std.specs.Prelude.{IsTrue}
-use Rattle.doc_op.specs.declared.component.Component.{Component}
-use Rattle.doc_op.specs.Actions.{actions}
-use Rattle.doc_op.specs.Normal.{normal_form}
-use Rattle.op_codec.specs.Spelling.{limit}
 use Rattle.op_codec.proofs.Found.{is_same, each_ok}
 use Rattle.op_codec.proofs.reading.is_normal.Goals as goal
 

@@ -1,4 +1,4 @@
-use Rattle.std.proofs.Common.{◌∙◌, ◌+◌, ap, length, arith}
+use Rattle.std.proofs.Common.{◌∙◌, ap, length, arith}
 use Rattle.op_codec.specs.Spelling.{spelling, capped}
 use Rattle.op_codec.proofs.spell.normal_len.Goals as goal
 

@@ -1,4 +1,4 @@
-use Rattle.std.proofs.Common.{◌+◌, ◌<◌, ◌∙◌, ap, arith, length, take}
+use Rattle.std.proofs.Common.{◌+◌, ◌∙◌, ap, arith, length, take}
 use Rattle.std.specs.List.{flat_map}
 use Rattle.op_codec.specs.Spelling.{capped, text, IsText}
 use Rattle.op_codec.proofs.Measures.{take_more, part_within, count_within, all_snoc, all_of, text_some}
