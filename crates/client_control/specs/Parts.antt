@@ -31,13 +31,27 @@ pub record Parts : Type 0 where
   pub next : ℕ
 
 abbrev pub parts : Key → Key → ℕ → VersionAt → ℕ → State → Option InFlight → List (List WaveletOp) → ℕ → Parts
-parts name author client at count state flight queue next = record { name = name; client = record { author = author; client = client }; here = record { at = at; state = state; count = count }; flight = flight; queue = queue; next = next }
+parts name author client at count state flight queue next = record {
+  name = name;
+  client = record { author = author; client = client };
+  here = record { at = at; state = state; count = count };
+  flight = flight;
+  queue = queue;
+  next = next;
+}
 
 abbrev pub flight_of : InFlight → Flight
 flight_of g = record { sent = g.sent; acts = meanings g.ops }
 
 abbrev pub follower_of : Parts → FollowerOf
-follower_of p = record { name = p.name; client = p.client; here = p.here; flight = option_map flight_of p.flight; queue = map meanings p.queue; next = p.next }
+follower_of p = record {
+  name = p.name;
+  client = p.client;
+  here = p.here;
+  flight = option_map flight_of p.flight;
+  queue = map meanings p.queue;
+  next = p.next;
+}
 
 abbrev pub numbered : ℕ → FollowerOf → FollowerOf
 numbered n f = record { name = f.name; client = f.client; here = f.here; flight = f.flight; queue = f.queue; next = n }

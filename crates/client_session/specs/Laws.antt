@@ -1,6 +1,7 @@
 -- The law of chains: a wavelet's chain of undo stands at its follower's screen, and what takes edits back is valid in turn there.
 --     IsFollowed s            so it is, and the follower is sound
---     NewIsFollowed, EditIsFollowed, UndoIsFollowed, DropIsFollowed, SubmitIsFollowed, RefusalIsFollowed, SnapshotIsFollowed, UpdateIsFollowed
+--     NewIsFollowed, EditIsFollowed, UndoIsFollowed, DropIsFollowed, SubmitIsFollowed, RefusalIsFollowed, SnapshotIsFollowed,
+--         UpdateIsFollowed
 --                             each step keeps that
 use Rattle.std.specs.Prelude.{◌≡◌, Bool, List, Some}
 use Rattle.doc_items.specs.Maps.{Key}

@@ -1,5 +1,6 @@
 -- The machine of a client: what each line and each message makes of its wavelets, and what it then sends and prints.
---     MachineOf               the user, the key of the client, the wavelets in the order in which they came, and the place of the current one
+--     MachineOf               the user, the key of the client, the wavelets in the order in which they came, and the place of the current
+--                             one
 --     new_machine u k         none yet
 --     place_of n ss           the place of the wavelet of a name
 --     on_place i g r m        what g makes of the wavelet at a place; r where there is none

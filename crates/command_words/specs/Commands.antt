@@ -76,7 +76,13 @@ abbrev pub edit : App
 edit = with_rule writer (option_rule (codes "connect") true)
 
 abbrev pub plain_top : Shape → Shape
-plain_top s = record s { no_binary_name = true; disable_help_flag = true; disable_help_subcommand = true; disable_version_flag = true; subcommand_required = true }
+plain_top s = record s {
+  no_binary_name = true;
+  disable_help_flag = true;
+  disable_help_subcommand = true;
+  disable_version_flag = true;
+  subcommand_required = true;
+}
 
 -- with the commands that need no store
 abbrev pub storeless : App

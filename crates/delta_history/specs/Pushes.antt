@@ -42,7 +42,10 @@ pub record PreparedOf : Type 0 where
 abbrev pub prepared_code : Coded DeltaOf → Coded Role → Coded Item → Coded PreparedOf
 prepared_code delta role item = code_by (DeltaOf × ((ℕ × List ℕ) × (ℕ × State)))
     (coded× delta (coded× (coded× coded_ℕ (coded_list coded_ℕ)) (coded× coded_ℕ (parts_code role item))))
-    (λ p. (p.delta, ((p.after.at.version, p.after.at.hash), (p.after.count, p.after.state)))) (λ q. record { delta = q.0; after = record { at = record { version = q.1.0.0; hash = q.1.0.1 }; state = q.1.1.1; count = q.1.1.0 } }) (λ _. refl)
+    (λ p. (p.delta, ((p.after.at.version, p.after.at.hash), (p.after.count, p.after.state)))) (λ q. record {
+      delta = q.0;
+      after = record { at = record { version = q.1.0.0; hash = q.1.0.1 }; state = q.1.1.1; count = q.1.1.0 };
+    }) (λ _. refl)
 
 abbrev pub IsRefused : HistoryOf → DeltaOf → HistoryFault → Type 0
 IsRefused h d (NotNext have got) = (d.from ≢ (head_of h).at) × (have ≡ (head_of h).at) × (got ≡ d.from)

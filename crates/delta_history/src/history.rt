@@ -78,7 +78,10 @@ impl Model for Prepared {
 
     ghost coded = { prepared_code delta_row.the_row.coded role_row.the_row.coded item_row.the_row.coded };
 
-    ghost view = { λ p. record { delta = p.delta; after = record { at = p.written.step.to; state = p.state; count = p.written.step.inserted } } };
+    ghost view = { λ p. record {
+      delta = p.delta;
+      after = record { at = p.written.step.to; state = p.state; count = p.written.step.inserted };
+    } };
 
     ghost invariant = { λ p. record { is : IsDelta p.delta; bytes : p.written.bytes.items ≡ delta_bytes p.delta } };
 }

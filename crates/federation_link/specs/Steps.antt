@@ -39,7 +39,8 @@ IsHolding bytes Open = ⊥
 IsHolding bytes (Holding v) = bytes ≡ v.items
 IsHolding bytes Cut = ⊥
 
--- whether the link's list is told, and the calls; that list, before and after; what there is to hear; what was sent and has no answer; the calls
+-- whether the link's list is told, and the calls; that list, before and after; what there is to hear; what was sent and has no answer; the
+-- calls
 module _ (tells told : Bool) (domain : Key) where
   abbrev pub IsCome : Ear → List ℕ → List LinkEvent → List LinkEvent → Type 0
   IsCome Open bytes es fs = IsTrue tells → fs ≡ es ++ Received bytes ∷ []

@@ -104,7 +104,8 @@ impl<L: Link> PeerLink<L> {
         turns: &mut T,
     ) -> Result<Stepped, TurnFault>
         requires open { is_cut self.old.ear ≡ false }
-        ensures gone { GoesOn L.Link T.PeerTurns self.old.domain self.old.link self.new.link self.old.ear self.new.ear self.old.unanswered self.new.unanswered turns.old turns.new result }
+        ensures gone { GoesOn L.Link T.PeerTurns self.old.domain self.old.link self.new.link self.old.ear self.new.ear self.old.unanswered
+            self.new.unanswered turns.old turns.new result }
         ensures later { IsGone self.old.link self.new.link
             (λ l m. (L.faults l ≤ L.faults m) × (IsTrue L.tells → IsPrefix (L.events l) (L.events m))) }
         ensures idle { Rests L.Link T.PeerTurns self.old.domain self.old.link self.new.link turns.old turns.new result }
@@ -159,7 +160,8 @@ impl<L: Link> PeerLink<L> {
         requires unused { IsUnused (L.faults link) (L.events link) (L.closed link) }
         requires unlinked { IsUnlinked self.old.link self.old.ear }
         requires out { 0 < N.out net.old }
-        ensures begun { Begins L.Link T.PeerTurns self.old.domain self.old.own self.new.link self.new.ear self.new.unanswered turns.old turns.new result }
+        ensures begun { Begins L.Link T.PeerTurns self.old.domain self.old.own self.new.link self.new.ear self.new.unanswered turns.old
+            turns.new result }
         ensures back { IsBack result None (N.back net.old) (N.back net.new) }
         ensures rises { min (N.line net.old) (2 ^ 64 - 1) ≤ N.line net.new }
         ensures out { N.out net.new + 1 ≡ N.out net.old + count_in self.new.link }
@@ -225,7 +227,8 @@ impl<L: Link> PeerLink<L> {
         turns: &mut T,
     ) -> Result<Stepped, TurnFault>
         requires out { IsSome self.old.link → 0 < N.out net.old }
-        ensures dialled { Dials L.Link T.PeerTurns self.old.domain self.old.own self.old.link self.new.link self.new.ear self.new.unanswered turns.old turns.new (N.line net.old) (N.line net.new) result }
+        ensures dialled { Dials L.Link T.PeerTurns self.old.domain self.old.own self.old.link self.new.link self.new.ear self.new.unanswered
+            turns.old turns.new (N.line net.old) (N.line net.new) result }
         ensures back { IsBack result self.old.link (N.back net.old) (N.back net.new) }
         ensures rises { min (N.line net.old) (2 ^ 64 - 1) ≤ N.line net.new }
         ensures out { N.out net.new + count_in self.old.link ≡ N.out net.old + count_in self.new.link }
@@ -257,13 +260,15 @@ impl<L: Link> PeerLink<L> {
     ) -> Result<Stepped, TurnFault>
         requires out { IsSome self.old.link → 0 < N.out net.old }
         ensures dialled { is_cut self.old.ear ≡ true
-            → Dials L.Link T.PeerTurns self.old.domain self.old.own self.old.link self.new.link self.new.ear self.new.unanswered turns.old turns.new (N.line net.old) (N.line net.new) result }
+            → Dials L.Link T.PeerTurns self.old.domain self.old.own self.old.link self.new.link self.new.ear self.new.unanswered turns.old
+            turns.new (N.line net.old) (N.line net.new) result }
         ensures back { is_cut self.old.ear ≡ true → IsBack result self.old.link (N.back net.old) (N.back net.new) }
         ensures asked { is_cut self.old.ear ≡ true
             → IsTrue N.tells → WasAsked result (encode_utf8_all self.old.address) (N.asked net.old) (N.asked net.new) }
         ensures ungiven { is_cut self.old.ear ≡ true → IsTrue T.tells → gifts (T.calls turns.new) ≡ gifts (T.calls turns.old) }
         ensures gone { is_cut self.old.ear ≡ false
-            → GoesOn L.Link T.PeerTurns self.old.domain self.old.link self.new.link self.old.ear self.new.ear self.old.unanswered self.new.unanswered turns.old turns.new result }
+            → GoesOn L.Link T.PeerTurns self.old.domain self.old.link self.new.link self.old.ear self.new.ear self.old.unanswered
+            self.new.unanswered turns.old turns.new result }
         ensures later { is_cut self.old.ear ≡ false
             → IsGone self.old.link self.new.link
             (λ l m. (L.faults l ≤ L.faults m) × (IsTrue L.tells → IsPrefix (L.events l) (L.events m))) }

@@ -85,7 +85,8 @@ fn look<R: Wait, L: Link, T: PeerTurns>(
     turns: &mut T,
 ) -> Result<Stepped, TurnFault>
     requires open { ear.old ≡ Ear.Open }
-    ensures stepped { StepsOn L.Link T.PeerTurns domain.now link.old link.new ear.old ear.new unanswered.old unanswered.new turns.old turns.new result }
+    ensures stepped { StepsOn L.Link T.PeerTurns domain.now link.old link.new ear.old ear.new unanswered.old unanswered.new turns.old
+        turns.new result }
     ensures spent { IsTrue T.tells → refusals (T.calls turns.new) ≡ refusals (T.calls turns.old) ++ refused result }
     ensures later { L.faults link.old ≤ L.faults link.new }
 {
@@ -116,7 +117,8 @@ pub(crate) fn step<R: Wait, L: Link, T: PeerTurns>(
     turns: &mut T,
 ) -> Result<Stepped, TurnFault>
     requires open { is_cut ear.old ≡ false }
-    ensures stepped { StepsOn L.Link T.PeerTurns domain.now link.old link.new ear.old ear.new unanswered.old unanswered.new turns.old turns.new result }
+    ensures stepped { StepsOn L.Link T.PeerTurns domain.now link.old link.new ear.old ear.new unanswered.old unanswered.new turns.old
+        turns.new result }
     ensures grows { IsTrue L.tells → IsPrefix (L.events link.old) (L.events link.new) }
     ensures spent { IsTrue T.tells → refusals (T.calls turns.new) ≡ refusals (T.calls turns.old) ++ refused result }
     ensures later { L.faults link.old ≤ L.faults link.new }

@@ -89,7 +89,11 @@ abbrev pub gather : List Act → List (List Act) → Option Gathered
 gather entry rest = option_map (λ acts. gather_on entry acts rest) (fitting entry)
 
 abbrev pub sent_by : FollowerOf → List Act → Submission
-sent_by f acts = record { id = record { author = f.client.author; client = f.client.client; number = f.next }; at = f.here.at; ops = ops_of acts }
+sent_by f acts = record {
+  id = record { author = f.client.author; client = f.client.client; number = f.next };
+  at = f.here.at;
+  ops = ops_of acts;
+}
 
 abbrev pub submitting : FollowerOf → Gathered → FollowerOf
 submitting f g = record {

@@ -21,7 +21,8 @@ pub fn give<M: LineMachine, C: Clock>(
     line: &[u8],
     out: &mut Vec<u8>,
 ) -> Result<(), TurnFault>
-    ensures ok { OnOk result (IsTakenLine M.LineMachine C.Clock machine.old machine.new clock.old clock.new out.old.items out.new.items line.now) }
+    ensures ok { OnOk result
+        (IsTakenLine M.LineMachine C.Clock machine.old machine.new clock.old clock.new out.old.items out.new.items line.now) }
     ensures err { OnErr result (IsTriedLine M.LineMachine machine.old machine.new line.now) }
     ensures later { M.faults machine.old ≤ M.faults machine.new }
     ensures failed { IsErrOf result TurnFault.Store → Rose (M.faults machine.old) (M.faults machine.new) }

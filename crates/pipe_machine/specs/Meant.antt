@@ -5,7 +5,8 @@
 --     IsMeant p s        whoever the session is may be sent the message as the histories are, and it is so where it is an acknowledgement
 --     IsIdle s           no submission of the session waits
 --     IsOrdered p        the sessions ascend by their names, and none of them waits for anything
---     SentIsMeant        the law: at the start the machine is so; each turn leaves it so; and whatever a turn sends is meant for its session
+--     SentIsMeant        the law: at the start the machine is so; each turn leaves it so; and whatever a turn sends is meant for its
+--                        session
 use Rattle.std.specs.Prelude.{◌≡◌, ℕ, cond, List, [], ◌∷◌, map, Some}
 use Rattle.std.specs.List.{All, AllByRecursion}
 use Rattle.doc_items.specs.Maps.{Key, same_text}

@@ -2,11 +2,11 @@
 --     pipe_of m           its histories and its seats
 --     store_faults s      how often its folder and its disks have failed: never where it has no folder
 --     StandsAlong p n ts f     the file stands for the history of the name after some of these turns, from the first on
---     IsReached a ts b    the second has answered these turns since it was the first, each crash left the files so, and none came for a name
---                         without a delta
+--     IsReached a ts b    the second has answered these turns since it was the first, each crash left the files so, and none came for a
+--                         name without a delta
 --     IsSince a ts b      what stays so of the shelf, whatever became of these turns
---     IsTried a t b       this turn failed in between: there are the histories of before, or those after it, and so it is with each file, and
---                         with what a crash left of it
+--     IsTried a t b       this turn failed in between: there are the histories of before, or those after it, and so it is with each file,
+--                         and with what a crash left of it
 --     IsCalm m            over a folder whose disks tell their bytes: each history stands in its file, and no repair waits
 use Rattle.std.specs.Prelude.{◌≡◌, ℕ, List, take, Option, Some, None}
 use Rattle.doc_items.specs.Maps.{Key}

@@ -1,8 +1,8 @@
 -- The edits that robots answered.
 --     calls_in name calls        the calls for a wavelet
 --     WasAnswered b n name xs    the calls for a wavelet that came after the first ones were these, with these answers
---     HasAnswered P robots h r s m     of the first m deltas of the history the robot was shown exactly its view since it was added, where it tells
---                                its calls, and P is so of each delta that it answered by a submission, and of this
+--     HasAnswered P robots h r s m     of the first m deltas of the history the robot was shown exactly its view since it was added, where
+--                                it tells its calls, and P is so of each delta that it answered by a submission, and of this
 --     AreAnswered P g h          so it is of each robot that is there, of as many deltas as it went through; and no edit is kept
 --     HaveAnsweredAll P g h      so it is of all deltas of the history
 use Rattle.std.specs.Prelude.{◌≡◌, ℕ, true, List, [], ◌++◌, length, map, filter, slice_get, Some, IfSome}

@@ -10,7 +10,8 @@
 --                                those that it went through
 --     HasTurned g h g' all       what a turn over a history does, of which these are the edits
 --     AreOthersKept g g' name    what it leaves of other wavelets
---     HaveSeenAll g h            each robot that is there, where it tells its calls, was shown its whole view of a history since it was added
+--     HaveSeenAll g h            each robot that is there, where it tells its calls, was shown its whole view of a history since it was
+--                                added
 --     IsSettled g h              each robot that is there went through all deltas of the history, and no edit is kept for it
 --     IsWithout g r g'           a robot was dropped
 --     AreFewer g g'              so were some

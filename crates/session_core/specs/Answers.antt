@@ -137,7 +137,8 @@ told_at name v told ts = put_told name v told ts (place_told name ts)
 
 abbrev pub had_hash : Session → Key → VersionAt → Option (List ℕ) → Session
 had_hash s name from None = s
-had_hash s name from (Some hash) = if pointwise ◌==◌ hash from.hash then record s { tellings = told_at name from.version true s.tellings } else s
+had_hash s name from (Some hash) = if pointwise ◌==◌ hash from.hash then record s { tellings = told_at name from.version true s.tellings }
+    else s
 
 abbrev pub had_copy : Session → Key → VersionAt → Option HistoryOf → Session
 had_copy s name from None = s

@@ -1,8 +1,8 @@
 -- Names that are looked at for a session, and their places in byte order.
 --     IsSpot ns n s                where a name stands among others, or would stand
---     AreLookedAt d hs rs s n ns   the names that a shard of this domain, which hosts these histories and keeps these records, looks at for a session
---                                  that was told all at that number of marks: any for one that isn't a peer's, else all that is hosted, or what
---                                  was published since
+--     AreLookedAt d hs rs s n ns   the names that a shard of this domain, which hosts these histories and keeps these records, looks at for
+--                                  a session that was told all at that number of marks: any for one that isn't a peer's, else all that is
+--                                  hosted, or what was published since
 use Rattle.std.specs.Prelude.{◌≡◌, ◌≢◌, ◌⊎◌, ◌-◌, ℕ, false, List, [], map, drop, insert}
 use Rattle.doc_items.specs.Maps.{Key}
 use Rattle.session_core.specs.declared.session.Session.{Session}

@@ -1,5 +1,6 @@
 -- Texts of updates that are kept.
---     update_in f n p      the text of the update with the delta at a place of the wavelet's deltas, which f gives; None where there is none
+--     update_in f n p      the text of the update with the delta at a place of the wavelet's deltas, which f gives; None where there is
+--                          none
 --     AreWritten f ws      each text that is kept is that of its wavelet and place
 --     IsPlacedIn f n       a delta that a session is sent stands at its place among those of its wavelet
 use Rattle.std.specs.Prelude.{◌≡◌, ℕ, List, map, slice_get, Option, Some}

@@ -1,8 +1,8 @@
 -- Sessions of a server, of clients and of peers.
 --     IsSessionOf v s      a session of this server; one that is nobody's yet has nothing open, and nothing waits in it
 --     MayAsk s r           what such a session asks for: to open a wavelet with a user alone, and what a peer has with a peer alone
---     IsSentTo d k ms s n  of the shard with these marks, the session was sent all that there is at their length n, and what it was told stays
---                          then; 0 says nothing
+--     IsSentTo d k ms s n  of the shard with these marks, the session was sent all that there is at their length n, and what it was told
+--                          stays then; 0 says nothing
 --     AreSentTo d ms s ns  so it is with each shard
 --     AreSentAll ms i ns   of the first i shards, these are the lengths
 use Rattle.std.specs.Prelude.{◌≡◌, ◌≢◌, ◌<◌, ℕ, true, false, List, [], length, slice_index_or, Some}

@@ -1,8 +1,8 @@
 -- A session that was served, by the marks of each shard that its passes have seen at the end, and what they had seen at the start.
 --     IsWalk .. ss a             the steps, the newest first, lead from the start to this progress
 --     IsServing .. es s          between two turns: some steps account for all that was received and sent, and lead to this session
---     IsBroken .. es             where the session broke off: the same, but that of the last step's texts only the first may have been sent,
---                                and that the last message may have no step
+--     IsBroken .. es             where the session broke off: the same, but that of the last step's texts only the first may have been
+--                                sent, and that the last message may have no step
 --     HaveNothingLeft d ms s     the marks give the session nothing that it wasn't sent
 --     IsWhole .. es              where the link was closed: all was received and sent, the close is the last event, and nothing is left
 --     IsOver .. es c             at the end, by its cause: a session whose link was closed was served whole, and any other one broke off

@@ -1,5 +1,5 @@
--- What a copy is given by its host: a delta, a verdict on a submission, or that no more comes. It is named by the mark that the copy's shard has
--- of it where the copy changes.
+-- What a copy is given by its host: a delta, a verdict on a submission, or that no more comes. It is named by the mark that the copy's
+-- shard has of it where the copy changes.
 --     gift_mark n g         the mark of what a copy of this name is given
 --     name_of m             the wavelet that a mark is of
 --     given_in cs m         what the copies answer

@@ -1,5 +1,6 @@
 -- Peers that were told all that there is of what is hosted.
---     IsToldOf n t o          what a peer was told of a wavelet: all up to the head of what it may see; else nothing that is to be taken back
+--     IsToldOf n t o          what a peer was told of a wavelet: all up to the head of what it may see; else nothing that is to be taken
+--                             back
 --     AreToldOf c d ts ns     so it is with each of these names, by what a peer of this domain was told
 --     AreToldTo c ts p        so it is with all that is hosted, where it is a peer who is told
 --     AreTold c s             so it is with a session: what it is sent changes nothing of what it was told
@@ -7,8 +8,8 @@
 --     AreToldFrom ms s n      so it was with whosever marks these are
 --     with_published d ns m   names in byte order, with that of a hosted wavelet to which a mark adds
 --     published d ns ms       so after several marks
---     AreDue d k ms s n ns    the names that are looked at for a session that was told all at that length: none of one that isn't a peer's, all that is
---                             hosted, or what was published since
+--     AreDue d k ms s n ns    the names that are looked at for a session that was told all at that length: none of one that isn't a peer's,
+--                             all that is hosted, or what was published since
 use Rattle.std.specs.Prelude.{◌≡◌, ◌≢◌, ◌⊎◌, ◌≤◌, ℕ, true, false, cond, List, [], ◌∷◌, length, drop, Option, Some, None}
 use Rattle.std.specs.Cmp.Lexicographic.{slice_cmp}
 use Rattle.std.specs.List.{AllByRecursion}

@@ -1,5 +1,6 @@
--- The eight kinds of atomic step, each as what it makes of a state: `Draws`; the looks `LooksAtTicket`, `LooksAtServing`, `LooksAtHead`, `Settles`; `Takes`; `GivesBack` and, with a new entry, `GivesNew`; `Publishes`; `PassesOn`; `SplitsSeat`; `JoinsSeat`.
--- In each, `id` is the seat that steps, `s` the state before and `s'` the state after.
+-- The eight kinds of atomic step, each as what it makes of a state: `Draws`; the looks `LooksAtTicket`, `LooksAtServing`, `LooksAtHead`,
+-- `Settles`; `Takes`; `GivesBack` and, with a new entry, `GivesNew`; `Publishes`; `PassesOn`; `SplitsSeat`; `JoinsSeat`. In each, `id` is
+-- the seat that steps, `s` the state before and `s'` the state after.
 use Rattle.std.specs.Prelude.{◌≡◌, ◌≢◌, ◌⊎◌, ℕ, ◌+◌, ◌<◌, List, [], ◌∷◌, ◌++◌, length, Option, Some, slice_index, slice_set}
 use mathlib.Core.Option.{some}
 use lib.ListN.{get_elem?}

@@ -1,4 +1,5 @@
--- What a clause reads of a pass: `seen`, `loads`, `added`, `ticket`; that it is of a cell, and where it stands there: `IsOf`, `IsWaiting`, `IsOnTurn`, `IsInside`, `IsGiven`; what stays: `IsSameView`, `IsAsBusy`. Of entries: `IsOneMore`.
+-- What a clause reads of a pass: `seen`, `loads`, `added`, `ticket`; that it is of a cell, and where it stands there: `IsOf`, `IsWaiting`,
+-- `IsOnTurn`, `IsInside`, `IsGiven`; what stays: `IsSameView`, `IsAsBusy`. Of entries: `IsOneMore`.
 use Rattle.std.specs.Prelude.{◌≡◌, ℕ, List, [], ◌∷◌, ◌++◌, length, None}
 use Rattle.std.specs.Coded.{Coded-set, coded_ℕ}
 use Rattle.atomic_table.specs.Seated.{table_id_coded}

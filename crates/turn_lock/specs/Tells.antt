@@ -1,4 +1,6 @@
--- What each step tells the seat that makes it: of the step, the seat before, the number found (at a store, the number stored) and the seat after. `TellsTicket`, `TellsDraw`, `TellsServing`, `TellsHead`, `TellsTaken`, `TellsGiven`, `TellsAdded`, `TellsPublished`, `TellsPassed`, `TellsSettled`.
+-- What each step tells the seat that makes it: of the step, the seat before, the number found (at a store, the number stored) and the seat
+-- after. `TellsTicket`, `TellsDraw`, `TellsServing`, `TellsHead`, `TellsTaken`, `TellsGiven`, `TellsAdded`, `TellsPublished`,
+-- `TellsPassed`, `TellsSettled`.
 use Rattle.std.specs.Prelude.{◌≡◌, ℕ, ◌+◌, ◌==◌, List, [], ◌∷◌, ◌++◌, length, Option, Some, MatchBool}
 use mathlib.Core.List.{IsPrefix}
 use Rattle.atomic_table.specs.Table.{Me, Step}

@@ -1,5 +1,6 @@
--- The rule of a cell, which holds between any two steps: `InTurn`, by `Turned` with its one history. What a seat knows: `Fits`. How views begin, split and join: `newcomer`, `told`, `nobody`, `longer_of`.
--- Word 0 is the ticket that the next seat draws, word 1 the ticket that is served, word 2 the length of the history, and word 3 is 1 while the value is out. The value lies in slot 0.
+-- The rule of a cell, which holds between any two steps: `InTurn`, by `Turned` with its one history. What a seat knows: `Fits`. How views
+-- begin, split and join: `newcomer`, `told`, `nobody`, `longer_of`. Word 0 is the ticket that the next seat draws, word 1 the ticket that
+-- is served, word 2 the length of the history, and word 3 is 1 while the value is out. The value lies in slot 0.
 use Rattle.std.specs.Prelude.{◌≡◌, ℕ, ◌+◌, ◌<◌, ◌≤◌, List, [], ◌∷◌, ◌++◌, length, Option, Some, ltb, if◌then◌else◌}
 use mathlib.Core.Option.{some, none}
 use mathlib.Core.List.{IsPrefix}
@@ -60,7 +61,8 @@ module _ {E : Type 0} (ticket serving away : ℕ) (log fresh : List E) (turn : �
   Fits seat seen (Told xs) = IsPrefix seen log × IsPrefix xs log
   Fits seat seen Joined = Unit {0}
 
--- The rule, with its one history `log`. `fresh` is the entry that was given back and is not yet published, `away` is 1 while the value is out, and `turn` says which seat drew a ticket.
+-- The rule, with its one history `log`. `fresh` is the entry that was given back and is not yet published, `away` is 1 while the value is
+-- out, and `turn` says which seat drew a ticket.
 pub record Turned {T E : Type 0} (entries : T → List E) (log : List E) (s : State (Option T) (View E)) : Type 0 where
   pub ticket : ℕ
   pub serving : ℕ

@@ -1,6 +1,7 @@
 -- Folders of files.
 --     AddsOnly f d P        the same file at two moments, and a crash between them left what it might have left before, or what has P
---     IsSameFile f d        a read of the disk d gives what one of f gave, a crash now leaves no more of it, and one since a moment of before just as much
+--     IsSameFile f d        a read of the disk d gives what one of f gave, a crash now leaves no more of it, and one since a moment of
+--                           before just as much
 --     IsEmptyFile d         the disk reads as empty, and a crash leaves it empty
 --     IsHanded view o d     d is the disk of a file as it is handed out: the file's, or an empty one where there was none
 --     IsPutBack view d o    the disk d stands in the folder

@@ -1,4 +1,5 @@
--- What a net in memory holds: `net_calls`, its calls; `net_back`, the links that were put back; `net_asked`, the addresses that were dialled.
+-- What a net in memory holds: `net_calls`, its calls; `net_back`, the links that were put back; `net_asked`, the addresses that were
+-- dialled.
 use Rattle.std.specs.Prelude.{ℕ, List, map, string_bytes}
 use Rattle.wave_outside.specs.declared.calls.Calls.{Calls}
 use Rattle.wave_outside.specs.declared.memory_link.MemoryLink.{MemoryLink}

@@ -46,7 +46,11 @@ impl<'a> Model for Playback<'a> {
 
     ghost view = { λ p. record { history = p.history.now; version = p.version } };
 
-    ghost invariant = { λ p. record { there : IsThere p.history.now p.place p.version p.state; backs : AreBacks p.history.now.deltas p.backs.items; reached : p.place ≤ length p.backs.items } };
+    ghost invariant = { λ p. record {
+      there : IsThere p.history.now p.place p.version p.state;
+      backs : AreBacks p.history.now.deltas p.backs.items;
+      reached : p.place ≤ length p.backs.items;
+    } };
 }
 
 impl<'a> Playback<'a> {

@@ -1,8 +1,8 @@
 -- What became of a server's peers.
 --     is_named es i             an entry names the link that was put back at this place
 --     unnamed es i ls           of links that were put back from this place on, those that no entry names
---     HasMet .. n es            of this many peers: the links that no entry names and that were stepped, after it was said on them for which
---                               domain the server speaks, and what the count of the line rose by beyond the faults of the others, are
+--     HasMet .. n es            of this many peers: the links that no entry names and that were stepped, after it was said on them for
+--                               which domain the server speaks, and what the count of the line rose by beyond the faults of the others, are
 --                               together as many at least, or that count stands at its last value
 --     HaveMet .. es ps          so before the links of these peers are put back, each of which was reached or made the count of the line
 --                               rise

@@ -1,7 +1,8 @@
 -- What holds between two turns of a server.
 --     BeginWith d hs marks      each shard's marks begin with those of the histories that the domain hosts
 --     AreOurs hub_of hub js     each job that runs is of its hub
---     IsServed ..               a session was served from the marks that its own passes had seen at its end, which begin those of the server
+--     IsServed ..               a session was served from the marks that its own passes had seen at its end, which begin those of the
+--                               server
 --     IsCalm e                  the session of an entry didn't end for want of a turn
 --     AreRising es              the places of the entries rise, so no two of them are the same
 --     returned before now       the links that were put back since the first of these were

@@ -51,7 +51,15 @@ pub record World : Type 0 where
   pub snapshots : List Point
 
 abbrev pub first_world : World
-first_world = record { host = []; replicas = λ d. empty_replica; followers = λ k. None; submissions = []; deltas = []; answers = []; snapshots = [] }
+first_world = record {
+  host = [];
+  replicas = λ d. empty_replica;
+  followers = λ k. None;
+  submissions = [];
+  deltas = [];
+  answers = [];
+  snapshots = [];
+}
 
 pub data Event : Type 0 where
   -- a client starts; it edits, takes a submission, which is pooled, takes a pooled message, or drops what is pending

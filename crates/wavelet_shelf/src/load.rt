@@ -154,7 +154,9 @@ fn look_at<F: Folder>(
     requires there { IsTrue F.Disk.tells → IsSome (F.files folder.old name.now) }
     requires apart { (n : Key) → IsSome (found containers.old.map.entries n) → name.now ≢ file_name_of n }
     ensures room { HaveRoom (F.room folder.new) containers.new.map.entries }
-    ensures ok { OnOk result (IsSkipped F.Folder folder.old folder.new name.now containers.old.map.entries containers.new.map.entries ⊎ IsFileRead F.Folder folder.old folder.new name.now containers.old.map.entries containers.new.map.entries) }
+    ensures ok { OnOk result
+        (IsSkipped F.Folder folder.old folder.new name.now containers.old.map.entries containers.new.map.entries ⊎ IsFileRead F.Folder
+        folder.old folder.new name.now containers.old.map.entries containers.new.map.entries) }
     ensures err { IfErr result
         (λ e. IsFileStep F.Folder folder.old folder.new name.now containers.old.map.entries containers.new.map.entries (Err e)) }
     ensures named { OnErr result (is_file_name name.now ≡ true) }
