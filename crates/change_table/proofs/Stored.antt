@@ -2,7 +2,8 @@
 --     get-table                  a look-up
 --     put-table, remove-table    a change of one key
 --     viewed_table               the entries, in order, stand for the change set
-use Rattle.std.proofs.Common.{◌≡◌, Bool, true, false, cond, List, [], ◌∷◌, ◌++◌, refl, sym, ap, subst, ◌∙◌, map, append-nil, Option, None, Some, option_map, string_bytes, String, BTreeMap}
+--     empty_table                where there are none, it is empty
+use Rattle.std.proofs.Common.{◌≡◌, arith, length, Bool, true, false, cond, List, [], ◌∷◌, ◌++◌, refl, sym, ap, subst, ◌∙◌, map, append-nil, Option, None, Some, option_map, string_bytes, String, BTreeMap}
 use Rattle.std.specs.Ordering.{nat_cmp, is_lt, eq_by_cmp}
 use Rattle.std.specs.Cmp.Lexicographic.{slice_cmp}
 use Rattle.std.specs.List.Sorted.{IsStrictlySortedBy}
@@ -87,3 +88,7 @@ viewed_table ds rest es h n s t =
     let up : rises ds ≡ true = ap rises same ∙ rising_stored es h in
     let value : map_of ds ≡ table_of es = ap map_of same ∙ listed es h in
     record { rising = up; texts = subst AreTexts value (texts_view ds up t); value = value }
+
+pub empty_table : (es : List (String Global × Change)) → length es ≡ 0 → finite.empty ≡ table_of es
+empty_table [] e = refl
+empty_table (x ∷ es) e = absurd (omega (arith, e))

@@ -1,9 +1,11 @@
 -- From written changes to others: what ends and what changes, gathered at the keys at which they may differ.
 --     has_none, gathered_next     nothing is gathered at first, and then key by key
 --     turned            the boundary of all that ends and changes leads from the ones to the others
+--     both_empty, agree_everywhere     two sets that are the same
 --     turned_within               the boundary of what is gathered leads from the ones to the others
 use Rattle.std.proofs.Common.{◌≡◌, ℕ, ◌+◌, ◌<◌, ◌≤◌, ◌&&◌, ◌||◌, ◌==◌, Bool, true, false, cond, List, [], ◌∷◌, length, take, get_or, add-one, arith, refl, sym, ap, subst, ◌∙◌, true≢false, is_some, Option, None, Some}
 use Rattle.std.proofs.Math.Seq.{take-suc}
+use Rattle.std.proofs.lemmas.Bool.{eqb-true}
 use Rattle.std.proofs.lemmas.List.{take_all}
 use Rattle.std.specs.Ordering.{nat_cmp}
 use Rattle.std.specs.Cmp.Lexicographic.{slice_cmp}
@@ -19,7 +21,7 @@ use Rattle.change_view.specs.Rules.{one_under, one_unlike, same_change}
 use Rattle.change_view.specs.Sets.{same_one, same_changes}
 use Rattle.change_view.specs.Texts.{AreTexts, key_list, change_list, boundary_between}
 use Rattle.change_view.specs.Lists.{Entry}
-use Rattle.change_view.proofs.Sets.{same_change-is, same_change-refl, same_changes-is}
+use Rattle.change_view.proofs.Sets.{same_change-is, same_change-refl, same_changes-is, same_changes-refl}
 use Rattle.change_view.proofs.Boundaries.{after_written, fits_written}
 use Rattle.change_table.specs.Keys.{is_among, AgreeBut}
 use Rattle.change_table.specs.Turns.{with_change, HasAmong, Between, IsBetween}
@@ -123,6 +125,18 @@ nothing_differs u w e c s t h =
 differs : (b : Bool) → (b ≡ true → ⊥) → b ≡ false
 differs true h = absurd (h refl)
 differs false h = refl
+
+-- two sets without changes, and two that have the same at each key
+pub both_empty : (u w : ChangeSet) → (len u == 0) ≡ true → (len w == 0) ≡ true → same_changes u w ≡ true
+both_empty u w h k =
+    ap (same_changes u) (empty_of w (eqb-true (len w) 0 k) ∙ sym (empty_of u (eqb-true (len u) 0 h))) ∙ same_changes-refl u
+
+pub agree_everywhere : (ks : List (List ℕ)) (u w : ChangeSet) → (length ks == 0) ≡ true → AgreeBut ks u w → same_changes u w ≡ true
+agree_everywhere ks u w e h = ap (same_changes u) (sym (alike u w (λ q. h q (ap (λ ls. is_among ls q) (no_key ks (eqb-true (length ks) 0 e)))))) ∙ same_changes-refl u
+  where
+    no_key : (ls : List (List ℕ)) → length ls ≡ 0 → ls ≡ []
+    no_key [] z = refl
+    no_key (k ∷ ls) z = absurd (omega (arith, z))
 
 turn_to : (u w e c : ChangeSet) (b : Boundary) → e ≡ merge one_under u w → c ≡ merge one_unlike w u → Between b e c → IsTurnTo b u w
 turn_to u w e c b s t h =

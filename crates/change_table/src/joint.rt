@@ -56,6 +56,9 @@ impl<'a> Joint<'a> {
         requires { AgreeBut keys.now written.now (together self) }
         ensures { IfOk result (λ turn. IsTurn turn written.now (together self.entry)) }
     {
+        if keys.is_empty() {
+            return Ok(None);
+        }
         let mut turn = Turn::new(alloc);
         for key in keys {
             let key = key.as_str();

@@ -98,6 +98,9 @@ impl ChangeTable {
         ensures { IfOk result (λ turn. IsTurn turn self.now shown.now) }
     {
         let written = self.view(alloc)?;
+        if written.is_empty() && shown.is_empty() {
+            return Ok(None);
+        }
         let ended = written.merged(alloc, shown, Rule::Under)?;
         let changed = shown.merged(alloc, &written, Rule::Unlike)?;
         let turn = between(alloc, &ended, &changed)?;
@@ -108,6 +111,9 @@ impl ChangeTable {
     pub fn view(&self, alloc: Global) -> Result<ChangeView<'_>, Memory>
         ensures { IfOk result (λ v. v ≡ self.now) }
     {
+        if self.map.len() == 0 {
+            return Ok(ChangeView::empty(alloc));
+        }
         let mut list = Vec::new(alloc);
         for (key, change) in self.map.iter() {
             list.push(stored(key, change))?;

@@ -1,7 +1,7 @@
 use Rattle.change_view.specs.Rules.{one_under, one_unlike}
-use Rattle.std.proofs.Common.{refl}
+use Rattle.std.proofs.Common.{refl, sym, ◌∙◌}
 use Rattle.change_table.specs.Joints.{together}
-use Rattle.change_table.proofs.Turning.{has_none, gathered_next, turned_within}
+use Rattle.change_table.proofs.Turning.{has_none, gathered_next, turned_within, agree_everywhere}
 use Rattle.change_table.proofs.joint.Joint.turn_from.Goals as goal
 
 pub loop-key-init : goal.loop-key-init
@@ -18,3 +18,6 @@ loop-key-preserved c = (
 pub returns : goal.returns
 returns c = turned_within c.args.keys.now c.loop-key.key-index c.in_ok-boundary.boundary c.args.written.now (together c.args.self) c.loop-key.turn.ended c.loop-key.turn.changed
     c.loop-key-test.false c.requires c.loop-key.invariant c.in_ok-boundary.ensures
+
+pub returns-then-is_empty : goal.returns-then-is_empty
+returns-then-is_empty c = agree_everywhere c.args.keys.now c.args.written.now (together c.args.self) (sym c.is_empty.ensures ∙ c.if-is_empty.true) c.requires

@@ -2,7 +2,7 @@ use Rattle.std.proofs.Common.{◌++◌, map, ap, sym, ◌∙◌}
 use Rattle.change_view.specs.Lists.{entry_of as of_ref, all_texts}
 use Rattle.change_view.proofs.Views.{IsViewOf, kept, pushed, pushed_texts}
 use Rattle.change_table.specs.Tables.{entry_of, table_of}
-use Rattle.change_table.proofs.Stored.{viewed_table}
+use Rattle.change_table.proofs.Stored.{viewed_table, empty_table}
 use Rattle.change_table.proofs.table.ChangeTable.view.Goals as goal
 
 pub loop-key-preserved : goal.loop-key-preserved
@@ -26,3 +26,6 @@ returns c =
     ∙ (viewed_table _ c.loop-key.key-iterator c.self.inside.map.entries c.iter-key-items.ensures.ordered c.in-None.ensures.steps.0
     (c.loop-key.invariant.0 ∙ ap (map entry_of) (c.into_iter-key-iterator.ensures.into_iter_gives ∙ c.iter-key-items.ensures.rest)) c.loop-key.invariant.1).value
     ∙ c.self.view_is
+
+pub returns-then-len-eq0 : goal.returns-then-len-eq0
+returns-then-len-eq0 c = c.empty.ensures ∙ empty_table c.self.inside.map.entries (sym c.len.ensures.len ∙ c.if-len-eq0.true) ∙ c.self.view_is
