@@ -8,7 +8,6 @@ ghost use Rattle.follower_rules.specs.Submitting.{IsFault, is_short, edit_within
 ghost use Rattle.client_control.specs.Parts.{follower_of};
 ghost use Rattle.client_control.specs.Steps.{IsInvalid, IsTried};
 
-use crate::counts::inserted;
 use crate::{Follower, FollowerFault, SUBMIT_BYTES};
 use doc_items::Memory;
 use std::alloc::Global;
@@ -58,7 +57,7 @@ impl Follower {
         ensures same { OnErr result (self.new ≡ self.old) }
     {
         let ops = ops.normal(alloc)?;
-        let more = inserted(&ops);
+        let more = ops.inserted();
         let short = is_short(alloc, &ops)?;
         let mut shown = self.lift_screen(alloc)?;
         let full = self.held + more > most;

@@ -10,7 +10,7 @@ ghost use Rattle.client_control.specs.Parts.{follower_of, with_ops};
 ghost use Rattle.client_control.specs.Steps.{IsComparison, IsMeeting, IsOver};
 
 use crate::bytes::bytes;
-use crate::counts::{inserted, inserted_all};
+use crate::counts::inserted_all;
 use crate::flight::InFlight;
 use crate::past::{Passed, pass_over};
 use crate::step::step_after;
@@ -127,7 +127,7 @@ impl Follower {
             Ok(()) => {
                 self.at = step.to;
                 self.count = step.inserted;
-                self.held -= inserted(&delta.ops);
+                self.held -= delta.ops.inserted();
                 self.flight = None;
                 Ok(Received::Advanced)
             }

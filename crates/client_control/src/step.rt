@@ -5,15 +5,12 @@ ghost use Rattle.wavelet_state.specs.Snapshots.{max_inserted};
 ghost use Rattle.delta_history.specs.Steps.{IsWithin};
 ghost use Rattle.client_control.specs.Steps.{IsStep};
 
-use crate::counts::inserted;
+use delta_history::MAX_DELTA;
 use doc_items::MAX_COUNT;
 use wave_base::HashedVersion;
 use wave_hash::next_hash;
 use wavelet_op::AppliedDelta;
 use wavelet_state::MAX_INSERTED;
-
-// The most bytes of a delta.
-const MAX_DELTA: usize = 1 << 20;
 
 /// The hashed version after a delta, and how many items are inserted up to there.
 #[derive(Clone, Copy, Drop)]
@@ -34,8 +31,8 @@ pub(crate) fn step_after(
     ensures { MatchOption result (¬ (IsWithin at count delta.now)) (λ s. IsStep at count delta.now s) }
 {
     let version = at.version + delta.ops.len();
-    let inserted = count + inserted(&delta.ops);
-    if version > MAX_COUNT || inserted > MAX_INSERTED || bytes.len() > MAX_DELTA {
+    let inserted = count + delta.ops.inserted();
+    if version > MAX_COUNT || inserted > MAX_INSERTED || bytes.len() as u64 > MAX_DELTA {
         return None;
     }
     let hash = next_hash(&at.hash, bytes);

@@ -4,7 +4,7 @@ ghost use Rattle.wavelet_op.specs.Deltas.{is_count};
 ghost use Rattle.wavelet_op.specs.States.{run};
 ghost use Rattle.wavelet_codec.specs.Spelling.{delta_bytes, IsDelta};
 ghost use Rattle.delta_history.specs.Histories.{head_of, hash_found, IsSameHistory, IsGrown};
-ghost use Rattle.delta_history.specs.Legal.{adds_first, standing, may_write, IsLegal};
+ghost use Rattle.delta_history.specs.Legal.{standing, may_write, IsLegal};
 ghost use Rattle.wavelet_state.specs.Snapshots.{max_inserted};
 ghost use Rattle.delta_history.specs.Points.{start, acts_of, point_at, state_of};
 ghost use Rattle.delta_history.specs.Pushes.{IsAsked, IsInvalid, IsReady, IsRefused};
@@ -12,6 +12,7 @@ ghost use Rattle.delta_history.specs.Steps.{IsFitting, IsWritten, step_after};
 ghost use Rattle.delta_history.specs.Twins.{IsBehind};
 ghost use Rattle.delta_history.specs.Verdicts.{kept};
 
+use crate::first::adds_first;
 use crate::log::Log;
 use crate::states::{lead_on, state_after};
 use crate::step::{Step, Written, next_step, step_of};
@@ -21,8 +22,8 @@ use doc_items::Memory;
 use std::alloc::Global;
 use std::marker::Model;
 use std::mem::replace;
-use wave_base::{Address, DeltaId, HashedVersion, WaveletName};
-use wavelet_op::{AppliedDelta, Ops, Role, WaveletFault, WaveletOp};
+use wave_base::{DeltaId, HashedVersion, WaveletName};
+use wavelet_op::{AppliedDelta, Ops, Role, WaveletFault};
 use wavelet_state::{WaveletState, apply_delta};
 
 /// The history of a wavelet, which is legal: each delta is valid at the state that the ones before lead to, starts at the head that
@@ -377,16 +378,6 @@ fn len(delta: &AppliedDelta) -> u64
     ensures normal { AreNormal delta.now.ops }
 {
     delta.ops.len()
-}
-
-// Whether the first operation adds the address.
-fn adds_first(ops: &Ops, address: &Address) -> bool
-    ensures { result ≡ adds_first (meanings ops.now) address.now }
-{
-    match ops.as_slice().first() {
-        Some(WaveletOp::Add(added)) => address == added,
-        _ => false,
-    }
 }
 
 // The state is after the operations. Refusals: `NotLegal` exactly where they aren't valid. After one, the state is as it was.

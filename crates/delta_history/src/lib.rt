@@ -3,6 +3,7 @@
 
 mod copies;
 mod fault;
+mod first;
 mod history;
 mod ids;
 mod kept;
@@ -15,6 +16,9 @@ mod twin;
 
 pub use copies::Copies;
 pub use fault::HistoryFault;
+pub use first::adds_first;
 pub use history::{History, Prepared};
 pub use kept::Kept;
 pub use laws::{points_hold, verdicts_hold};
+pub use places::started_below;
+pub use step::MAX_DELTA;

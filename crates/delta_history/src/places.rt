@@ -12,8 +12,8 @@ fn starts_below(delta: &AppliedDelta, version: u64) -> bool
     delta.from.version < version
 }
 
-/// How many of the deltas were applied below a version.
-pub(crate) fn started_below(deltas: &[AppliedDelta], version: u64) -> usize
+/// How many of the deltas were applied below a version, which is looked for by halves.
+pub fn started_below(deltas: &[AppliedDelta], version: u64) -> usize
     requires { IsRisingFrom 0 deltas.now }
     ensures value { result ≡ started_below version deltas.now }
     ensures bound { result ≤ length deltas.now }

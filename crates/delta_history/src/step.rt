@@ -1,12 +1,10 @@
 // What is tested of the next delta, its state apart.
-ghost use Rattle.std.specs.Prelude.{◌≡◌, ◌≤◌, ◌<◌, ◌*◌, ℕ, length, take, true, false, IfOk, IfErr, OnOk, MatchOption, IsSome};
+ghost use Rattle.std.specs.Prelude.{◌≡◌, ◌≤◌, ◌<◌, ℕ, length, take, true, false, IfOk, IfErr, OnOk, MatchOption, IsSome};
 ghost use Rattle.wavelet_codec.specs.Spelling.{delta_bytes, IsDelta};
-ghost use Rattle.wavelet_op.specs.Acts.{inserted_act, inserted, meaning, meanings};
 ghost use Rattle.delta_history.specs.Histories.{head_of};
 ghost use Rattle.delta_history.specs.Legal.{has_id, max_delta};
 ghost use Rattle.wavelet_state.specs.Snapshots.{max_inserted};
 ghost use Rattle.delta_history.specs.Steps.{IsWithin, IsWritten, IsFitting, IsUnfit, step_after};
-ghost use Rattle.doc_items.specs.Limits.{max_count};
 
 use crate::HistoryFault;
 use crate::log::Log;
@@ -15,11 +13,11 @@ use std::alloc::Global;
 use wave_base::HashedVersion;
 use wave_hash::next_hash;
 use wavelet_codec::{applied_len, write_applied};
-use wavelet_op::{AppliedDelta, Ops, WaveletOp};
+use wavelet_op::AppliedDelta;
 use wavelet_state::MAX_INSERTED;
 
-// The most bytes of a delta.
-const MAX_DELTA: u64 = 1 << 20;
+/// The most bytes of a delta.
+pub const MAX_DELTA: u64 = 1 << 20;
 
 /// What a delta leads to: the hashed version after it, and how many items are inserted up to there.
 #[derive(Clone, Copy, Drop)]
@@ -41,34 +39,6 @@ impl Drop for Written {
             bytes: _bytes,
         } = self;
     }
-}
-
-// The number of items that an operation inserts.
-#[tactic(auto, unfolding(wavelet_op::specs::Acts::inserted_act))]
-fn inserted_by(op: &WaveletOp) -> u64
-    ensures value { result ≡ inserted_act (meaning op.now) }
-    ensures bound { result ≤ max_count }
-{
-    match op {
-        WaveletOp::NoOp => 0,
-        WaveletOp::Add(_) => 0,
-        WaveletOp::Remove(_) => 0,
-        WaveletOp::Mutate { op, .. } => op.inserted(),
-        WaveletOp::SetRole { .. } => 0,
-    }
-}
-
-// The number of items that operations insert.
-fn inserted(ops: &Ops) -> u64
-    ensures value { result ≡ inserted (meanings ops.now) }
-    ensures bound { result ≤ 1000 * max_count }
-{
-    let list = ops.as_slice();
-    let mut sum = 0;
-    for op in list {
-        sum += inserted_by(op);
-    }
-    sum
 }
 
 // The bytes of a delta; None where they are more than a delta may have.
@@ -94,7 +64,7 @@ fn step_after(at: HashedVersion, count: u64, delta: &AppliedDelta, bytes: &[u8])
         (λ s. IsWithin at count delta.now × (s ≡ step_after at count delta.now)) }
 {
     let version = at.version + delta.ops.len();
-    let inserted = count + inserted(&delta.ops);
+    let inserted = count + delta.ops.inserted();
     if version > MAX_COUNT || inserted > MAX_INSERTED || bytes.len() as u64 > MAX_DELTA {
         return None;
     }

@@ -1,9 +1,9 @@
 // What a session is sent of the copies.
-ghost use Rattle.std.specs.Prelude.{◌≡◌, ◌≤◌, ◌++◌, ◌∷◌, [], nat_lt, length, map, drop, slice_get, true, Some, IfOk, IfSome, OnOk, OnErr};
+ghost use Rattle.std.specs.Prelude.{◌≡◌, ◌≤◌, ◌++◌, ◌∷◌, [], map, drop, slice_get, true, Some, IfOk, IfSome, OnOk, OnErr};
 ghost use Rattle.std.specs.List.{list_any, All, AllByRecursion};
 ghost use Rattle.std.specs.Option.{option_copied};
 ghost use Rattle.delta_history.specs.Histories.{head_of};
-ghost use Rattle.delta_history.specs.Places.{started_below, IsRisingFrom};
+ghost use Rattle.delta_history.specs.Places.{started_below};
 ghost use Rattle.session_core.specs.Access.{Shown, shown_by, with_hosts, has_domain, is_of_domain, seen_from, MaySee};
 ghost use Rattle.session_core.specs.Current.{IsWholeTo, are_sent};
 ghost use Rattle.session_core.specs.News.{messages_of, deltas_of, ArePlaced, StayPlaced};
@@ -14,7 +14,7 @@ use crate::answers::{may_see, verdict_message};
 use crate::lists::{Openings, Tellings, Waitings};
 use crate::news::News;
 use crate::session::{Opening, Party, Session, Waiting};
-use delta_history::{Copies, History};
+use delta_history::{Copies, History, started_below};
 use doc_items::Memory;
 use std::alloc::Global;
 use wave_base::{Address, Domain, WaveletName};
@@ -22,31 +22,6 @@ use wave_messages::{ClosedReason, Message};
 use wavelet_op::{AppliedDelta, Verdict};
 
 // ---- deltas
-
-// How many of the deltas were applied below a version.
-fn started_below(deltas: &[AppliedDelta], version: u64) -> usize
-    requires { IsRisingFrom 0 deltas.now }
-    ensures value { result ≡ started_below version deltas.now }
-    ensures bound { result ≤ length deltas.now }
-{
-    let mut low = 0usize;
-    let mut high = deltas.len();
-    while low < high {
-        let middle = low + (high - low) / 2;
-        if starts_below(&deltas[middle], version) {
-            low = middle + 1;
-        } else {
-            high = middle;
-        }
-    }
-    low
-}
-
-fn starts_below(delta: &AppliedDelta, version: u64) -> bool
-    ensures { result ≡ nat_lt delta.now.from.version version }
-{
-    delta.from.version < version
-}
 
 // The place of the first delta of a history that was applied at a version or after it. At the head there is none.
 #[tactic(auto, using(delta_history::proofs::Finding::rising, crate::proofs::Current::nothing_after))]

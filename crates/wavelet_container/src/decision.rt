@@ -1,7 +1,6 @@
 // What becomes of a submission, up to the delta that it becomes.
-ghost use Rattle.std.specs.Prelude.{◌≡◌, ◌≤◌, ◌*◌, length, IsSome, IfOk, OnErr, MatchOption, None};
-ghost use Rattle.doc_items.specs.Limits.{max_count};
-ghost use Rattle.wavelet_op.specs.Acts.{inserted_act, inserted, meaning, meanings, AreNormal};
+ghost use Rattle.std.specs.Prelude.{◌≡◌, ◌≤◌, length, IsSome, IfOk, OnErr, MatchOption, None};
+ghost use Rattle.wavelet_op.specs.Acts.{meanings, AreNormal};
 ghost use Rattle.wavelet_op.specs.States.{run, first_invalid};
 ghost use Rattle.wavelet_container.specs.Decisions.{IsBase, IsDecided, IsRefusal, IsInvalidAt, IsSubmitted, IsValidBelow, IsFullTold, LooksAtOps, has_room, judged};
 
@@ -11,7 +10,7 @@ use crate::passing::passed;
 use delta_history::History;
 use doc_items::{MAX_COUNT, Memory};
 use std::alloc::Global;
-use wavelet_op::{AppliedDelta, Ops, Submission, Verdict, WaveletOp};
+use wavelet_op::{AppliedDelta, Ops, Submission, Verdict};
 use wavelet_state::MAX_INSERTED;
 
 /// What is decided about a submission.
@@ -126,40 +125,12 @@ impl CachedHistory {
     }
 }
 
-// The number of items that an operation inserts.
-#[tactic(auto, unfolding(wavelet_op::specs::Acts::inserted_act))]
-fn inserted_by(op: &WaveletOp) -> u64
-    ensures value { result ≡ inserted_act (meaning op.now) }
-    ensures bound { result ≤ max_count }
-{
-    match op {
-        WaveletOp::NoOp => 0,
-        WaveletOp::Add(_) => 0,
-        WaveletOp::Remove(_) => 0,
-        WaveletOp::Mutate { op, .. } => op.inserted(),
-        WaveletOp::SetRole { .. } => 0,
-    }
-}
-
-// The number of items that operations insert.
-fn inserted(ops: &Ops) -> u64
-    ensures value { result ≡ inserted (meanings ops.now) }
-    ensures bound { result ≤ 1000 * max_count }
-{
-    let list = ops.as_slice();
-    let mut sum = 0;
-    for op in list {
-        sum += inserted_by(op);
-    }
-    sum
-}
-
 // Whether the bounds of versions and of items hold with the operations after the head.
 fn has_room(history: &History, ops: &Ops) -> bool
     ensures { result ≡ has_room history.now ops.now }
 {
     history.head().version + ops.len() <= MAX_COUNT
-        && history.inserted() + inserted(ops) <= MAX_INSERTED
+        && history.inserted() + ops.inserted() <= MAX_INSERTED
 }
 
 // The delta that a submission becomes at the head, with these operations.

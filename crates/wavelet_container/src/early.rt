@@ -1,16 +1,15 @@
 // What is tested of a submission before its operations are looked at.
-ghost use Rattle.std.specs.Prelude.{◌≡◌, ◌≤◌, nat_lt, length, None};
+ghost use Rattle.std.specs.Prelude.{◌≡◌, None};
 ghost use Rattle.wavelet_op.specs.Acts.{meanings};
 ghost use Rattle.delta_history.specs.Histories.{head_of};
-ghost use Rattle.delta_history.specs.Legal.{adds_first, standing};
+ghost use Rattle.delta_history.specs.Legal.{standing};
 ghost use Rattle.delta_history.specs.Points.{start};
 ghost use Rattle.delta_history.specs.Verdicts.{kept};
-ghost use Rattle.delta_history.specs.Places.{started_below, IsRisingFrom};
 ghost use Rattle.wavelet_container.specs.Decisions.{IsTested, IsEarlyTold, MayWrite};
 
-use delta_history::History;
+use delta_history::{History, adds_first, started_below};
 use wave_base::Address;
-use wavelet_op::{AppliedDelta, Ops, Role, Submission, Verdict, WaveletOp};
+use wavelet_op::{Ops, Role, Submission, Verdict};
 
 /// What the first tests tell of a submission.
 #[derive(Drop)]
@@ -71,30 +70,6 @@ fn test_base(history: &History, submission: &Submission) -> Tested
     }
 }
 
-// How many of the deltas were applied below a version: looked for from the last one back, since most submissions are made near
-// the head.
-fn started_below(deltas: &[AppliedDelta], version: u64) -> usize
-    requires { IsRisingFrom 0 deltas.now }
-    ensures value { result ≡ started_below version deltas.now }
-    ensures bound { result ≤ length deltas.now }
-{
-    let mut place = deltas.len();
-    while place > 0 {
-        if starts_below(&deltas[place - 1], version) {
-            return place;
-        }
-        place -= 1;
-    }
-    0
-}
-
-// Whether a delta was applied below a version.
-fn starts_below(delta: &AppliedDelta, version: u64) -> bool
-    ensures { result ≡ nat_lt delta.now.from.version version }
-{
-    delta.from.version < version
-}
-
 // The author's role at the head; in an empty history `Full` where the first operation adds it.
 fn standing(history: &History, author: &Address, ops: &Ops) -> Option<Role>
     ensures { result ≡ standing history.now.deltas (head_of history.now) author.now (meanings ops.now) }
@@ -106,15 +81,5 @@ fn standing(history: &History, author: &Address, ops: &Ops) -> Option<Role>
         Some(Role::Full)
     } else {
         None
-    }
-}
-
-/// Whether the first operation adds the address.
-pub(crate) fn adds_first(ops: &Ops, address: &Address) -> bool
-    ensures { result ≡ adds_first (meanings ops.now) address.now }
-{
-    match ops.as_slice().first() {
-        Some(WaveletOp::Add(added)) => address == added,
-        _ => false,
     }
 }

@@ -5,7 +5,7 @@ ghost use Rattle.delta_history.specs.Legal.{adds_first};
 ghost use Rattle.delta_history.specs.Verdicts.{judge};
 ghost use Rattle.wavelet_container.specs.Decisions.{LooksAtOps};
 
-use crate::early::adds_first;
+use delta_history::adds_first;
 use wave_base::{HashedVersion, WaveletName};
 use wave_hash::zero_hash;
 use wavelet_op::{Submission, Verdict};

@@ -1,5 +1,6 @@
-ghost use Rattle.std.specs.Prelude.{◌≡◌, ◌↔◌, IfOk, IsTrue};
-ghost use Rattle.wavelet_op.specs.Acts.{meaning, IsNormal, IsStructuredAct};
+ghost use Rattle.std.specs.Prelude.{◌≡◌, ◌≤◌, ◌↔◌, IfOk, IsTrue};
+ghost use Rattle.doc_items.specs.Limits.{max_count};
+ghost use Rattle.wavelet_op.specs.Acts.{inserted_act, meaning, IsNormal, IsStructuredAct};
 
 use crate::Role;
 use doc_items::Memory;
@@ -48,6 +49,21 @@ impl Drop for WaveletOp {
 }
 
 impl WaveletOp {
+    /// The number of items that the operation inserts.
+    #[tactic(auto, unfolding(crate::specs::Acts::inserted_act))]
+    pub fn inserted(&self) -> u64
+        ensures value { result ≡ inserted_act (meaning self.now) }
+        ensures bound { result ≤ max_count }
+    {
+        match self {
+            WaveletOp::NoOp => 0,
+            WaveletOp::Add(_) => 0,
+            WaveletOp::Remove(_) => 0,
+            WaveletOp::Mutate { op, .. } => op.inserted(),
+            WaveletOp::SetRole { .. } => 0,
+        }
+    }
+
     /// Whether an operation on a document is structured; every other one is.
     pub fn is_structured(&self) -> bool
         ensures { IsTrue result ↔ IsStructuredAct (meaning self.now) }

@@ -1,5 +1,6 @@
-ghost use Rattle.std.specs.Prelude.{◌≡◌, ◌<◌, ◌≤◌, ◌↔◌, cond, length, Some, None, IfOk, IsTrue};
-ghost use Rattle.wavelet_op.specs.Acts.{meanings, AreNormal, AreStructuredActs};
+ghost use Rattle.std.specs.Prelude.{◌≡◌, ◌<◌, ◌≤◌, ◌*◌, ◌↔◌, cond, length, Some, None, IfOk, IsTrue};
+ghost use Rattle.doc_items.specs.Limits.{max_count};
+ghost use Rattle.wavelet_op.specs.Acts.{inserted, meanings, AreNormal, AreStructuredActs};
 ghost use Rattle.wavelet_op.specs.Deltas.{is_count};
 
 use crate::WaveletOp;
@@ -67,6 +68,19 @@ impl Ops {
         ensures bound { result ≤ 1000 }
     {
         self.list.len() as u64
+    }
+
+    /// The number of items that the operations insert.
+    pub fn inserted(&self) -> u64
+        ensures value { result ≡ inserted (meanings self.now) }
+        ensures bound { result ≤ 1000 * max_count }
+    {
+        let list = self.as_slice();
+        let mut sum = 0;
+        for op in list {
+            sum += op.inserted();
+        }
+        sum
     }
 
     /// Whether each operation on a document is structured.

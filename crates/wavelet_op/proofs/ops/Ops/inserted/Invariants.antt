@@ -1,7 +1,7 @@
 use Rattle.std.proofs.Common.{◌≡◌, ◌≤◌, ◌+◌, ◌*◌, drop}
 use Rattle.doc_items.specs.Limits.{max_count}
 use Rattle.wavelet_op.specs.Acts.{inserted, meanings}
-use Rattle.wavelet_container.proofs.decision.inserted.Given as goal
+use Rattle.wavelet_op.proofs.ops.Ops.inserted.Given as goal
 
 abbrev pub invariant-loop-op : goal.invariant-loop-op
 invariant-loop-op l = record {
