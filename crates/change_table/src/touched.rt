@@ -54,7 +54,7 @@ impl Touched {
         }
     }
 
-    /// The keys of a boundary too.
+    /// The keys of a boundary too. After want of memory a part of them may be noted.
     pub fn add(&mut self, alloc: Global, boundary: &Boundary) -> Result<(), Memory>
         ensures { OnOk result (self.new ≡ option_map (λ keys. keys ++ boundary_keys boundary.now) self.old) }
     {
