@@ -3,15 +3,14 @@
 --     room_first, room_second     there is room for a run
 --     goes_*                 a step goes past runs
 --     unfit_both             a step is refused
---     moved                  the cursors stand after a step
+--     can_pass, stepped      the cursors can pass what a step says, and stand after it
 --     giving_*, taking_*     runs that give items, and runs that take them
 use Rattle.std.proofs.Common.{◌≡◌, ℕ, zero, suc, ◌+◌, ◌<◌, ◌≤◌, Bool, false, Option, List, [], ◌∷◌, ◌++◌, length, map, replicate, take, drop, refl, sym, ap, subst, ◌∙◌, arith, Ok, Err, length-append, length-drop}
-use Rattle.std.proofs.lemmas.List.{take-append-drop, append-nil, length-map, length-replicate, take-map, length-take-le}
+use Rattle.std.proofs.lemmas.List.{append-nil, length-map, length-replicate, take-map, length-take-le}
 use Rattle.doc_items.specs.Changes.{ChangeSet}
 use Rattle.doc_items.specs.Limits.{max_count}
 use Rattle.doc_items.specs.declared.item.Content.{Content}
 use Rattle.doc_items.specs.declared.item.Item.{Item}
-use Rattle.change_table.specs.Keys.{Touches}
 use Rattle.doc_op.specs.Actions.{AttributeChange, Action, Keep, Ins, insertion, deletion, actions}
 use Rattle.doc_op.specs.Cursors.{Way, left}
 use Rattle.doc_op.specs.declared.component.Component.{Component}
@@ -19,9 +18,13 @@ use Rattle.doc_op.specs.Normal.{normal_form, shown_last}
 use Rattle.doc_op.specs.Lengths.{input_len, output_len, inserted_len}
 use Rattle.doc_op.proofs.Lengths.{inserted_len-append}
 use Rattle.op_runs.specs.Kept.{kept_change, kept_actions, IsFitKept}
+use Rattle.op_runs.specs.Passages.{goes_on, CanPass, ArePast, IsPassed}
+use Rattle.op_runs.specs.declared.passage.Passage.{Passage}
+use Rattle.op_runs.specs.declared.passage.Passage.TheVariants.{End, First, Second, Both}
+use Rattle.op_runs.proofs.Ways.{front_split, fewer_left}
 use Rattle.op_compose.specs.Compose.{ahead, compose}
 use Rattle.op_compose.specs.Weaves.{NoDelete, expects, Passed, PassedSecond, Refused, HasRoom, Grows, IsInStep}
-use Rattle.op_compose.specs.Steps.{together, HasAllRoom, Goes, IsUnfit, IsAtEnd, IsMoved, IsStepped, IsComposition, IsDontFit, IsRefused}
+use Rattle.op_compose.specs.Steps.{together, HasAllRoom, Goes, IsStep, IsUnfit, IsAtEnd, IsMoved, IsStepped, IsComposition, IsDontFit, IsRefused}
 use Rattle.op_runs.specs.declared.kept.Kept.{Kept}
 use Rattle.op_compose.specs.declared.fault.ComposeFault.{ComposeFault}
 use Rattle.op_compose.specs.declared.fault.ComposeFault.TheVariants.{CountTooLarge, DontFit, Memory}
@@ -31,11 +34,6 @@ use Rattle.op_compose.proofs.Rooms.{inserted_len-insertions, inserted_len-drop, 
 use Rattle.op_compose.proofs.Touches.{moved_first, moved_second}
 
 -- ---- a run in front
-
-take_front : (x rest : List Action) (n : ℕ) → n ≤ length x → take n (x ++ rest) ≡ take n x
-take_front x rest zero h = refl
-take_front [] rest (suc n) h = absurd (omega (arith, h))
-take_front (a ∷ x) rest (suc n) h = ap (λ l. a ∷ l) (take_front x rest n (omega (arith, h)))
 
 take_whole : (x : List Action) (n : ℕ) → n ≡ length x → take n x ≡ x
 take_whole [] zero h = refl
@@ -48,7 +46,7 @@ pub record IsFirst (l : Way) (x : List Action) (n : ℕ) : Type 0 where
   pub fits : n ≤ length l.front
 
 front_is : (l : Way) (x : List Action) (n : ℕ) → IsFirst l x n → left l ≡ x ++ drop n (left l)
-front_is l x n h = sym (take-append-drop n (left l)) ∙ ap (λ y. y ++ drop n (left l)) (take_front l.front l.behind n h.fits ∙ sym h.is)
+front_is l x n h = front_split l n h.fits ∙ ap (λ y. y ++ drop n (left l)) (sym h.is)
 
 -- the whole of a run that is inserted or deleted
 pub whole_run : (l : Way) (g : ChangeSet → Content → Action) (w : ChangeSet) (cs : List Content) (n : ℕ) → w ≡ l.under → map (g l.under) cs ≡ l.front → n ≡ length cs → IsFirst l (map (g w) cs) n
@@ -163,25 +161,34 @@ unfit_both done f s x y n Memory h k r = tt
 
 -- ---- the cursors stand after a step
 
-fewer_left : (l m : Way) (n : ℕ) → n ≤ length l.front → left m ≡ drop n (left l) → length (left m) + n ≡ length (left l)
-fewer_left l m n fits e =
-    let rest = ap length e ∙ length-drop n (left l) in
-    let all = left_len l in
-    omega (arith, rest, all, fits)
+pub can_pass : (p : Passage) (done after : Weave) (f s : Way) → IsStep p done f s after → CanPass p f s
+can_pass End done after f s h = tt
+can_pass (First n) done after f s h = (h.0, h.1.first_fits)
+can_pass (Second n) done after f s h = (h.0, h.1.second_fits)
+can_pass (Both n) done after f s h = (h.0, h.1.first_fits, h.1.second_fits)
 
--- the first operation's cursor goes on by n, and then the second's by m
-pub moved : (done mid : Weave) (f s g t : Way) (n m : ℕ) (touched last : Option (List (List ℕ))) → 0 < n + m → Goes done f s n m mid
-    → left g ≡ drop n (left f) → Touches mid.touched f.under touched g.under → left t ≡ drop m (left s) → Touches touched s.under last t.under
-    → IsMoved done f s (record { out = mid.out; place = mid.place; touched = last }) g t
-moved done mid f s g t n m touched last some h p k q j =
-    let first = fewer_left f g n h.first_fits p in
-    let second = fewer_left s t m h.second_fits q in
+-- the walk with other touched keys
+abbrev with_touched : Option (List (List ℕ)) → Weave → Weave
+with_touched t w = record { out = w.out; place = w.place; touched = t }
+
+moved : (done mid : Weave) (f s g t : Way) (n m : ℕ) (last : Option (List (List ℕ))) → 0 < n + m → Goes done f s n m mid → ArePast n m f s mid.touched g t last → IsMoved done f s (with_touched last mid) g t
+moved done mid f s g t n m last some h past =
+    let p = past.first in let q = past.second in
     record {
       is = h.is ∙ (λ i. expects mid (sym p i) (sym q i));
       room = subst (λ l. HasAllRoom mid l (left t)) (sym p) (subst (HasAllRoom mid (drop n (left f))) (sym q) h.room);
-      in_step = moved_second touched last (shown_last mid.out) g.under s.under t.under j (moved_first mid.touched touched (shown_last mid.out) f.under g.under s.under k h.in_step);
-      smaller = omega (arith, first, second, some);
+      in_step = moved_second past.between last (shown_last mid.out) g.under s.under t.under past.touched_second (moved_first mid.touched past.between (shown_last mid.out) f.under g.under s.under past.touched_first h.in_step);
+      smaller = fewer_left n m f s g t mid.touched last some h.first_fits h.second_fits past;
     }
+
+pub stepped : (p : Passage) (more : Bool) (done mid : Weave) (f s g t : Way) (last : Option (List (List ℕ))) → more ≡ goes_on p → IsStep p done f s mid → IsPassed p f s mid.touched g t last → IsStepped more done f s (with_touched last mid) g t
+stepped p more done mid f s g t last e h past = subst (λ b. IsStepped b done f s (with_touched last mid) g t) (sym e) (by p h past)
+  where
+    by : (p : Passage) → IsStep p done f s mid → IsPassed p f s mid.touched g t last → IsStepped (goes_on p) done f s (with_touched last mid) g t
+    by End h past = (h.0, h.1, ap (λ x. with_touched x mid) past.2 ∙ h.2)
+    by (First n) h past = let some = h.0 in moved done mid f s g t n 0 last (omega (arith, some)) h.1 past
+    by (Second n) h past = let some = h.0 in moved done mid f s g t 0 n last (omega (arith, some)) h.1 past
+    by (Both n) h past = let some = h.0 in moved done mid f s g t n n last (omega (arith, some)) h.1 past
 
 -- ---- runs beside the end of the other operation
 

@@ -1,6 +1,5 @@
 pub mod Chains
 pub mod Compose
 pub mod Laws
-pub mod Ahead
 pub mod Weaves
 pub mod Steps

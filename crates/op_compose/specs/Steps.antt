@@ -18,8 +18,8 @@ use Rattle.op_compose.specs.Compose.{compose}
 use Rattle.op_compose.specs.Weaves.{expects, HasRoom, IsInStep}
 use Rattle.op_compose.specs.declared.fault.ComposeFault.{ComposeFault}
 use Rattle.op_compose.specs.declared.fault.ComposeFault.TheVariants.{CountTooLarge, DontFit, Memory}
-use Rattle.op_compose.specs.declared.step.Progress.{Progress}
-use Rattle.op_compose.specs.declared.step.Progress.TheVariants.{End, First, Second, Both}
+use Rattle.op_runs.specs.declared.passage.Passage.{Passage}
+use Rattle.op_runs.specs.declared.passage.Passage.TheVariants.{End, First, Second, Both}
 use Rattle.op_compose.specs.declared.weave.Weave.{Weave}
 
 abbrev pub together : List Action → List Action → ℕ
@@ -40,7 +40,7 @@ pub record Goes (done : Weave) (f s : Way) (n m : ℕ) (after : Weave) : Type 0 
 abbrev pub IsAtEnd : Weave → Way → Way → Weave → Type 0
 IsAtEnd done f s after = (left f ≡ []) × (left s ≡ []) × (after ≡ done)
 
-abbrev pub IsStep : Progress → Weave → Way → Way → Weave → Type 0
+abbrev pub IsStep : Passage → Weave → Way → Way → Weave → Type 0
 IsStep End done f s after = IsAtEnd done f s after
 IsStep (First n) done f s after = (0 < n) × Goes done f s n 0 after
 IsStep (Second n) done f s after = (0 < n) × Goes done f s 0 n after

@@ -1,7 +1,6 @@
 //! The composition of two operations: one that does what the first and then the second does.
 #![tactic(auto)]
 
-mod ahead;
 mod attributes;
 mod back;
 mod composition;

@@ -1,5 +1,5 @@
 // One step of the composition: peek, meet, skip.
-ghost use Rattle.std.specs.Prelude.{◌≡◌, ◌<◌, [], min, length, map, MatchResult};
+ghost use Rattle.std.specs.Prelude.{◌≡◌, ◌<◌, [], length, map, MatchResult};
 ghost use Rattle.doc_op.specs.Actions.{insertion, deletion};
 ghost use Rattle.doc_op.specs.Cursors.{left};
 ghost use Rattle.doc_op.specs.Runs.{contents};
@@ -8,24 +8,10 @@ ghost use Rattle.op_compose.specs.Weaves.{NoDelete, IsInStep};
 ghost use Rattle.op_compose.specs.Steps.{HasAllRoom, IsStep, IsStepped, IsUnfit};
 
 use crate::ComposeFault;
-use crate::ahead::{Ahead, ahead_of};
 use crate::weave::Weave;
 use doc_op::{ContentRun, Cursor};
-use op_runs::Kept;
+use op_runs::{Ahead, Kept, Passage, ahead_of};
 use std::alloc::Global;
-
-/// How many actions of the two operations are passed.
-#[derive(Clone, Copy)]
-pub(crate) enum Progress {
-    /// Both are at their end.
-    End,
-    /// So many of the first.
-    First(u64),
-    /// So many of the second.
-    Second(u64),
-    /// So many of each.
-    Both(u64),
-}
 
 fn first_deletes(
     alloc: Global,
@@ -33,7 +19,7 @@ fn first_deletes(
     run: ContentRun<'_>,
     f: &Cursor<'_>,
     s: &Cursor<'_>,
-) -> Result<Progress, ComposeFault>
+) -> Result<Passage, ComposeFault>
     requires some { 0 < length (contents run) }
     requires ahead { map (deletion f.now.under) (contents run) ≡ f.now.front }
     requires room { HasAllRoom done.old (left f.now) (left s.now) }
@@ -43,7 +29,7 @@ fn first_deletes(
 {
     let changes = f.running().view(alloc)?;
     done.delete_first(alloc, run, &changes)?;
-    Ok(Progress::First(run.len()))
+    Ok(Passage::First(run.len()))
 }
 
 fn second_inserts(
@@ -52,7 +38,7 @@ fn second_inserts(
     run: ContentRun<'_>,
     f: &Cursor<'_>,
     s: &Cursor<'_>,
-) -> Result<Progress, ComposeFault>
+) -> Result<Passage, ComposeFault>
     requires some { 0 < length (contents run) }
     requires ahead { map (insertion s.now.under) (contents run) ≡ s.now.front }
     requires behind { NoDelete (left f.now) }
@@ -63,7 +49,7 @@ fn second_inserts(
 {
     let changes = s.running().view(alloc)?;
     done.insert_second(alloc, run, &changes)?;
-    Ok(Progress::Second(run.len()))
+    Ok(Passage::Second(run.len()))
 }
 
 fn both_keep<'a>(
@@ -73,7 +59,7 @@ fn both_keep<'a>(
     f: &'a Cursor<'_>,
     y: Kept<'a>,
     s: &'a Cursor<'_>,
-) -> Result<Progress, ComposeFault>
+) -> Result<Passage, ComposeFault>
     requires fit_x { IsFitKept x }
     requires fit_y { IsFitKept y }
     requires ahead_x { kept_actions f.now.under x ≡ f.now.front }
@@ -84,7 +70,7 @@ fn both_keep<'a>(
         (λ p. IsStep p done.old f.now s.now done.new)
         (λ e. IsUnfit e done.old (left f.now) (left s.now)) }
 {
-    let count = smaller(x.count, y.count);
+    let count = x.count.min(y.count);
     match done.keep_both(
         alloc,
         x.first(count),
@@ -92,7 +78,7 @@ fn both_keep<'a>(
         y.first(count),
         s.running(),
     ) {
-        Ok(()) => Ok(Progress::Both(count)),
+        Ok(()) => Ok(Passage::Both(count)),
         Err(fault) => Err(fault),
     }
 }
@@ -105,7 +91,7 @@ fn kept_is_deleted<'a>(
     f: &'a Cursor<'_>,
     run: ContentRun<'a>,
     s: &'a Cursor<'_>,
-) -> Result<Progress, ComposeFault>
+) -> Result<Passage, ComposeFault>
     requires fit { IsFitKept x }
     requires some { 0 < length (contents run) }
     requires ahead_x { kept_actions f.now.under x ≡ f.now.front }
@@ -117,9 +103,9 @@ fn kept_is_deleted<'a>(
 {
     let w = f.running().view(alloc)?;
     let u = s.running().view(alloc)?;
-    let count = smaller(x.count, run.len());
+    let count = x.count.min(run.len());
     match done.delete_kept(alloc, x.first(count), &w, run.first(count), &u) {
-        Ok(()) => Ok(Progress::Both(count)),
+        Ok(()) => Ok(Passage::Both(count)),
         Err(fault) => Err(fault),
     }
 }
@@ -132,7 +118,7 @@ fn inserted_is_kept<'a>(
     f: &'a Cursor<'_>,
     y: Kept<'a>,
     s: &'a Cursor<'_>,
-) -> Result<Progress, ComposeFault>
+) -> Result<Passage, ComposeFault>
     requires some { 0 < length (contents run) }
     requires fit { IsFitKept y }
     requires ahead_x { map (insertion f.now.under) (contents run) ≡ f.now.front }
@@ -144,9 +130,9 @@ fn inserted_is_kept<'a>(
 {
     let w = f.running().view(alloc)?;
     let u = s.running().view(alloc)?;
-    let count = smaller(run.len(), y.count);
+    let count = run.len().min(y.count);
     match done.keep_inserted(alloc, run.first(count), &w, y.first(count), &u) {
-        Ok(()) => Ok(Progress::Both(count)),
+        Ok(()) => Ok(Passage::Both(count)),
         Err(fault) => Err(fault),
     }
 }
@@ -159,7 +145,7 @@ fn inserted_is_deleted<'a>(
     f: &'a Cursor<'_>,
     other: ContentRun<'a>,
     s: &'a Cursor<'_>,
-) -> Result<Progress, ComposeFault>
+) -> Result<Passage, ComposeFault>
     requires some { 0 < length (contents run) }
     requires some_other { 0 < length (contents other) }
     requires ahead_x { map (insertion f.now.under) (contents run) ≡ f.now.front }
@@ -171,17 +157,11 @@ fn inserted_is_deleted<'a>(
 {
     let w = f.running().view(alloc)?;
     let u = s.running().view(alloc)?;
-    let count = smaller(run.len(), other.len());
+    let count = run.len().min(other.len());
     match done.drop_inserted(run.first(count), &w, other.first(count), &u) {
-        Ok(()) => Ok(Progress::Both(count)),
+        Ok(()) => Ok(Passage::Both(count)),
         Err(fault) => Err(fault),
     }
-}
-
-fn smaller(n: u64, m: u64) -> u64
-    ensures { result ≡ min n m }
-{
-    if n < m { n } else { m }
 }
 
 // Items stay in the first operation.
@@ -191,7 +171,7 @@ fn past_kept<'a>(
     x: Kept<'a>,
     f: &'a Cursor<'_>,
     s: &'a Cursor<'_>,
-) -> Result<Progress, ComposeFault>
+) -> Result<Passage, ComposeFault>
     requires fit { IsFitKept x }
     requires ahead { kept_actions f.now.under x ≡ f.now.front }
     requires room { HasAllRoom done.old (left f.now) (left s.now) }
@@ -215,7 +195,7 @@ fn past_inserted<'a>(
     run: ContentRun<'a>,
     f: &'a Cursor<'_>,
     s: &'a Cursor<'_>,
-) -> Result<Progress, ComposeFault>
+) -> Result<Passage, ComposeFault>
     requires some { 0 < length (contents run) }
     requires ahead { map (insertion f.now.under) (contents run) ≡ f.now.front }
     requires room { HasAllRoom done.old (left f.now) (left s.now) }
@@ -237,7 +217,7 @@ fn past_end(
     done: &mut Weave,
     f: &Cursor<'_>,
     s: &Cursor<'_>,
-) -> Result<Progress, ComposeFault>
+) -> Result<Passage, ComposeFault>
     requires end { left f.now ≡ [] }
     requires room { HasAllRoom done.old (left f.now) (left s.now) }
     ensures { MatchResult result
@@ -248,7 +228,7 @@ fn past_end(
         Ahead::Inserts(run) => second_inserts(alloc, done, run, f, s),
         Ahead::Deletes(_) => Err(ComposeFault::DontFit(done.place)),
         Ahead::Keeps(_) => Err(ComposeFault::DontFit(done.place)),
-        Ahead::Nothing => Ok(Progress::End),
+        Ahead::Nothing => Ok(Passage::End),
     }
 }
 
@@ -258,7 +238,7 @@ fn advance<'a>(
     done: &mut Weave,
     f: &'a Cursor<'_>,
     s: &'a Cursor<'_>,
-) -> Result<Progress, ComposeFault>
+) -> Result<Passage, ComposeFault>
     requires room { HasAllRoom done.old (left f.now) (left s.now) }
     requires in_step { IsInStep done.old f.now.under s.now.under }
     ensures { MatchResult result
@@ -286,24 +266,10 @@ pub(crate) fn step(
         (λ more. IsStepped more done.old f.old s.old done.new f.new s.new)
         (λ e. IsUnfit e done.old (left f.old) (left s.old)) }
 {
-    let progress = match advance(alloc, done, f, s) {
-        Ok(progress) => progress,
+    let passage = match advance(alloc, done, f, s) {
+        Ok(passage) => passage,
         Err(fault) => return Err(fault),
     };
-    match progress {
-        Progress::End => Ok(false),
-        Progress::First(count) => {
-            f.skip(alloc, count, &mut done.touched)?;
-            Ok(true)
-        }
-        Progress::Second(count) => {
-            s.skip(alloc, count, &mut done.touched)?;
-            Ok(true)
-        }
-        Progress::Both(count) => {
-            f.skip(alloc, count, &mut done.touched)?;
-            s.skip(alloc, count, &mut done.touched)?;
-            Ok(true)
-        }
-    }
+    let more = passage.pass(alloc, f, s, &mut done.touched)?;
+    Ok(more)
 }

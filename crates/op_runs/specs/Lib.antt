@@ -1,3 +1,5 @@
+pub mod Ahead
 pub mod Contents
 pub mod Kept
+pub mod Passages
 pub mod Rooms

@@ -1,11 +1,10 @@
 -- One step of the walk, from what the arms keep.
 use Rattle.std.proofs.Common.{◌≡◌, ℕ, zero, suc, ◌+◌, ◌<◌, ◌≤◌, min, Bool, false, List, [], ◌∷◌, ◌++◌, length, map, replicate, take, drop, refl, sym, ap, subst, ◌∙◌, arith, zero-add, Ok, Err, Option, None}
 use Rattle.std.proofs.Math.Nat.{le-max_left, le-max_right, min-le_left, min-le_right, le-min}
-use Rattle.std.proofs.lemmas.List.{take-append-drop, append-nil, length-append, length-map, length-replicate, length-take}
+use Rattle.std.proofs.lemmas.List.{append-nil, length-map, length-replicate}
 use Rattle.doc_items.specs.Changes.{ChangeSet}
 use Rattle.doc_items.specs.Limits.{max_count}
 use Rattle.doc_items.specs.declared.item.Content.{Content}
-use Rattle.change_table.specs.Keys.{Touches}
 use Rattle.doc_op.specs.Actions.{AttributeChange, Action, Keep, Del, Names, insertion, deletion, actions}
 use Rattle.doc_op.specs.Cursors.{Way, left}
 use Rattle.doc_op.specs.Lengths.{input_len, inserted_len}
@@ -14,12 +13,16 @@ use Rattle.doc_op.specs.Structure.{Structured}
 use Rattle.doc_op.specs.declared.component.Component.{Component}
 use Rattle.doc_op.proofs.Lengths.{input_len-append, inserted_len-append, input_len-kept, inserted_len-kept, input_len-insertions, input_len-deletions}
 use Rattle.op_runs.specs.Kept.{kept_change}
+use Rattle.op_runs.specs.Passages.{goes_on, CanPass, ArePast, IsPassed}
+use Rattle.op_runs.specs.declared.passage.Passage.{Passage}
+use Rattle.op_runs.specs.declared.passage.Passage.TheVariants.{End, First, Second, Both}
+use Rattle.op_runs.proofs.Ways.{front_split, fewer_left}
 use Rattle.op_transform.specs.Taken.{taken_actions, taken_len, IsFitTaken}
 use Rattle.op_transform.specs.Transform.{front, transform_from, transform}
 use Rattle.op_transform.specs.Touches.{IsInStep}
 use Rattle.op_transform.specs.Walks.{NoInsert, expects, Passed, PassedEarlier, Refused, IsWithin, HasRoom, Grows}
 use Rattle.op_transform.specs.Results.{together, IsTransform, IsRefused}
-use Rattle.op_transform.specs.Steps.{needs, HasAllRoom, Goes, IsMoved, IsAtEnd, IsStepped, IsBroken, IsPairOf, IsConflict}
+use Rattle.op_transform.specs.Steps.{needs, HasAllRoom, Goes, IsStep, IsMoved, IsAtEnd, IsStepped, IsBroken, IsPairOf, IsConflict}
 use Rattle.op_transform.specs.declared.fault.TransformFault.{TransformFault}
 use Rattle.op_transform.specs.declared.fault.TransformFault.TheVariants.{CountTooLarge, Conflict, Memory}
 use Rattle.op_transform.specs.declared.taken.Taken.{Taken}
@@ -35,15 +38,6 @@ drop-front : (x rest : List Action) (n : ℕ) → n ≡ length x → drop n (x +
 drop-front [] rest n e = ap (λ k. drop k rest) e
 drop-front (a ∷ x) rest zero e = absurd (omega (arith, e))
 drop-front (a ∷ x) rest (suc n) e = drop-front x rest n (omega (arith, e))
-
-take-front : (x rest : List Action) (n : ℕ) → n ≤ length x → take n (x ++ rest) ≡ take n x
-take-front x rest zero h = refl
-take-front [] rest (suc n) h = absurd (omega (arith, h))
-take-front (a ∷ x) rest (suc n) h = ap (λ l. a ∷ l) (take-front x rest n (omega (arith, h)))
-
--- the first n actions, and what is left
-split : (l : Way) (n : ℕ) → n ≤ length l.front → left l ≡ take n l.front ++ drop n (left l)
-split l n h = sym (take-append-drop n (left l)) ∙ ap (λ x. x ++ drop n (left l)) (take-front l.front l.behind n h)
 
 -- ---- lengths
 
@@ -159,7 +153,7 @@ both_some s t n a b fs ft la lb m =
     omega (arith, m, le-min h k)
 
 front_is : (l : Way) (u : ChangeSet) (x : Taken) (n : ℕ) → IsFirst l u x n → left l ≡ taken_actions u x ++ drop n (left l)
-front_is l u x n f = split l n f.fits ∙ ap (λ y. y ++ drop n (left l)) (sym f.is)
+front_is l u x n f = front_split l n f.fits ∙ ap (λ y. y ++ drop n (left l)) (sym f.is)
 
 input_of : (l : Way) (u : ChangeSet) (x : Taken) (n : ℕ) → IsFirst l u x n → input_len (left l) ≡ n + input_len (drop n (left l))
 input_of l u x n f = ap input_len (front_is l u x n f) ∙ input_len-append (taken_actions u x) (drop n (left l)) ∙ ap (λ k. k + input_len (drop n (left l))) (input_len-taken u x ∙ f.len)
@@ -235,44 +229,36 @@ no_insert_left l e = subst NoInsert (sym e) no_insert_end
 
 -- ---- the cursors go on
 
-shorter : (n : ℕ) (xs : List Action) → n ≤ length xs → length (drop n xs) + n ≡ length xs
-shorter n xs h = omega (arith, h, ap length (take-append-drop n xs), length-append (take n xs) (drop n xs), length-take n xs)
-
-front_shorter : (l : Way) → length l.front ≤ length (left l)
-front_shorter l = omega (arith, length-append l.front l.behind)
+pub can_pass : (p : Passage) (done after : Walk) (l e : Way) → IsStep p done l e after → CanPass p l e
+can_pass End done after l e h = tt
+can_pass (First n) done after l e h = (h.0, h.1.later_fits)
+can_pass (Second n) done after l e h = (h.0, h.1.earlier_fits)
+can_pass (Both n) done after l e h = (h.0, h.1.later_fits, h.1.earlier_fits)
 
 -- the walk with other touched keys
-abbrev pub with_touched : Option (List (List ℕ)) → Walk → Walk
+abbrev with_touched : Option (List (List ℕ)) → Walk → Walk
 with_touched t w = record { later = w.later; earlier = w.earlier; touched = t; place = w.place; length = w.length }
 
-moved : (done after : Walk) (l e l' e' : Way) (n m : ℕ) (t : Option (List (List ℕ))) → 0 < n + m → Goes done l e n m after → left l' ≡ drop n (left l) → left e' ≡ drop m (left e)
-    → IsInStep (with_touched t after) l'.under e'.under → IsMoved done l e (with_touched t after) l' e'
-moved done after l e l' e' n m t s g h j step =
-    let f = g.later_fits in let k = front_shorter l in
-    let fe = g.earlier_fits in let ke = front_shorter e in
-    let less = shorter n (left l) (omega (arith, f, k)) in
-    let less_e = shorter m (left e) (omega (arith, fe, ke)) in
-    let room = subst (λ x. HasAllRoom after x (left e')) (sym h) (subst (λ y. HasAllRoom after (drop n (left l)) y) (sym j) g.room) in
+moved : (done mid : Walk) (l e l' e' : Way) (n m : ℕ) (t : Option (List (List ℕ))) → 0 < n + m → Goes done l e n m mid → ArePast n m l e mid.touched l' e' t → IsMoved done l e (with_touched t mid) l' e'
+moved done mid l e l' e' n m t some g past =
+    let h = past.first in let j = past.second in
+    let room = subst (λ x. HasAllRoom mid x (left e')) (sym h) (subst (λ y. HasAllRoom mid (drop n (left l)) y) (sym j) g.room) in
     record {
-      is = g.is ∙ (λ i. expects after (sym h i) (sym j i));
+      is = g.is ∙ (λ i. expects mid (sym h i) (sym j i));
       room = record { within = room.within; later = room.later; earlier = room.earlier };
-      in_step = step;
-      smaller = omega (arith, less, less_e, ap length h, ap length j, s);
+      in_step = skipped_earlier past.between t mid.later.out mid.earlier.out l'.under e.under e'.under past.touched_second
+          (skipped_later mid.touched past.between mid.later.out mid.earlier.out l.under l'.under e.under past.touched_first g.in_step);
+      smaller = fewer_left n m l e l' e' mid.touched t some g.later_fits g.earlier_fits past;
     }
 
-pub moved_later : (done after : Walk) (l e l' : Way) (n : ℕ) (t : Option (List (List ℕ))) → 0 < n → Goes done l e n 0 after → left l' ≡ drop n (left l) → Touches after.touched l.under t l'.under → IsMoved done l e (with_touched t after) l' e
-moved_later done after l e l' n t s g h k =
-    moved done after l e l' e n 0 t (omega (arith, s)) g h refl (skipped_later after.touched t after.later.out after.earlier.out l.under l'.under e.under k g.in_step)
-
-pub moved_earlier : (done after : Walk) (l e e' : Way) (n : ℕ) (t : Option (List (List ℕ))) → 0 < n → Goes done l e 0 n after → left e' ≡ drop n (left e) → Touches after.touched e.under t e'.under → IsMoved done l e (with_touched t after) l e'
-moved_earlier done after l e e' n t s g h k =
-    moved done after l e l e' 0 n t (omega (arith, s)) g refl h (skipped_earlier after.touched t after.later.out after.earlier.out l.under e.under e'.under k g.in_step)
-
-pub moved_both : (done after : Walk) (l e l' e' : Way) (n : ℕ) (s t : Option (List (List ℕ))) → 0 < n → Goes done l e n n after → left l' ≡ drop n (left l) → Touches after.touched l.under s l'.under → left e' ≡ drop n (left e) → Touches s e.under t e'.under
-    → IsMoved done l e (with_touched t after) l' e'
-moved_both done after l e l' e' n s t p g h k j i =
-    moved done after l e l' e' n n t (omega (arith, p)) g h j
-    (skipped_earlier s t after.later.out after.earlier.out l'.under e.under e'.under i (skipped_later after.touched s after.later.out after.earlier.out l.under l'.under e.under k g.in_step))
+pub stepped : (p : Passage) (more : Bool) (done mid : Walk) (l e l' e' : Way) (t : Option (List (List ℕ))) → more ≡ goes_on p → IsStep p done l e mid → IsPassed p l e mid.touched l' e' t → IsStepped more done l e (with_touched t mid) l' e'
+stepped p more done mid l e l' e' t is h past = subst (λ b. IsStepped b done l e (with_touched t mid) l' e') (sym is) (by p h past)
+  where
+    by : (p : Passage) → IsStep p done l e mid → IsPassed p l e mid.touched l' e' t → IsStepped (goes_on p) done l e (with_touched t mid) l' e'
+    by End h past = (h.0, h.1, ap (λ x. with_touched x mid) past.2 ∙ h.2)
+    by (First n) h past = let some = h.0 in moved done mid l e l' e' n 0 t (omega (arith, some)) h.1 past
+    by (Second n) h past = let some = h.0 in moved done mid l e l' e' 0 n t (omega (arith, some)) h.1 past
+    by (Both n) h past = let some = h.0 in moved done mid l e l' e' n n t (omega (arith, some)) h.1 past
 
 -- ---- the end
 

@@ -20,8 +20,8 @@ use Rattle.op_transform.specs.Walks.{expects, IsWithin}
 use Rattle.op_transform.specs.declared.fault.TransformFault.{TransformFault}
 use Rattle.op_transform.specs.declared.fault.TransformFault.TheVariants.{CountTooLarge, Conflict, Memory}
 use Rattle.op_transform.specs.declared.pair.Pair.{Pair}
-use Rattle.op_transform.specs.declared.step.Progress.{Progress}
-use Rattle.op_transform.specs.declared.step.Progress.TheVariants.{End, Later, Earlier, Both}
+use Rattle.op_runs.specs.declared.passage.Passage.{Passage}
+use Rattle.op_runs.specs.declared.passage.Passage.TheVariants.{End, First, Second, Both}
 use Rattle.op_transform.specs.declared.walk.Walk.{Walk}
 
 -- ---- one step
@@ -44,10 +44,10 @@ pub record Goes (done : Walk) (l e : Way) (n m : ℕ) (after : Walk) : Type 0 wh
 abbrev pub IsAtEnd : Walk → Way → Way → Walk → Type 0
 IsAtEnd done l e after = (left l ≡ []) × (left e ≡ []) × (after ≡ done)
 
-abbrev pub IsStep : Progress → Walk → Way → Way → Walk → Type 0
+abbrev pub IsStep : Passage → Walk → Way → Way → Walk → Type 0
 IsStep End done l e after = IsAtEnd done l e after
-IsStep (Later n) done l e after = (0 < n) × Goes done l e n 0 after
-IsStep (Earlier n) done l e after = (0 < n) × Goes done l e 0 n after
+IsStep (First n) done l e after = (0 < n) × Goes done l e n 0 after
+IsStep (Second n) done l e after = (0 < n) × Goes done l e 0 n after
 IsStep (Both n) done l e after = (0 < n) × Goes done l e n n after
 
 pub record IsMoved (done : Walk) (l e : Way) (after : Walk) (l_after e_after : Way) : Type 0 where

@@ -1,5 +1,5 @@
 // One step of the walk: peek, meet, skip.
-ghost use Rattle.std.specs.Prelude.{◌≡◌, ◌<◌, min, length, map, MatchResult};
+ghost use Rattle.std.specs.Prelude.{◌≡◌, ◌<◌, [], length, map, MatchResult};
 ghost use Rattle.doc_op.specs.Actions.{insertion};
 ghost use Rattle.doc_op.specs.Cursors.{left};
 ghost use Rattle.doc_op.specs.Runs.{contents};
@@ -9,23 +9,11 @@ ghost use Rattle.op_transform.specs.Walks.{NoInsert};
 ghost use Rattle.op_transform.specs.Steps.{HasAllRoom, IsStep, IsStepped, IsBroken};
 
 use crate::TransformFault;
-use crate::taken::{Ahead, Taken, ahead_of};
+use crate::taken::Taken;
 use crate::walk::Walk;
 use doc_op::{ContentRun, Cursor};
+use op_runs::{Ahead, Passage, ahead_of};
 use std::alloc::Global;
-
-/// How many actions of the two operations are passed.
-#[derive(Clone, Copy)]
-pub(crate) enum Progress {
-    /// Both are at their end.
-    End,
-    /// So many of the later one.
-    Later(u64),
-    /// So many of the earlier one.
-    Earlier(u64),
-    /// So many of each.
-    Both(u64),
-}
 
 fn later_inserts(
     alloc: Global,
@@ -33,7 +21,7 @@ fn later_inserts(
     run: ContentRun<'_>,
     l: &Cursor<'_>,
     e: &Cursor<'_>,
-) -> Result<Progress, TransformFault>
+) -> Result<Passage, TransformFault>
     requires some { 0 < length (contents run) }
     requires ahead { map (insertion l.now.under) (contents run) ≡ l.now.front }
     requires room { HasAllRoom done.old (left l.now) (left e.now) }
@@ -43,7 +31,7 @@ fn later_inserts(
 {
     let changes = l.running().view(alloc)?;
     done.insert_later(alloc, run, &changes)?;
-    Ok(Progress::Later(run.len()))
+    Ok(Passage::First(run.len()))
 }
 
 fn earlier_inserts(
@@ -52,7 +40,7 @@ fn earlier_inserts(
     run: ContentRun<'_>,
     l: &Cursor<'_>,
     e: &Cursor<'_>,
-) -> Result<Progress, TransformFault>
+) -> Result<Passage, TransformFault>
     requires some { 0 < length (contents run) }
     requires ahead { map (insertion e.now.under) (contents run) ≡ e.now.front }
     requires behind { NoInsert (left l.now) }
@@ -63,7 +51,7 @@ fn earlier_inserts(
 {
     let changes = e.running().view(alloc)?;
     done.insert_earlier(alloc, run, &changes)?;
-    Ok(Progress::Earlier(run.len()))
+    Ok(Passage::Second(run.len()))
 }
 
 fn both_take<'a>(
@@ -73,7 +61,7 @@ fn both_take<'a>(
     l: &'a Cursor<'_>,
     y: Taken<'a>,
     e: &'a Cursor<'_>,
-) -> Result<Progress, TransformFault>
+) -> Result<Passage, TransformFault>
     requires fit_x { IsFitTaken x }
     requires fit_y { IsFitTaken y }
     requires ahead_x { taken_actions l.now.under x ≡ l.now.front }
@@ -84,7 +72,7 @@ fn both_take<'a>(
         (λ s. IsStep s done.old l.now e.now done.new)
         (λ f. IsBroken f done.old (left l.now) (left e.now)) }
 {
-    let count = smaller(x.len(), y.len());
+    let count = x.len().min(y.len());
     match done.meet(
         alloc,
         x.first(count),
@@ -92,15 +80,54 @@ fn both_take<'a>(
         y.first(count),
         e.running(),
     ) {
-        Ok(()) => Ok(Progress::Both(count)),
+        Ok(()) => Ok(Passage::Both(count)),
         Err(fault) => Err(fault),
     }
 }
 
-fn smaller(n: u64, m: u64) -> u64
-    ensures { result ≡ min n m }
+// The later operation takes items.
+fn past_taken<'a>(
+    alloc: Global,
+    done: &mut Walk,
+    x: Taken<'a>,
+    l: &'a Cursor<'_>,
+    e: &'a Cursor<'_>,
+) -> Result<Passage, TransformFault>
+    requires fit { IsFitTaken x }
+    requires ahead { taken_actions l.now.under x ≡ l.now.front }
+    requires room { HasAllRoom done.old (left l.now) (left e.now) }
+    requires in_step { IsInStep done.old l.now.under e.now.under }
+    ensures { MatchResult result
+        (λ s. IsStep s done.old l.now e.now done.new)
+        (λ f. IsBroken f done.old (left l.now) (left e.now)) }
 {
-    if n < m { n } else { m }
+    match ahead_of(e) {
+        Ahead::Inserts(run) => earlier_inserts(alloc, done, run, l, e),
+        Ahead::Keeps(kept) => both_take(alloc, done, x, l, Taken::Kept(kept), e),
+        Ahead::Deletes(run) => both_take(alloc, done, x, l, Taken::Deleted(run), e),
+        Ahead::Nothing => Err(TransformFault::Conflict(done.place)),
+    }
+}
+
+// The later operation is at its end.
+fn past_end(
+    alloc: Global,
+    done: &mut Walk,
+    l: &Cursor<'_>,
+    e: &Cursor<'_>,
+) -> Result<Passage, TransformFault>
+    requires end { left l.now ≡ [] }
+    requires room { HasAllRoom done.old (left l.now) (left e.now) }
+    ensures { MatchResult result
+        (λ s. IsStep s done.old l.now e.now done.new)
+        (λ f. IsBroken f done.old (left l.now) (left e.now)) }
+{
+    match ahead_of(e) {
+        Ahead::Inserts(run) => earlier_inserts(alloc, done, run, l, e),
+        Ahead::Keeps(_) => Err(TransformFault::Conflict(done.place)),
+        Ahead::Deletes(_) => Err(TransformFault::Conflict(done.place)),
+        Ahead::Nothing => Ok(Passage::End),
+    }
 }
 
 // Goes past what is ahead in both operations.
@@ -109,7 +136,7 @@ fn advance<'a>(
     done: &mut Walk,
     l: &'a Cursor<'_>,
     e: &'a Cursor<'_>,
-) -> Result<Progress, TransformFault>
+) -> Result<Passage, TransformFault>
     requires room { HasAllRoom done.old (left l.now) (left e.now) }
     requires in_step { IsInStep done.old l.now.under e.now.under }
     ensures { MatchResult result
@@ -117,17 +144,10 @@ fn advance<'a>(
         (λ f. IsBroken f done.old (left l.now) (left e.now)) }
 {
     match ahead_of(l) {
-        Ahead::Takes(x) => match ahead_of(e) {
-            Ahead::Inserts(run) => earlier_inserts(alloc, done, run, l, e),
-            Ahead::Takes(y) => both_take(alloc, done, x, l, y, e),
-            Ahead::Nothing => Err(TransformFault::Conflict(done.place)),
-        },
-        Ahead::Nothing => match ahead_of(e) {
-            Ahead::Inserts(run) => earlier_inserts(alloc, done, run, l, e),
-            Ahead::Takes(_) => Err(TransformFault::Conflict(done.place)),
-            Ahead::Nothing => Ok(Progress::End),
-        },
         Ahead::Inserts(run) => later_inserts(alloc, done, run, l, e),
+        Ahead::Keeps(kept) => past_taken(alloc, done, Taken::Kept(kept), l, e),
+        Ahead::Deletes(run) => past_taken(alloc, done, Taken::Deleted(run), l, e),
+        Ahead::Nothing => past_end(alloc, done, l, e),
     }
 }
 
@@ -144,24 +164,10 @@ pub(crate) fn step(
         (λ more. IsStepped more done.old l.old e.old done.new l.new e.new)
         (λ f. IsBroken f done.old (left l.old) (left e.old)) }
 {
-    let progress = match advance(alloc, done, l, e) {
-        Ok(progress) => progress,
+    let passage = match advance(alloc, done, l, e) {
+        Ok(passage) => passage,
         Err(fault) => return Err(fault),
     };
-    match progress {
-        Progress::End => Ok(false),
-        Progress::Later(count) => {
-            l.skip(alloc, count, &mut done.touched)?;
-            Ok(true)
-        }
-        Progress::Earlier(count) => {
-            e.skip(alloc, count, &mut done.touched)?;
-            Ok(true)
-        }
-        Progress::Both(count) => {
-            l.skip(alloc, count, &mut done.touched)?;
-            e.skip(alloc, count, &mut done.touched)?;
-            Ok(true)
-        }
-    }
+    let more = passage.pass(alloc, l, e, &mut done.touched)?;
+    Ok(more)
 }

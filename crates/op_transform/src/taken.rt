@@ -1,22 +1,10 @@
-// What the walk finds ahead in an operation.
+// Runs that take items.
 ghost use Rattle.std.specs.Prelude.{◌≡◌, ◌≤◌, ◌<◌, take};
 ghost use Rattle.doc_items.specs.Changes.{ChangeSet};
-ghost use Rattle.doc_op.specs.Cursors.{left};
-ghost use Rattle.op_transform.specs.Taken.{ahead_actions, taken_actions, taken_len, IsFitAhead, IsEndAhead, IsFitTaken};
+ghost use Rattle.op_transform.specs.Taken.{taken_actions, taken_len, IsFitTaken};
 
-use doc_op::{ContentRun, Cursor, Head};
+use doc_op::ContentRun;
 use op_runs::Kept;
-
-/// The run at which a cursor stands.
-#[derive(Clone, Copy)]
-pub(crate) enum Ahead<'a> {
-    /// Nothing is left.
-    Nothing,
-    /// The run is inserted.
-    Inserts(ContentRun<'a>),
-    /// The run takes items.
-    Takes(Taken<'a>),
-}
 
 /// A run that takes items.
 #[derive(Clone, Copy)]
@@ -25,24 +13,6 @@ pub(crate) enum Taken<'a> {
     Kept(Kept<'a>),
     /// They are deleted.
     Deleted(ContentRun<'a>),
-}
-
-/// What is ahead of a cursor.
-pub(crate) fn ahead_of<'a>(cursor: &'a Cursor<'_>) -> Ahead<'a>
-    ensures actions { ahead_actions cursor.now.under result ≡ cursor.now.front }
-    ensures fit { IsFitAhead result }
-    ensures end { IsEndAhead result (left cursor.now) }
-{
-    match cursor.head() {
-        Head::Keep(count) => Ahead::Takes(Taken::Kept(Kept { count, part: None })),
-        Head::Change(part) => Ahead::Takes(Taken::Kept(Kept {
-            count: 1,
-            part: Some(part),
-        })),
-        Head::Insert(run) => Ahead::Inserts(run),
-        Head::Delete(run) => Ahead::Takes(Taken::Deleted(run)),
-        Head::Nothing => Ahead::Nothing,
-    }
 }
 
 impl<'a> Taken<'a> {

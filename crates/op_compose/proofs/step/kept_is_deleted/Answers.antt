@@ -8,17 +8,17 @@ use Rattle.op_compose.proofs.step.kept_is_deleted.Goals as goal
 
 pub delete_kept-requires-clause-room : goal.delete_kept-requires-clause-room
 delete_kept-requires-clause-room c =
-    let x = first_kept c.args.f.now c.in_ok-w.w c.args.x c.first.result c.smaller-count.result (c.in_ok-w.ensures ∙ c.running.ensures) c.requires.ahead_x (omega (arith, c.smaller-count.ensures)) (c.first.ensures.actions c.in_ok-w.w) in
-    room_both c.args.done.now c.args.f.now (left c.args.s.now) _ c.smaller-count.result _ x c.first.ensures.count c.requires.room
+    let x = first_kept c.args.f.now c.in_ok-w.w c.args.x c.first.result c.min-count.result (c.in_ok-w.ensures ∙ c.running.ensures) c.requires.ahead_x (omega (arith, c.min-count.ensures)) (c.first.ensures.actions c.in_ok-w.w) in
+    room_both c.args.done.now c.args.f.now (left c.args.s.now) _ c.min-count.result _ x c.first.ensures.count c.requires.room
 
 pub returns-in-Ok : goal.returns-in-Ok
 returns-in-Ok c =
-    let x = first_kept c.args.f.now c.in_ok-w.w c.args.x c.first.result c.smaller-count.result (c.in_ok-w.ensures ∙ c.running.ensures) c.requires.ahead_x (omega (arith, c.smaller-count.ensures)) (c.first.ensures.actions c.in_ok-w.w) in
-    let y = first_run c.args.s.now deletion c.in_ok-u.u (contents c.args.run) (contents c.first-2.result) c.smaller-count.result (c.in_ok-u.ensures ∙ c.running-2.ensures) c.requires.ahead_y (omega (arith, c.smaller-count.ensures, c.len.ensures)) c.first-2.ensures in
-    (omega (arith, c.smaller-count.ensures, c.requires.fit.0, c.requires.some, c.len.ensures), goes_both c.args.done.now c.delete_kept.new.self c.args.f.now c.args.s.now _ _ c.smaller-count.result x y c.in-Ok.ensures.passed (same_growth c.args.done.now c.delete_kept.new.self c.smaller-count.result _ (omega (arith, c.first.ensures.count)) c.in-Ok.ensures.room) c.requires.room (any_key c.delete_kept.new.self c.args.f.now.under c.args.s.now.under c.in-Ok.ensures.touched))
+    let x = first_kept c.args.f.now c.in_ok-w.w c.args.x c.first.result c.min-count.result (c.in_ok-w.ensures ∙ c.running.ensures) c.requires.ahead_x (omega (arith, c.min-count.ensures)) (c.first.ensures.actions c.in_ok-w.w) in
+    let y = first_run c.args.s.now deletion c.in_ok-u.u (contents c.args.run) (contents c.first-2.result) c.min-count.result (c.in_ok-u.ensures ∙ c.running-2.ensures) c.requires.ahead_y (omega (arith, c.min-count.ensures, c.len.ensures)) c.first-2.ensures in
+    (omega (arith, c.min-count.ensures, c.requires.fit.0, c.requires.some, c.len.ensures), goes_both c.args.done.now c.delete_kept.new.self c.args.f.now c.args.s.now _ _ c.min-count.result x y c.in-Ok.ensures.passed (same_growth c.args.done.now c.delete_kept.new.self c.min-count.result _ (omega (arith, c.first.ensures.count)) c.in-Ok.ensures.room) c.requires.room (any_key c.delete_kept.new.self c.args.f.now.under c.args.s.now.under c.in-Ok.ensures.touched))
 
 pub returns : goal.returns
 returns c =
-    let x = first_kept c.args.f.now c.in_ok-w.w c.args.x c.first.result c.smaller-count.result (c.in_ok-w.ensures ∙ c.running.ensures) c.requires.ahead_x (omega (arith, c.smaller-count.ensures)) (c.first.ensures.actions c.in_ok-w.w) in
-    let y = first_run c.args.s.now deletion c.in_ok-u.u (contents c.args.run) (contents c.first-2.result) c.smaller-count.result (c.in_ok-u.ensures ∙ c.running-2.ensures) c.requires.ahead_y (omega (arith, c.smaller-count.ensures, c.len.ensures)) c.first-2.ensures in
+    let x = first_kept c.args.f.now c.in_ok-w.w c.args.x c.first.result c.min-count.result (c.in_ok-w.ensures ∙ c.running.ensures) c.requires.ahead_x (omega (arith, c.min-count.ensures)) (c.first.ensures.actions c.in_ok-w.w) in
+    let y = first_run c.args.s.now deletion c.in_ok-u.u (contents c.args.run) (contents c.first-2.result) c.min-count.result (c.in_ok-u.ensures ∙ c.running-2.ensures) c.requires.ahead_y (omega (arith, c.min-count.ensures, c.len.ensures)) c.first-2.ensures in
     unfit_both c.args.done.now c.args.f.now c.args.s.now _ _ _ c.in-Err.fault x y c.in-Err.ensures.passed

@@ -1,14 +1,14 @@
-// What the walk finds ahead in an operation.
+// What is ahead in an operation.
 ghost use Rattle.std.specs.Prelude.{◌≡◌};
 ghost use Rattle.doc_op.specs.Cursors.{left};
-ghost use Rattle.op_compose.specs.Ahead.{ahead_actions, IsFitAhead, IsLast};
+ghost use Rattle.op_runs.specs.Ahead.{ahead_actions, IsFitAhead, IsLast};
 
+use crate::Kept;
 use doc_op::{ContentRun, Cursor, Head};
-use op_runs::Kept;
 
 /// The run at which a cursor stands.
 #[derive(Clone, Copy)]
-pub(crate) enum Ahead<'a> {
+pub enum Ahead<'a> {
     /// Nothing is left.
     Nothing,
     /// The run is inserted.
@@ -19,8 +19,8 @@ pub(crate) enum Ahead<'a> {
     Keeps(Kept<'a>),
 }
 
-/// What a cursor stands at.
-pub(crate) fn ahead_of<'a>(cursor: &'a Cursor<'_>) -> Ahead<'a>
+/// What a cursor stands at; `Nothing` exactly where no action is left.
+pub fn ahead_of<'a>(cursor: &'a Cursor<'_>) -> Ahead<'a>
     ensures actions { ahead_actions cursor.now.under result ≡ cursor.now.front }
     ensures fit { IsFitAhead result }
     ensures end { IsLast result (left cursor.now) }

@@ -1,4 +1,4 @@
--- Runs as the walk finds them.
+-- Runs as a walk over an operation finds them.
 --     ahead_actions u a     the actions of what is ahead
 --     IsFitAhead a          the run isn't empty, and where attributes change it is one item, whose update has a key and ascends
 --     IsLast a acts         there are no actions, where nothing is ahead
@@ -7,8 +7,8 @@ use Rattle.doc_items.specs.Changes.{ChangeSet}
 use Rattle.doc_op.specs.Actions.{Action, insertion, deletion}
 use Rattle.doc_op.specs.Runs.{contents}
 use Rattle.op_runs.specs.Kept.{kept_actions, IsFitKept}
-use Rattle.op_compose.specs.declared.ahead.Ahead.{Ahead}
-use Rattle.op_compose.specs.declared.ahead.Ahead.TheVariants.{Nothing, Inserts, Deletes, Keeps}
+use Rattle.op_runs.specs.declared.ahead.Ahead.{Ahead}
+use Rattle.op_runs.specs.declared.ahead.Ahead.TheVariants.{Nothing, Inserts, Deletes, Keeps}
 
 abbrev pub ahead_actions : ChangeSet → Ahead → List Action
 ahead_actions u Nothing = []
