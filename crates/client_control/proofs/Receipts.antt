@@ -15,7 +15,8 @@ use Rattle.wavelet_op.specs.States.{State, run, first_invalid}
 use Rattle.wavelet_op.specs.declared.op.WaveletOp.{WaveletOp}
 use Rattle.wavelet_state.specs.Snapshots.{max_inserted}
 use Rattle.delta_history.specs.Points.{Point, acts_of, point_behind, next_point}
-use Rattle.delta_history.specs.Steps.{IsWithin}
+use Rattle.delta_history.specs.Steps.{IsWithin, IsStep}
+use Rattle.delta_history.specs.declared.step.Step.{Step}
 use Rattle.delta_history.proofs.Points.{and_then_is}
 use Rattle.follower_rules.specs.declared.received.Received.TheVariants.{OtherFlight, NotNext, Advanced}
 use Rattle.follower_rules.specs.Followers.{FollowerOf, inserted_all, flying, pending, screen, moved}
@@ -26,9 +27,8 @@ use Rattle.client_control.specs.declared.flight.InFlight.{InFlight}
 use Rattle.client_control.specs.declared.past.Passed.{Passed}
 use Rattle.client_control.specs.declared.receiving.Meeting.{Meeting}
 use Rattle.client_control.specs.declared.receiving.Meeting.TheVariants.{Other, Own, Clash}
-use Rattle.client_control.specs.declared.step.Step.{Step}
 use Rattle.client_control.specs.Parts.{Parts, parts, flight_of, follower_of, with_ops, IsKept}
-use Rattle.client_control.specs.Steps.{IsStep, IsOver, IsComparison, IsMeeting}
+use Rattle.client_control.specs.Steps.{IsOver, IsComparison, IsMeeting}
 use Rattle.client_control.proofs.Pending.{run_structured}
 use Rattle.std.proofs.lemmas.Bool.Decides.{nat_tests}
 use Rattle.std.proofs.lemmas.Bool.{and_from}
@@ -79,7 +79,7 @@ abbrev pub parts_after : Parts → Step → State → Option InFlight → List (
 parts_after p s t g q = parts p.name p.client.author p.client.client s.to s.inserted t g q p.next
 
 here_is : (p : Parts) (d : DeltaOf) (s : Step) (t : State) → IsStep p.here.at p.here.count d s → point_behind p.here d t ≡ record { at = s.to; state = t; count = s.inserted }
-here_is p d s t h = λ i. record { at = sym h.to i; state = t; count = sym h.inserted i }
+here_is p d s t h = ap (λ (z : Step). record { at = z.to; state = t; count = z.inserted }) (sym h.1)
 
 goes : (p : Parts) (d : DeltaOf) (t : State) → run p.here.state (acts_of d) ≡ Some t → next_point p.here d ≡ Some (point_behind p.here d t)
 goes p d t e = ap (option_map (point_behind p.here d)) e
@@ -95,7 +95,7 @@ other_over p d s t o h e k =
     let g = option_map flight_of (with_ops p.flight o.flight) in
     let es = map meanings o.queue.items in
     ap (advance_to f d (over f.flight f.queue (acts_of d))) (goes p d t e)
-    ∙ ap (advance_within f d (over f.flight f.queue (acts_of d)) q) (within_behind p.here d t h.within)
+    ∙ ap (advance_within f d (over f.flight f.queue (acts_of d)) q) (within_behind p.here d t h.0)
     ∙ ap (advance_with f d q) k.is
     ∙ ap (λ (z : Point). (Advanced, moved f z g es)) (here_is p d s t h)
 
@@ -110,7 +110,7 @@ other_sound : (p : Parts) (d : DeltaOf) (s : Step) (t : State) (o : Passed) → 
 other_sound p d s t o sound h e k =
     let f = follower_of p in
     let q : Point = point_behind p.here d t in
-    let m = passing_is f d q sound (goes p d t e) (within_behind p.here d t h.within) in
+    let m = passing_is f d q sound (goes p d t e) (within_behind p.here d t h.0) in
     let same : ((m.flight, m.queue), m.left) ≡ ((option_map flight_of (with_ops p.flight o.flight), map meanings o.queue.items), meanings o.left) = same_Some (sym m.over ∙ k.is) in
     let here = here_is p d s t h in
     record {
@@ -160,7 +160,7 @@ own_landing p d s t sound h e own = go p.flight refl own
     go (Some x) i o =
         let f = follower_of p in
         let q : Point = point_behind p.here d t in
-        let m = landing_is f d q (flight_of x) sound (goes p d t e) (within_behind p.here d t h.within) (ap (option_map flight_of) i) o in
+        let m = landing_is f d q (flight_of x) sound (goes p d t e) (within_behind p.here d t h.0) (ap (option_map flight_of) i) o in
         let here = here_is p d s t h in
         record {
           is = m.is ∙ ap (λ (z : Point). (Advanced, moved f z None f.queue)) here;

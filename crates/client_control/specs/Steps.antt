@@ -1,5 +1,4 @@
 -- The parts of a step.
---     IsStep at n d s         after a delta at this hashed version, where n items were inserted: the hashed version and the number
 --     IsPair ls es p          both lists past each other, in normal form; the earlier one structured
 --     AreStructured es        each entry's operations on documents are structured
 --     IsRebased es acts p     the entries past the acts, and what is left of these
@@ -8,16 +7,14 @@
 --     IsTried s acts full short e   why an edit is refused at the screen s
 --     IsComparison g d m      what a delta with the flight's id is to it
 --     IsMeeting f d m         what a delta at the follower's hashed version is to the flight
-use Rattle.std.specs.Prelude.{◌≡◌, ◌≢◌, ◌+◌, ◌++◌, ℕ, Bool, true, false, List, [], map, Option, Some, None}
+use Rattle.std.specs.Prelude.{◌≡◌, ◌≢◌, ◌++◌, Bool, true, false, List, [], map, Option, Some, None}
 use Rattle.std.specs.List.{All}
 use Rattle.std.specs.Option.{option_map, option_to_list}
-use Rattle.wave_base.specs.Versions.{VersionAt}
-use Rattle.wavelet_op.specs.Acts.{inserted, meanings, AreNormal, AreStructuredActs}
+use Rattle.wavelet_op.specs.Acts.{meanings, AreNormal, AreStructuredActs}
 use Rattle.wavelet_op.specs.Deltas.{DeltaOf}
 use Rattle.wavelet_op.specs.declared.op.WaveletOp.{WaveletOp}
 use Rattle.wavelet_op.specs.declared.pair.OpsPair.{OpsPair}
-use Rattle.delta_history.specs.Points.{acts_of, version_after}
-use Rattle.delta_history.specs.Steps.{IsWithin}
+use Rattle.delta_history.specs.Points.{acts_of}
 use Rattle.delta_history.specs.Verdicts.{ops_of}
 use Rattle.wavelet_op.specs.Acts.{Act}
 use Rattle.wavelet_op.specs.States.{State, run, first_invalid}
@@ -27,17 +24,11 @@ use Rattle.follower_rules.specs.declared.received.Received.TheVariants.{OtherFli
 use Rattle.follower_rules.specs.Followers.{Flight, FollowerOf, flying}
 use Rattle.follower_rules.specs.Receiving.{past, rebase, over, is_own, advance, receive_other, receive_flight}
 use Rattle.client_control.specs.declared.flight.InFlight.{InFlight}
-use Rattle.client_control.specs.declared.step.Step.{Step}
 use Rattle.client_control.specs.declared.past.Rebased.{Rebased}
 use Rattle.client_control.specs.declared.past.Passed.{Passed}
 use Rattle.client_control.specs.declared.receiving.Meeting.{Meeting}
 use Rattle.client_control.specs.declared.receiving.Meeting.TheVariants.{Other, Own, Clash}
 use Rattle.client_control.specs.Parts.{flight_of, with_ops, IsNormalFlight}
-
-pub record IsStep (at : VersionAt) (n : ℕ) (d : DeltaOf) (s : Step) : Type 0 where
-  pub within : IsWithin at n d
-  pub to : s.to ≡ version_after at d
-  pub inserted : s.inserted ≡ n + inserted (acts_of d)
 
 pub record IsPair (later earlier : List WaveletOp) (p : OpsPair) : Type 0 where
   pub is : past (meanings later) (meanings earlier) ≡ Some (meanings p.later, meanings p.earlier)

@@ -12,8 +12,8 @@ use crate::{Follower, FollowerFault, SUBMIT_BYTES};
 use doc_items::Memory;
 use std::alloc::Global;
 use wavelet_codec::ops_len;
-use wavelet_op::{Ops, WaveletFault};
-use wavelet_state::{MAX_INSERTED, WaveletState, apply_delta};
+use wavelet_op::Ops;
+use wavelet_state::{MAX_INSERTED, WaveletState, try_delta};
 
 impl Follower {
     // The screen, which isn't kept any more.
@@ -140,12 +140,8 @@ fn applied(alloc: Global, state: &mut WaveletState, ops: &Ops) -> Result<(), Fol
     ensures refused { IfErr result (λ e. IsInvalid state.old (meanings ops.now) e) }
     ensures same { OnErr result (state.new ≡ state.old) }
 {
-    match apply_delta(alloc, state, ops) {
-        Ok(()) => Ok(()),
-        Err(WaveletFault::OpInvalid(index)) => Err(FollowerFault::OpInvalid(index)),
-        Err(WaveletFault::CountTooLarge) => unreachable!(),
-        Err(WaveletFault::Conflict(_)) => unreachable!(),
-        Err(WaveletFault::DontFit(_)) => unreachable!(),
-        Err(WaveletFault::Memory) => Err(FollowerFault::Memory),
+    match try_delta(alloc, state, ops)? {
+        None => Ok(()),
+        Some(index) => Err(FollowerFault::OpInvalid(index)),
     }
 }

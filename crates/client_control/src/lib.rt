@@ -11,7 +11,6 @@ mod joining;
 mod past;
 mod receiving;
 mod replay;
-mod step;
 mod submitting;
 
 pub use follower::Follower;

@@ -13,12 +13,12 @@ use crate::bytes::bytes;
 use crate::counts::inserted_all;
 use crate::flight::InFlight;
 use crate::past::{Passed, pass_over};
-use crate::step::step_after;
 use crate::{Follower, Received};
+use delta_history::step_after;
 use doc_items::Memory;
-use std::alloc::{AllocError, Global};
-use wavelet_op::{AppliedDelta, Ops, WaveletFault};
-use wavelet_state::{WaveletState, apply_delta};
+use std::alloc::Global;
+use wavelet_op::{AppliedDelta, Ops};
+use wavelet_state::{WaveletState, try_delta};
 
 // What a delta that starts where the follower is, is to its flight.
 #[derive(Drop)]
@@ -95,15 +95,11 @@ impl Follower {
         ensures { IfOk result (λ answer. (answer, follower_of self.now) ≡ advance (follower_of self.now) delta.now None) }
     {
         let mut trial = self.state.copy(alloc)?;
-        match apply_delta(alloc, &mut trial, &delta.ops) {
-            Ok(()) => Ok(Received::NotNext {
+        match try_delta(alloc, &mut trial, &delta.ops)? {
+            None => Ok(Received::NotNext {
                 index: delta.ops.len() as u32,
             }),
-            Err(WaveletFault::OpInvalid(index)) => Ok(Received::NotNext { index }),
-            Err(WaveletFault::CountTooLarge) => unreachable!(),
-            Err(WaveletFault::Conflict(_)) => unreachable!(),
-            Err(WaveletFault::DontFit(_)) => unreachable!(),
-            Err(WaveletFault::Memory) => Err(AllocError),
+            Some(index) => Ok(Received::NotNext { index }),
         }
     }
 
@@ -123,19 +119,15 @@ impl Follower {
         let Some(step) = step_after(self.at, self.count, delta, spelled) else {
             return self.refuse(alloc, delta);
         };
-        match apply_delta(alloc, &mut self.state, &delta.ops) {
-            Ok(()) => {
+        match try_delta(alloc, &mut self.state, &delta.ops)? {
+            None => {
                 self.at = step.to;
                 self.count = step.inserted;
                 self.held -= delta.ops.inserted();
                 self.flight = None;
                 Ok(Received::Advanced)
             }
-            Err(WaveletFault::OpInvalid(index)) => Ok(Received::NotNext { index }),
-            Err(WaveletFault::CountTooLarge) => unreachable!(),
-            Err(WaveletFault::Conflict(_)) => unreachable!(),
-            Err(WaveletFault::DontFit(_)) => unreachable!(),
-            Err(WaveletFault::Memory) => Err(AllocError),
+            Some(index) => Ok(Received::NotNext { index }),
         }
     }
 
@@ -168,8 +160,8 @@ impl Follower {
         let Some(passed) = self.pass(alloc, delta)? else {
             return self.refuse(alloc, delta);
         };
-        match apply_delta(alloc, &mut self.state, &delta.ops) {
-            Ok(()) => {
+        match try_delta(alloc, &mut self.state, &delta.ops)? {
+            None => {
                 self.at = step.to;
                 self.count = step.inserted;
                 self.held = inserted_all(&passed.flight, passed.queue.as_slice());
@@ -178,11 +170,7 @@ impl Follower {
                 self.queue = passed.queue;
                 Ok(Received::Advanced)
             }
-            Err(WaveletFault::OpInvalid(index)) => Ok(Received::NotNext { index }),
-            Err(WaveletFault::CountTooLarge) => unreachable!(),
-            Err(WaveletFault::Conflict(_)) => unreachable!(),
-            Err(WaveletFault::DontFit(_)) => unreachable!(),
-            Err(WaveletFault::Memory) => Err(AllocError),
+            Some(index) => Ok(Received::NotNext { index }),
         }
     }
 }
@@ -235,8 +223,9 @@ fn moved(alloc: Global, shown: Option<WaveletState>, ops: &Ops) -> Option<Wavele
         return None;
     };
     let mut shown = shown;
-    match apply_delta(alloc, &mut shown, ops) {
-        Ok(()) => Some(shown),
+    match try_delta(alloc, &mut shown, ops) {
+        Ok(None) => Some(shown),
+        Ok(Some(_)) => None,
         Err(_) => None,
     }
 }

@@ -7,24 +7,9 @@ ghost use Rattle.client_control.specs.Parts.{ops_flying};
 
 use crate::flight::InFlight;
 use doc_items::Memory;
-use std::alloc::{AllocError, Global};
-use wavelet_op::{Ops, WaveletFault};
-use wavelet_state::{WaveletState, apply_delta};
-
-// The state is after operations, which are valid there.
-fn run(alloc: Global, state: &mut WaveletState, ops: &Ops) -> Result<(), Memory>
-    requires { run state.old (meanings ops.now) ≢ None }
-    ensures { OnOk result (run state.old (meanings ops.now) ≡ Some state.new) }
-{
-    match apply_delta(alloc, state, ops) {
-        Ok(()) => Ok(()),
-        Err(WaveletFault::OpInvalid(_)) => unreachable!(),
-        Err(WaveletFault::CountTooLarge) => unreachable!(),
-        Err(WaveletFault::Conflict(_)) => unreachable!(),
-        Err(WaveletFault::DontFit(_)) => unreachable!(),
-        Err(WaveletFault::Memory) => Err(AllocError),
-    }
-}
+use std::alloc::Global;
+use wavelet_op::Ops;
+use wavelet_state::{WaveletState, apply_valid};
 
 /// The state after entries in turn, which are valid there.
 pub(crate) fn run_all(
@@ -37,7 +22,7 @@ pub(crate) fn run_all(
 {
     let mut state = state;
     for ops in queue {
-        run(alloc, &mut state, ops)?;
+        apply_valid(alloc, &mut state, ops)?;
     }
     Ok(state)
 }
@@ -55,6 +40,6 @@ pub(crate) fn run_flight(
         return Ok(state);
     };
     let mut state = state;
-    run(alloc, &mut state, &flight.ops)?;
+    apply_valid(alloc, &mut state, &flight.ops)?;
     Ok(state)
 }

@@ -2,7 +2,7 @@
 --     AreAscending names        names in byte order, none of them twice
 --     kept_in copy i            what a copy keeps for an id, where there is a copy
 --     IsKeptOutcome copy i v    where the copy has a delta of the id, its acknowledgement is the verdict that is known
-use Rattle.std.specs.Prelude.{◌≡◌, ℕ, List, [], ◌∷◌, Option, Some, None}
+use Rattle.std.specs.Prelude.{◌≡◌, List, [], ◌∷◌, Option, Some, None}
 use Rattle.std.specs.Cmp.Lexicographic.{slice_cmp}
 use Rattle.std.specs.Ordering.{nat_cmp}
 use Rattle.std.specs.declared.cmp.Ordering.TheVariants.{Less}

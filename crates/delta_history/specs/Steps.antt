@@ -1,6 +1,7 @@
 -- What is asked of the next delta of a history, its state apart.
 --     IsWithin at n d         after a delta at this hashed version, where n items were inserted, the three bounds hold
 --     step_after at n d      the hashed version and the number of items after it
+--     IsStep at n d s         the bounds hold, and s is what the delta leads to
 --     IsWritten at n d s t    the bounds hold, s is what the delta leads to, and t are the bytes that it has
 --     IsFitting h d           the delta starts at the head, its id is new, and the bounds hold
 --     IsUnfit h d e           why it doesn't fit
@@ -25,6 +26,9 @@ pub record IsWithin (at : VersionAt) (n : ℕ) (d : DeltaOf) : Type 0 where
 
 abbrev pub step_after : VersionAt → ℕ → DeltaOf → Step
 step_after at n d = record { to = version_after at d; inserted = n + inserted (acts_of d) }
+
+abbrev pub IsStep : VersionAt → ℕ → DeltaOf → Step → Type 0
+IsStep at n d s = IsWithin at n d × (s ≡ step_after at n d)
 
 pub record IsWritten (at : VersionAt) (n : ℕ) (d : DeltaOf) (s : Step) (text : List ℕ) : Type 0 where
   pub within : IsWithin at n d

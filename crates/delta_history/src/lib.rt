@@ -21,4 +21,5 @@ pub use history::{History, Prepared};
 pub use kept::Kept;
 pub use laws::{points_hold, verdicts_hold};
 pub use places::started_below;
-pub use step::MAX_DELTA;
+pub use states::lead_on;
+pub use step::{MAX_DELTA, Step, step_after};

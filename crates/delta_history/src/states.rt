@@ -1,27 +1,20 @@
 // States after deltas that are known to be valid.
-ghost use Rattle.std.specs.Prelude.{◌≡◌, Some, IsSome, IfOk, OnOk};
+ghost use Rattle.std.specs.Prelude.{◌≡◌, Some, IsSome, IfOk, OnOk, OnErr};
 ghost use Rattle.wavelet_op.specs.States.{empty_state, run};
 ghost use Rattle.delta_history.specs.Points.{acts_of, run_all};
 
 use doc_items::Memory;
-use std::alloc::{AllocError, Global};
-use wavelet_op::{AppliedDelta, WaveletFault};
-use wavelet_state::{WaveletState, apply_delta};
+use std::alloc::Global;
+use wavelet_op::AppliedDelta;
+use wavelet_state::{WaveletState, apply_valid};
 
-/// The delta, which is valid at the state, is applied to it.
-pub(crate) fn lead_on(
-    alloc: Global,
-    state: &mut WaveletState,
-    delta: &AppliedDelta,
-) -> Result<(), Memory>
+/// Applies a delta that is valid at the state. After want of memory, the only error, the state is as it was.
+pub fn lead_on(alloc: Global, state: &mut WaveletState, delta: &AppliedDelta) -> Result<(), Memory>
     requires { IsSome (run state.old (acts_of delta.now)) }
-    ensures { OnOk result (run state.old (acts_of delta.now) ≡ Some state.new) }
+    ensures ok { OnOk result (run state.old (acts_of delta.now) ≡ Some state.new) }
+    ensures kept { OnErr result (state.new ≡ state.old) }
 {
-    match apply_delta(alloc, state, &delta.ops) {
-        Ok(()) => Ok(()),
-        Err(WaveletFault::Memory) => Err(AllocError),
-        Err(_) => unreachable!(),
-    }
+    apply_valid(alloc, state, &delta.ops)
 }
 
 /// The state after the deltas, which are valid in turn from the empty state on.

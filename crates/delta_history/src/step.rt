@@ -4,7 +4,7 @@ ghost use Rattle.wavelet_codec.specs.Spelling.{delta_bytes, IsDelta};
 ghost use Rattle.delta_history.specs.Histories.{head_of};
 ghost use Rattle.delta_history.specs.Legal.{has_id, max_delta};
 ghost use Rattle.wavelet_state.specs.Snapshots.{max_inserted};
-ghost use Rattle.delta_history.specs.Steps.{IsWithin, IsWritten, IsFitting, IsUnfit, step_after};
+ghost use Rattle.delta_history.specs.Steps.{IsWithin, IsWritten, IsFitting, IsStep, IsUnfit, step_after};
 
 use crate::HistoryFault;
 use crate::log::Log;
@@ -19,10 +19,12 @@ use wavelet_state::MAX_INSERTED;
 /// The most bytes of a delta.
 pub const MAX_DELTA: u64 = 1 << 20;
 
-/// What a delta leads to: the hashed version after it, and how many items are inserted up to there.
+/// What a delta leads to, its state apart.
 #[derive(Clone, Copy, Drop)]
-pub(crate) struct Step {
+pub struct Step {
+    /// The hashed version after it.
     pub to: HashedVersion,
+    /// How many items are inserted up to there.
     pub inserted: u64,
 }
 
@@ -56,12 +58,12 @@ fn bytes(alloc: Global, delta: &AppliedDelta) -> Result<Option<Vec<u8>>, Memory>
     Ok(Some(bytes))
 }
 
-// What a delta of these bytes leads to from a hashed version, where so many items were inserted; None where a bound is broken.
-fn step_after(at: HashedVersion, count: u64, delta: &AppliedDelta, bytes: &[u8]) -> Option<Step>
+/// What a delta of these bytes leads to from a hashed version, where so many items were inserted; None where a bound is broken: on the
+/// version, the items or the bytes.
+pub fn step_after(at: HashedVersion, count: u64, delta: &AppliedDelta, bytes: &[u8]) -> Option<Step>
     requires count { count ≤ max_inserted }
     requires bytes { bytes.now ≡ delta_bytes delta.now }
-    ensures { MatchOption result (¬ (IsWithin at count delta.now))
-        (λ s. IsWithin at count delta.now × (s ≡ step_after at count delta.now)) }
+    ensures { MatchOption result (¬ (IsWithin at count delta.now)) (IsStep at count delta.now) }
 {
     let version = at.version + delta.ops.len();
     let inserted = count + delta.ops.inserted();

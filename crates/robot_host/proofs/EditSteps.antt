@@ -7,7 +7,7 @@
 --     answered_alike       over an equal history
 --     answered_round       after a round, of whose edits it is so
 --     answered_all         where nothing is left
-use Rattle.std.proofs.Common.{◌≡◌, ◌≢◌, ◌⊎◌, inl, inr, ℕ, zero, suc, arith, Contains, Bool, true, false, cond, List, [], ◌∷◌, ◌++◌, length, map, take, slice_get, ◌==◌, Option, Some, None, IfSome, refl, sym, ap, subst, ◌∙◌, append_assoc, append-nil, true≢false}
+use Rattle.std.proofs.Common.{◌≡◌, ◌≢◌, ◌⊎◌, inl, inr, ℕ, zero, suc, arith, Contains, Bool, true, false, cond, List, [], ◌∷◌, ◌++◌, map, take, ◌==◌, Option, Some, None, IfSome, refl, sym, ap, subst, ◌∙◌, append_assoc, append-nil, true≢false}
 use Rattle.std.specs.List.{filter, AllByRecursion}
 use Rattle.std.specs.Option.{option_map_or}
 use Rattle.std.proofs.lemmas.Bool.{eqb-true}
@@ -22,11 +22,11 @@ use Rattle.delta_history.specs.Points.{Point, start, next_point}
 use Rattle.robot_host.specs.declared.edit.RobotEdit.{RobotEdit}
 use Rattle.robot_host.specs.Calls.{Call}
 use Rattle.robot_host.specs.Edits.{calls_in, WasAnswered, HasAnswered, AreAnswered, HaveAnsweredAll}
-use Rattle.robot_host.specs.Hosts.{HostOf, kept, IsNew, MayTurn, HasTurned, AreOthersKept, IsSettled, AreFewer}
+use Rattle.robot_host.specs.Hosts.{HostOf, kept, IsNew, MayTurn, IsSettled, AreFewer}
 use Rattle.robot_host.specs.Reactions.{Answered, edit_of, edits_of, call_of, with_calls}
 use Rattle.robot_host.specs.Robots.{RobotOf, addresses}
 use Rattle.robot_host.specs.Rounds.{IsTurn, IsRound}
-use Rattle.robot_host.specs.Turns.{is_there, is_of_there, of_robot, IsTurnOf}
+use Rattle.robot_host.specs.Turns.{is_there, is_of_there, of_robot}
 use Rattle.robot_host.specs.Views.{Seen, seen_from, is_shown, view}
 use Rattle.robot_host.proofs.HostTurns.{was_there, stays_there, addresses_stay}
 use Rattle.robot_host.proofs.MayTurns.{same_view}

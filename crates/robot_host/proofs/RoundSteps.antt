@@ -18,7 +18,7 @@
 --     cut_none, round_cut_ends, round_cut_on      so with one that ends for want of memory
 use Rattle.std.proofs.Common.{◌≡◌, ◌≢◌, ◌⊎◌, inl, inr, ℕ, zero, suc, arith, Bool, true, false, cond, List, [], ◌∷◌, ◌++◌, length, map, slice_get, slice_set, is_some, Option, Some, None, refl, sym, ap, subst, ◌∙◌, append-nil, true≢false}
 use Rattle.std.specs.List.{filter}
-use Rattle.std.specs.Option.{option_map, option_map_or}
+use Rattle.std.specs.Option.{option_map_or}
 use Rattle.std.proofs.lemmas.List.Elements.{filter-append}
 use Rattle.std.proofs.lemmas.Option.{slice_get_within}
 use Rattle.doc_items.specs.Maps.{Key, same_text}
@@ -27,11 +27,11 @@ use Rattle.wavelet_op.proofs.Maps.{same_text_is, same_text_itself}
 use Rattle.delta_history.specs.Histories.{HistoryOf}
 use Rattle.robot_host.specs.declared.edit.RobotEdit.{RobotEdit}
 use Rattle.robot_host.specs.Calls.{Call}
-use Rattle.robot_host.specs.Hosts.{HostOf, kept, MayTurn, HasTurnedAs, HasTurned, AreOthersKept, IsSettled, IsWithout, without, AreFewer}
+use Rattle.robot_host.specs.Hosts.{HostOf, kept, MayTurn, HasTurned, AreOthersKept, IsSettled, IsWithout, without, AreFewer}
 use Rattle.robot_host.specs.Laws.{RefusedMayTurn}
 use Rattle.robot_host.specs.Reactions.{Answered, call_of, with_calls}
 use Rattle.robot_host.specs.Robots.{RobotOf, addresses}
-use Rattle.robot_host.specs.Rounds.{IsTurn, IsTurnCut, IsRound, IsRoundCut, EndsRound, calls_for, IsUntouched}
+use Rattle.robot_host.specs.Rounds.{IsTurn, IsTurnCut, IsRound, IsRoundCut, calls_for, IsUntouched}
 use Rattle.robot_host.specs.Showing.{dropped}
 use Rattle.robot_host.specs.Turns.{is_there, is_of_there, IsTurnOf, IsShown}
 use Rattle.robot_host.proofs.AllTurns.{set_here, set_apart, by_number}
@@ -39,7 +39,7 @@ use Rattle.robot_host.proofs.Hosting.{kept_still}
 use Rattle.robot_host.proofs.Table.{there_at}
 use Rattle.robot_host.proofs.HostTurns.{was_there, stays_there, there_before}
 use Rattle.robot_host.proofs.Turning.{none_turned}
-use Rattle.robot_host.proofs.MayTurns.{longer_may_turn, others_may_turn}
+use Rattle.robot_host.proofs.MayTurns.{others_may_turn}
 
 -- ---- equal histories
 

@@ -5,11 +5,11 @@ ghost use Rattle.delta_history.specs.Points.{acts_of, run_all};
 ghost use Rattle.state_cache.specs.States.{state_after};
 ghost use Rattle.robot_host.specs.Walks.{IsReached, IsThere};
 
-use delta_history::History;
+use delta_history::{History, lead_on};
 use doc_items::Memory;
-use std::alloc::{AllocError, Global};
-use wavelet_op::{AppliedDelta, WaveletFault};
-use wavelet_state::{WaveletState, apply_delta};
+use std::alloc::Global;
+use wavelet_op::AppliedDelta;
+use wavelet_state::WaveletState;
 
 /// A walk over the deltas of a history: how many it went over, and the state after them.
 pub(crate) struct Walk {
@@ -23,19 +23,6 @@ impl Drop for Walk {
             place: _place,
             state: _state,
         } = self;
-    }
-}
-
-// The state is after the delta, which is valid.
-fn lead_on(alloc: Global, state: &mut WaveletState, delta: &AppliedDelta) -> Result<(), Memory>
-    requires { IsSome (run state.old (acts_of delta.now)) }
-    ensures ok { OnOk result (run state.old (acts_of delta.now) ≡ Some state.new) }
-    ensures same { OnErr result (state.new ≡ state.old) }
-{
-    match apply_delta(alloc, state, &delta.ops) {
-        Ok(()) => Ok(()),
-        Err(WaveletFault::Memory) => Err(AllocError),
-        Err(_) => unreachable!(),
     }
 }
 

@@ -6,12 +6,13 @@ ghost use Rattle.delta_history.specs.Points.{run_all};
 ghost use Rattle.state_cache.specs.States.{state_after, AreKept, IsCacheOf, IsBegun};
 
 use crate::Steps;
+use delta_history::lead_on;
 use doc_items::Memory;
-use std::alloc::{AllocError, Global};
+use std::alloc::Global;
 use std::marker::Model;
 use std::sync::ledger::Ledger;
-use wavelet_op::{AppliedDelta, WaveletFault};
-use wavelet_state::{PackedState, WaveletState, apply_delta};
+use wavelet_op::AppliedDelta;
+use wavelet_state::{PackedState, WaveletState};
 
 // How many deltas there are from one kept state to the next.
 const INTERVAL: usize = 64;
@@ -132,25 +133,13 @@ impl StateCache {
     }
 }
 
-// The state is after the delta, which is valid.
-fn apply_one(alloc: Global, state: &mut WaveletState, delta: &AppliedDelta) -> Result<(), Memory>
-    requires { IsSome (run state.old (meanings delta.now.ops)) }
-    ensures { OnOk result (run state.old (meanings delta.now.ops) ≡ Some state.new) }
-{
-    match apply_delta(alloc, state, &delta.ops) {
-        Ok(()) => Ok(()),
-        Err(WaveletFault::Memory) => Err(AllocError),
-        Err(_) => unreachable!(),
-    }
-}
-
 // The state is after the deltas, which are valid in turn.
 fn apply_all(alloc: Global, state: &mut WaveletState, deltas: &[AppliedDelta]) -> Result<(), Memory>
     requires { IsSome (run_all state.old deltas.now) }
     ensures { OnOk result (run_all state.old deltas.now ≡ Some state.new) }
 {
     for delta in deltas {
-        apply_one(alloc, state, delta)?;
+        lead_on(alloc, state, delta)?;
     }
     Ok(())
 }
@@ -168,7 +157,7 @@ fn apply_counted<L: Ledger>(
 {
     for delta in deltas {
         steps.tick();
-        apply_one(alloc, state, delta)?;
+        lead_on(alloc, state, delta)?;
     }
     Ok(())
 }

@@ -10,10 +10,10 @@ ghost use Rattle.undo_control.specs.Parts.{chain, chain_of, IsPast, IsRefusedCha
 
 use client_control::rebase;
 use doc_items::Memory;
-use std::alloc::{AllocError, Global};
+use std::alloc::Global;
 use std::marker::Model;
 use wavelet_op::{Ops, WaveletFault};
-use wavelet_state::{WaveletState, apply_delta, apply_inverting};
+use wavelet_state::{WaveletState, apply_delta, apply_inverting, apply_valid};
 
 // The most edits that can be taken back.
 const MAX_ENTRIES: usize = 100;
@@ -134,14 +134,7 @@ impl UndoChain {
         let Some(first) = self.entries.as_slice().first() else {
             unreachable!()
         };
-        match apply_delta(alloc, &mut self.state, first) {
-            Ok(()) => {}
-            Err(WaveletFault::OpInvalid(_)) => unreachable!(),
-            Err(WaveletFault::CountTooLarge) => unreachable!(),
-            Err(WaveletFault::Conflict(_)) => unreachable!(),
-            Err(WaveletFault::DontFit(_)) => unreachable!(),
-            Err(WaveletFault::Memory) => return Err(AllocError),
-        }
+        apply_valid(alloc, &mut self.state, first)?;
         let _done = self.entries.remove(0);
         Ok(())
     }

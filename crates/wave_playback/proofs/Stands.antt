@@ -8,7 +8,7 @@
 --     back_at, kept_more   a delta back: its inverse leads to the state before it; one more that is kept
 --     at_the_start         where a playback begins
 --     IsOn, IsOff, IsSought     what a move answers, and where the playback is then
-use Rattle.std.proofs.Common.{◌≡◌, ℕ, zero, suc, ◌+◌, ◌-◌, ◌<◌, ◌≤◌, Bool, true, false, cond, ◌==◌, IsFalse, List, [], ◌∷◌, ◌++◌, length, take, get_or, slice_get, Option, Some, None, IsSome, is_some, refl, sym, ap, subst, ◌∙◌, arith, le_refl, true≢false, IfSome, option_and_then}
+use Rattle.std.proofs.Common.{◌≡◌, ◌≢◌, ℕ, zero, suc, ◌+◌, ◌-◌, ◌<◌, ◌≤◌, Bool, true, false, cond, ◌==◌, IsFalse, List, [], ◌∷◌, ◌++◌, length, take, get_or, slice_get, Option, Some, None, IsSome, is_some, refl, sym, ap, subst, ◌∙◌, arith, le_refl, true≢false, IfSome, option_and_then}
 use Rattle.std.specs.Option.{option_map}
 use Rattle.std.proofs.lemmas.Bool.Decides.{Decides-eqb}
 use Rattle.std.proofs.lemmas.List.{take_all}
@@ -17,7 +17,7 @@ use Rattle.std.proofs.Math.Seq.{take-suc}
 use Rattle.doc_op.proofs.Applying.{no_value, same_Some}
 use Rattle.wave_base.specs.Versions.{VersionAt}
 use Rattle.wavelet_op.specs.Acts.{meanings}
-use Rattle.wavelet_op.specs.Deltas.{DeltaOf}
+use Rattle.wavelet_op.specs.Deltas.{DeltaOf, is_count}
 use Rattle.wavelet_op.specs.States.{State, empty_state, run}
 use Rattle.wavelet_op.specs.declared.op.WaveletOp.{WaveletOp}
 use Rattle.delta_history.specs.Histories.{HistoryOf, head_of}
@@ -163,6 +163,17 @@ is_back ds k d (Some ops) s t e at goes b = λ x y ex ey.
     let same_s : s ≡ x = same_Some (sym e ∙ ex) in
     let same_t : t ≡ y = same_Some (sym (next_state ds k s d e at ∙ goes) ∙ ey) in
     subst (λ z. run z (meanings ops) ≡ Some x) same_t (subst (λ z. run t (meanings ops) ≡ Some z) same_s b)
+
+-- what a delta's inverse is as operations of a delta
+pub as_ops : (b : List WaveletOp) (o : Option (List WaveletOp)) (s t : State) → o ≡ cond (is_count (length b)) (Some b) None → run t (meanings b) ≡ Some s → IfSome o (λ ops. run t (meanings ops) ≡ Some s)
+as_ops b o s t is h = subst (λ x. IfSome x (λ ops. run t (meanings ops) ≡ Some s)) (sym is) (go (is_count (length b)))
+  where
+    go : (c : Bool) → IfSome (cond c (Some b) None) (λ ops. run t (meanings ops) ≡ Some s)
+    go true = h
+    go false = tt
+
+pub not_none : (o : Option State) → IsSome o → o ≢ None
+not_none o some none = true≢false (sym some ∙ ap is_some none)
 
 last_of_more : {A : Type 0} (xs : List A) (x y : A) (k : ℕ) (P : ℕ → A → Type 0) → ((j : ℕ) (z : A) → slice_get xs j ≡ Some z → P j z) → P (length xs) x → slice_get (xs ++ x ∷ []) k ≡ Some y → P k y
 last_of_more [] x y zero P h l e = subst (P 0) (same_Some e) l

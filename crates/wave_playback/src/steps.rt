@@ -7,46 +7,15 @@ ghost use Rattle.state_cache.specs.States.{state_after};
 ghost use Rattle.wave_playback.specs.Places.{AreBacks};
 
 use crate::places::version_at;
-use delta_history::History;
+use delta_history::{History, lead_on};
 use doc_items::Memory;
-use std::alloc::{AllocError, Global};
-use wavelet_op::{Ops, WaveletFault};
-use wavelet_state::{WaveletState, apply_delta, apply_inverting};
+use std::alloc::Global;
+use wavelet_op::Ops;
+use wavelet_state::{WaveletState, apply_valid, invert_valid};
 
 /// What takes the first deltas of a history back, each from the state after it to the one before; None where that has more
 /// operations than a delta may have.
 pub(crate) type Backs = Vec<Option<Ops>>;
-
-// The state is after the operations, which are valid there.
-fn lead_on(alloc: Global, state: &mut WaveletState, ops: &Ops) -> Result<(), Memory>
-    requires { IsSome (run state.old (meanings ops.now)) }
-    ensures ok { OnOk result (run state.old (meanings ops.now) ≡ Some state.new) }
-    ensures kept { OnErr result (state.new ≡ state.old) }
-{
-    match apply_delta(alloc, state, ops) {
-        Ok(()) => Ok(()),
-        Err(WaveletFault::Memory) => Err(AllocError),
-        Err(_) => unreachable!(),
-    }
-}
-
-// The state is after the operations, which are valid there; the answer is what takes them back.
-fn lead_on_inverting(
-    alloc: Global,
-    state: &mut WaveletState,
-    ops: &Ops,
-) -> Result<Option<Ops>, Memory>
-    requires { IsSome (run state.old (meanings ops.now)) }
-    ensures ok { OnOk result (run state.old (meanings ops.now) ≡ Some state.new) }
-    ensures back { IfOk result (λ o. IfSome o (λ back. run state.new (meanings back) ≡ Some state.old)) }
-    ensures kept { OnErr result (state.new ≡ state.old) }
-{
-    match apply_inverting(alloc, state, ops) {
-        Ok(back) => Ok(back.into_ops()),
-        Err(WaveletFault::Memory) => Err(AllocError),
-        Err(_) => unreachable!(),
-    }
-}
 
 // One more, for which there is room.
 fn keep(backs: &mut Backs, back: Option<Ops>)
@@ -79,8 +48,8 @@ fn step_first(
 {
     let delta = &history.deltas()[place];
     backs.reserve(1)?;
-    let back = lead_on_inverting(alloc, state, &delta.ops)?;
-    keep(backs, back);
+    let back = invert_valid(alloc, state, &delta.ops)?;
+    keep(backs, back.into_ops());
     Ok(())
 }
 
@@ -96,9 +65,7 @@ fn step_again(
     ensures ok { OnOk result (state_after history.now.deltas (place + 1) ≡ Some state.new) }
     ensures kept { OnErr result (state.new ≡ state.old) }
 {
-    let delta = &history.deltas()[place];
-    lead_on(alloc, state, &delta.ops)?;
-    Ok(())
+    lead_on(alloc, state, &history.deltas()[place])
 }
 
 /// The state is after the delta at the place, and what takes it back is kept. After want of memory the state is as it was.
@@ -163,7 +130,7 @@ pub(crate) fn step_back(
     let _deltas = history.deltas();
     match &backs[place - 1] {
         Some(ops) => {
-            lead_on(alloc, state, ops)?;
+            apply_valid(alloc, state, ops)?;
             Ok(())
         }
         None => {

@@ -11,7 +11,7 @@ ghost use Rattle.std.specs.Prelude.{Some};
 use doc_items::Memory;
 use std::alloc::{AllocError, Global};
 use wavelet_op::{AppliedDelta, Ops, WaveletFault};
-use wavelet_state::{Back, WaveletState, apply_delta, apply_inverting};
+use wavelet_state::{Back, WaveletState, apply_inverting, apply_valid, invert_valid};
 
 // So many deltas a state goes forward at most: a kept one is nearer than those that are farther.
 const FAR: usize = 64;
@@ -98,12 +98,8 @@ impl Trail {
     {
         let place = self.first + self.backs.len();
         let delta = &deltas[place];
-        match apply_inverting(alloc, &mut self.state, &delta.ops) {
-            Ok(back) => self.keep(alloc, place, back),
-            Err(WaveletFault::OpInvalid(_)) => unreachable!(),
-            Err(WaveletFault::Memory) => Err(AllocError),
-            Err(_) => unreachable!(),
-        }
+        let back = invert_valid(alloc, &mut self.state, &delta.ops)?;
+        self.keep(alloc, place, back)
     }
 
     // Goes back by a delta. After an error it means nothing.
@@ -116,12 +112,7 @@ impl Trail {
         ensures place { OnOk result (place_of self.new + 1 ≡ place_of self.old) }
     {
         match self.backs.pop() {
-            Some(ops) => match apply_delta(alloc, &mut self.state, &ops) {
-                Ok(()) => Ok(()),
-                Err(WaveletFault::OpInvalid(_)) => unreachable!(),
-                Err(WaveletFault::Memory) => Err(AllocError),
-                Err(_) => unreachable!(),
-            },
+            Some(ops) => apply_valid(alloc, &mut self.state, &ops),
             None => unreachable!(),
         }
     }
@@ -158,12 +149,10 @@ impl Trail {
     {
         let mut trail = self;
         match back.into_ops() {
-            Some(ops) => match apply_delta(alloc, &mut trail.state, &ops) {
-                Ok(()) => Ok(Some(trail)),
-                Err(WaveletFault::OpInvalid(_)) => unreachable!(),
-                Err(WaveletFault::Memory) => Err(AllocError),
-                Err(_) => unreachable!(),
-            },
+            Some(ops) => {
+                apply_valid(alloc, &mut trail.state, &ops)?;
+                Ok(Some(trail))
+            }
             None => Ok(None),
         }
     }

@@ -5,7 +5,8 @@
 --     parts, parts_code          the two parts, and the code of a state
 --     IsRefused s as f           the fault f tells the first of the acts that doesn't apply
 --     IsRefusedFrom k s as f     so it does, counted from k
-use Rattle.std.specs.Prelude.{◌≡◌, ℕ, ◌+◌, List, Option, None, refl}
+--     IsOutcome s as i t         the acts apply to s and give t, where i is None; else i is the first that doesn't, and t is s
+use Rattle.std.specs.Prelude.{◌≡◌, ℕ, ◌+◌, List, Option, None, Some, refl}
 use Rattle.std.specs.Coded.{Coded, code_by, coded_list, coded_ℕ, coded×}
 use Rattle.std.specs.FinMap.{code}
 use Rattle.doc_items.specs.Maps.{Map}
@@ -35,6 +36,10 @@ IsRefusedFrom k s acts Memory = Unit {0}
 
 abbrev pub IsRefused : State → List Act → WaveletFault → Type 0
 IsRefused s acts f = IsRefusedFrom 0 s acts f
+
+abbrev pub IsOutcome : State → List Act → Option ℕ → State → Type 0
+IsOutcome s acts None t = run s acts ≡ Some t
+IsOutcome s acts (Some k) t = (run s acts ≡ None) × (k ≡ first_invalid s acts) × (t ≡ s)
 
 abbrev pub parts : State → Map Role × Map (List Item)
 parts s = (s.roles, s.documents)

@@ -1,13 +1,14 @@
 // How operations and deltas apply to a state.
-ghost use Rattle.std.specs.Prelude.{◌≡◌, ◌≤◌, ◌∷◌, [], Some, IfSome, IfOk, IfErr, OnOk, OnErr, length};
+ghost use Rattle.std.specs.Prelude.{◌≡◌, ◌≢◌, ◌≤◌, ◌∷◌, [], None, Some, IfSome, IfOk, IfErr, OnOk, OnErr, length};
 ghost use Rattle.wavelet_op.specs.Acts.{meaning, meanings, AreNormal};
 ghost use Rattle.wavelet_op.specs.States.{apply_act, run};
-ghost use Rattle.wavelet_state.specs.Drafts.{IsRefused};
+ghost use Rattle.wavelet_state.specs.Drafts.{IsRefused, IsOutcome};
 ghost use Rattle.wavelet_state.specs.Inverses.{inverse_acts, acts_back, led, TakesBack};
 
 use crate::WaveletState;
 use crate::back::Back;
-use std::alloc::Global;
+use doc_items::Memory;
+use std::alloc::{AllocError, Global};
 use wavelet_op::{Ops, WaveletFault, WaveletOp};
 
 /// Applies the operation to the state. The refusal is `OpInvalid(0)`, exactly where it isn't valid there. After it, and after want
@@ -30,6 +31,47 @@ pub fn apply_delta(alloc: Global, state: &mut WaveletState, ops: &Ops) -> Result
 {
     let mut back = None;
     apply_list(alloc, state, ops.as_slice(), &mut back)
+}
+
+/// Applies the delta's operations, and answers None; or the index of the first one that isn't valid where the ones before it lead, after
+/// which the state is as it was, as it is after want of memory.
+pub fn try_delta(alloc: Global, state: &mut WaveletState, ops: &Ops) -> Result<Option<u32>, Memory>
+    ensures outcome { IfOk result (λ invalid. IsOutcome state.old (meanings ops.now) invalid state.new) }
+    ensures kept { OnErr result (state.new ≡ state.old) }
+{
+    match apply_delta(alloc, state, ops) {
+        Ok(()) => Ok(None),
+        Err(WaveletFault::OpInvalid(index)) => Ok(Some(index)),
+        Err(WaveletFault::Memory) => Err(AllocError),
+        Err(_) => unreachable!(),
+    }
+}
+
+/// Applies operations that are valid at the state. After want of memory, the only error, the state is as it was.
+pub fn apply_valid(alloc: Global, state: &mut WaveletState, ops: &Ops) -> Result<(), Memory>
+    requires { run state.old (meanings ops.now) ≢ None }
+    ensures ok { OnOk result (run state.old (meanings ops.now) ≡ Some state.new) }
+    ensures kept { OnErr result (state.new ≡ state.old) }
+{
+    match try_delta(alloc, state, ops)? {
+        None => Ok(()),
+        Some(_) => unreachable!(),
+    }
+}
+
+/// The same, with what takes them back.
+pub fn invert_valid(alloc: Global, state: &mut WaveletState, ops: &Ops) -> Result<Back, Memory>
+    requires { run state.old (meanings ops.now) ≢ None }
+    ensures ok { OnOk result (run state.old (meanings ops.now) ≡ Some state.new) }
+    ensures back { IfOk result (λ back. run state.new (meanings back) ≡ Some state.old) }
+    ensures normal { IfOk result AreNormal }
+    ensures kept { OnErr result (state.new ≡ state.old) }
+{
+    match apply_inverting(alloc, state, ops) {
+        Ok(back) => Ok(back),
+        Err(WaveletFault::Memory) => Err(AllocError),
+        Err(_) => unreachable!(),
+    }
 }
 
 /// Applies the delta's operations to the state as `apply_delta` does, and gives what takes them back: their inverses in reverse

@@ -13,7 +13,10 @@ mod snapshot;
 mod state;
 mod stretch;
 
-pub use apply::{apply_delta, apply_inverting, apply_op, inverses_take_back};
+pub use apply::{
+    apply_delta, apply_inverting, apply_op, apply_valid, inverses_take_back, invert_valid,
+    try_delta,
+};
 pub use back::Back;
 pub use packed::PackedState;
 pub use snapshot::{MAX_INSERTED, Snapshot};

@@ -1,5 +1,5 @@
-use Rattle.std.proofs.Common.{Some, IfSome, refl, sym, ap, subst, ◌∙◌}
-use Rattle.delta_history.specs.Histories.{HistoryOf, head_of}
+use Rattle.std.proofs.Common.{IfSome, refl, sym, ap, subst, ◌∙◌}
+use Rattle.delta_history.specs.Histories.{HistoryOf}
 use Rattle.delta_history.specs.Points.{Point}
 use Rattle.delta_history.specs.Pushes.{PreparedOf, IsReady}
 use Rattle.delta_history.specs.Twins.{IsTwin}

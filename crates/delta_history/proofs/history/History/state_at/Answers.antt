@@ -1,4 +1,4 @@
-use Rattle.std.proofs.Common.{ℕ, Some, IsSome, sym, ap, subst, ◌∙◌, take, option_and_then}
+use Rattle.std.proofs.Common.{ℕ, IsSome, sym, ap, subst, ◌∙◌, take, option_and_then}
 use Rattle.wavelet_op.specs.States.{empty_state}
 use Rattle.delta_history.specs.Histories.{HistoryOf}
 use Rattle.delta_history.specs.Points.{run_all, point_at, state_of}

@@ -1,4 +1,4 @@
-use Rattle.std.proofs.Common.{rules, ◌≡◌, ◌+◌, ◌*◌, ◌-◌, ◌++◌, ◌∷◌, [], Some, sym, ap, subst, ◌∙◌, arith, length}
+use Rattle.std.proofs.Common.{◌≡◌, ◌+◌, ◌*◌, ◌-◌, ◌++◌, ◌∷◌, [], Some, sym, ap, subst, ◌∙◌, arith, length}
 use Rattle.state_cache.specs.States.{AreKept, state_after}
 use Rattle.state_cache.proofs.Runs.{stretch_valid, stretch_leads}
 use Rattle.state_cache.proofs.Caches.{kept_more}

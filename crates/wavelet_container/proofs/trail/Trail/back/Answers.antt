@@ -1,16 +1,15 @@
-use Rattle.std.proofs.Common.{refl, subst}
-use Rattle.wavelet_op.specs.Acts.{meanings}
-use Rattle.wavelet_state.specs.Drafts.{IsRefused}
+use Rattle.std.proofs.Common.{refl}
+use Rattle.std.proofs.lemmas.Result.{on_ok_weaker}
 use Rattle.wavelet_container.specs.declared.trail.Trail.{Trail}
 use Rattle.wavelet_container.proofs.Trails.{can_go_back, went_back}
 use Rattle.wavelet_container.proofs.trail.Trail.back.Goals as goal
 
-pub returns-in-Ok-clause-trail : goal.returns-in-Ok-clause-trail
-returns-in-Ok-clause-trail c =
-    let new : Trail = record { state = c.apply_delta.new.state; first = c.args.self.now.first; backs = c.pop.new.self } in
-    (went_back c.args.deltas.now c.args.self.now new c.in-Some.ops c.requires.trail c.in-Some.ensures.items refl c.in-Ok.ensures.ok).0
+pub apply_valid-requires : goal.apply_valid-requires
+apply_valid-requires c = λ none. can_go_back c.args.deltas.now c.args.self.now c.pop.new.self.items c.in-Some.ops c.requires.valid c.requires.trail c.in-Some.ensures.items none
 
-pub unreachable-requires : goal.unreachable-requires
-unreachable-requires c =
-    can_go_back c.args.deltas.now c.args.self.now c.pop.new.self.items c.in-Some.ops c.requires.valid c.requires.trail c.in-Some.ensures.items
-    (subst (IsRefused c.args.self.now.state (meanings c.in-Some.ops)) c.in-Err-OpInvalid.field-0-is c.in-Err-OpInvalid.ensures.refused).1
+pub returns-clause-trail : goal.returns-clause-trail
+returns-clause-trail c =
+    let new : Trail = record { state = c.apply_valid.new.state; first = c.args.self.now.first; backs = c.pop.new.self } in
+    on_ok_weaker c.apply_valid.result
+    (λ goes. (went_back c.args.deltas.now c.args.self.now new c.in-Some.ops c.requires.trail c.in-Some.ensures.items refl goes).0)
+    c.apply_valid.ensures.ok
