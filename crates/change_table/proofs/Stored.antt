@@ -27,7 +27,7 @@ use Rattle.change_view.proofs.Owned.{texts_view}
 use Rattle.change_view.proofs.Views.{IsViewOf}
 use Rattle.change_view.proofs.Rising.{rising, found, map_of, get_rising, below_rising, at_symm}
 use Rattle.change_view.proofs.Single.{find_mapped}
-use Rattle.change_table.specs.Tables.{entry_of, table_of}
+use Rattle.change_table.specs.Tables.{stored_entry, table_of}
 
 -- ---- at one key
 
@@ -37,13 +37,13 @@ by_text e = (string_bytes e.0, e.1)
 abbrev changed_value : Key × Change → Key × KeyChange
 changed_value e = (e.0, key_change e.1)
 
-by_bytes : (es : List (String Global × Change)) → map entry_of es ≡ map changed_value (map by_text es)
+by_bytes : (es : List (String Global × Change)) → map stored_entry es ≡ map changed_value (map by_text es)
 by_bytes [] = refl
-by_bytes (e ∷ es) = ap (λ xs. entry_of e ∷ xs) (by_bytes es)
+by_bytes (e ∷ es) = ap (λ xs. stored_entry e ∷ xs) (by_bytes es)
 
 pub get-table : (m : BTreeMap (String Global) Change) (q : Key) → finite.get (table_of m.entries) q ≡ option_map key_change (tree.get_by_text m q)
 get-table m q =
-    finite.get-from_entries nat_list_cmp_total (map entry_of m.entries) q ∙ ap (found q) (by_bytes m.entries)
+    finite.get-from_entries nat_list_cmp_total (map stored_entry m.entries) q ∙ ap (found q) (by_bytes m.entries)
     ∙ find_mapped (λ e. key_change e.1) q (map by_text m.entries)
     ∙ ap (option_map key_change) (sym (finite.get-from_entries nat_list_cmp_total (map by_text m.entries) q) ∙ get-strings m q)
 
@@ -70,21 +70,21 @@ remove-table bs m n h = alike _ _ (λ q. get-changed bs m n None h q ∙ sym (fi
 
 -- ---- in order
 
-rising_stored : (es : List (String Global × Change)) → IsStrictlySortedBy string_cmp (keys_of es) → rising (map entry_of es) ≡ true
+rising_stored : (es : List (String Global × Change)) → IsStrictlySortedBy string_cmp (keys_of es) → rising (map stored_entry es) ≡ true
 unfolding IsStrictlySortedBy
 rising_stored [] h = refl
 rising_stored (e ∷ []) h = refl
 rising_stored (e ∷ f ∷ es) h =
     let rest = rising_stored (f ∷ es) h.1 in
-    and_from _ _ (below_rising (string_bytes e.0) (entry_of f) (map entry_of es) (ap is_lt h.0.0) rest) rest
+    and_from _ _ (below_rising (string_bytes e.0) (stored_entry f) (map stored_entry es) (ap is_lt h.0.0) rest) rest
 
-listed : (es : List (String Global × Change)) → IsStrictlySortedBy string_cmp (keys_of es) → map_of (map entry_of es) ≡ table_of es
-listed es h = alike _ _ (λ q. get_rising (map entry_of es) q (rising_stored es h) ∙ sym (finite.get-from_entries nat_list_cmp_total (map entry_of es) q))
+listed : (es : List (String Global × Change)) → IsStrictlySortedBy string_cmp (keys_of es) → map_of (map stored_entry es) ≡ table_of es
+listed es h = alike _ _ (λ q. get_rising (map stored_entry es) q (rising_stored es h) ∙ sym (finite.get-from_entries nat_list_cmp_total (map stored_entry es) q))
 
-pub viewed_table : (ds : List Entry) (rest es : List (String Global × Change)) → IsStrictlySortedBy string_cmp (keys_of es) → rest ≡ [] → ds ++ map entry_of rest ≡ map entry_of es → all_texts ds ≡ true
+pub viewed_table : (ds : List Entry) (rest es : List (String Global × Change)) → IsStrictlySortedBy string_cmp (keys_of es) → rest ≡ [] → ds ++ map stored_entry rest ≡ map stored_entry es → all_texts ds ≡ true
     → IsViewOf ds (table_of es)
 viewed_table ds rest es h n s t =
-    let same : ds ≡ map entry_of es = sym (append-nil ds) ∙ ap (λ xs. ds ++ map entry_of xs) (sym n) ∙ s in
+    let same : ds ≡ map stored_entry es = sym (append-nil ds) ∙ ap (λ xs. ds ++ map stored_entry xs) (sym n) ∙ s in
     let up : rises ds ≡ true = ap rises same ∙ rising_stored es h in
     let value : map_of ds ≡ table_of es = ap map_of same ∙ listed es h in
     record { rising = up; texts = subst AreTexts value (texts_view ds up t); value = value }

@@ -1,5 +1,5 @@
 -- Changes as they are stored.
---     entry_of e       a stored change, by the bytes of its key
+--     stored_entry e   a stored change, by the bytes of its key
 --     table_of es      the change set of these stored changes
 --     with_entry u e   the set with this change and its key; None leaves it as it is
 use Rattle.std.specs.Prelude.{List, map, string_bytes, String, Option, None, Some}
@@ -10,11 +10,11 @@ use Rattle.doc_items.specs.Changes.{KeyChange, ChangeSet, key_change}
 use Rattle.doc_items.specs.declared.change.Change.{Change}
 use Rattle.change_view.specs.Lists.{Entry}
 
-abbrev pub entry_of : String Global × Change → Key × KeyChange
-entry_of e = (string_bytes e.0, key_change e.1)
+abbrev pub stored_entry : String Global × Change → Key × KeyChange
+stored_entry e = (string_bytes e.0, key_change e.1)
 
 abbrev pub table_of : List (String Global × Change) → ChangeSet
-table_of es = from_entries (map entry_of es)
+table_of es = from_entries (map stored_entry es)
 
 abbrev pub with_entry : ChangeSet → Option Entry → ChangeSet
 with_entry u None = u

@@ -3,7 +3,7 @@ ghost use Rattle.std.specs.Option.{option_map};
 ghost use Rattle.std.specs.FinMap as finite;
 ghost use Rattle.doc_items.specs.Changes.{none_running, after_boundary, key_change};
 ghost use Rattle.std.specs.Str.{encode_utf8_all};
-ghost use Rattle.change_view.specs.Lists.{value_of, entry_of as of_ref};
+ghost use Rattle.change_view.specs.Lists.{value_of, entry_of};
 ghost use Rattle.change_view.specs.Texts.{is_text_change};
 ghost use Rattle.change_table.specs.Joints.{IsTurn};
 ghost use Rattle.change_table.specs.Tables.{with_entry};
@@ -69,7 +69,7 @@ impl ChangeTable {
 
     /// The change too, if there is one.
     pub(crate) fn add(&mut self, alloc: Global, change: Option<ChangeRef<'_>>) -> Result<(), Memory>
-        ensures { OnOk result (self.new ≡ with_entry self.old (option_map of_ref change.entry)) }
+        ensures { OnOk result (self.new ≡ with_entry self.old (option_map entry_of change.entry)) }
     {
         match change {
             Some(change) => self.put(alloc, change.to_change(alloc)?),
@@ -124,7 +124,7 @@ impl ChangeTable {
 
 // A change as it is stored with its key.
 fn stored<'a>(key: &'a String, change: &'a Change) -> ChangeRef<'a>
-    ensures same { of_ref result ≡ (string_bytes key.now, key_change change.now) }
+    ensures same { entry_of result ≡ (string_bytes key.now, key_change change.now) }
     ensures texts { is_text_change result.key.now (value_of result) ≡ true }
 {
     let of_change = ChangeRef::of(change);

@@ -1,10 +1,10 @@
 ghost use Rattle.std.specs.Prelude.{◌≡◌, true, Some, IfSome, IfOk};
 ghost use Rattle.std.specs.Option.{option_copied, option_map};
-ghost use Rattle.std.specs.Str.{encode_utf8_all};
+ghost use Rattle.std.specs.Str.{chars, encode_utf8_all};
 ghost use Rattle.doc_items.specs.Maps.{same_value};
 ghost use Rattle.doc_items.specs.Changes.{turned};
 ghost use Rattle.change_view.specs.Rules.{same_change};
-ghost use Rattle.change_view.specs.Texts.{is_text_value, is_text_change};
+ghost use Rattle.change_view.specs.Texts.{is_text_value, is_text_change, as_change};
 ghost use Rattle.change_view.specs.Lists.{value_of, entry_of, of_change};
 
 use doc_items::{Change, Memory, Text};
@@ -32,7 +32,8 @@ impl<'a> ChangeRef<'a> {
 
     /// The change with texts of its own.
     pub fn to_change(self, alloc: Global) -> Result<Change, Memory>
-        ensures { IfOk result (λ c. of_change c ≡ entry_of self.entry) }
+        ensures value { IfOk result (λ c. c ≡ as_change (entry_of self.entry)) }
+        ensures same { IfOk result (λ c. of_change c ≡ entry_of self.entry) }
     {
         let key = owned(alloc, self.key)?;
         let old = owned_value(alloc, self.old)?;
@@ -73,14 +74,16 @@ impl<'a> ChangeRef<'a> {
 }
 
 fn owned(alloc: Global, text: &str) -> Result<Text, Memory>
-    ensures { IfOk result (λ t. encode_utf8_all t ≡ text.now) }
+    ensures value { IfOk result (λ t. t ≡ chars text.now) }
+    ensures same { IfOk result (λ t. encode_utf8_all t ≡ text.now) }
 {
     let copy = Text::from_str(alloc, text)?;
     Ok(copy)
 }
 
 fn owned_value(alloc: Global, value: Option<&str>) -> Result<Option<Text>, Memory>
-    ensures { IfOk result (λ v. option_map encode_utf8_all v ≡ option_copied value.entry) }
+    ensures value { IfOk result (λ v. v ≡ option_map chars (option_copied value.entry)) }
+    ensures same { IfOk result (λ v. option_map encode_utf8_all v ≡ option_copied value.entry) }
 {
     match value {
         Some(text) => Ok(Some(owned(alloc, text)?)),

@@ -1,6 +1,5 @@
 // Lists of changes, one at a time.
 ghost use Rattle.std.specs.Prelude.{◌≡◌, map, true, Some, IfOk, OnOk};
-ghost use Rattle.std.specs.Option.{option_map, option_copied};
 ghost use Rattle.std.specs.FinMap as finite;
 ghost use Rattle.std.specs.Str.{chars, encode_utf8_all, is_utf8};
 ghost use Rattle.doc_items.specs.Maps.{pair_of};
@@ -121,21 +120,9 @@ pub(crate) fn owned(alloc: Global, list: &[ChangeRef<'_>]) -> Result<Vec<Change>
 {
     let mut out = Vec::with_capacity(alloc, list.len())?;
     for change in list {
-        let key = Text::from_str(alloc, change.key)?;
-        let old = copy(alloc, change.old)?;
-        let new = copy(alloc, change.new)?;
-        out.push(Change { key, old, new })?;
+        out.push(change.to_change(alloc)?)?;
     }
     Ok(out)
-}
-
-fn copy(alloc: Global, value: Option<&str>) -> Result<Option<Text>, Memory>
-    ensures { IfOk result (λ v. v ≡ option_map chars (option_copied value.entry)) }
-{
-    match value {
-        Some(text) => Ok(Some(Text::from_str(alloc, text)?)),
-        None => Ok(None),
-    }
 }
 
 /// The keys with texts of their own.

@@ -40,111 +40,85 @@ impl Rule {
         ensures value { option_map value_of result ≡ combined self (option_map value_of first.entry) (option_map value_of second.entry) }
         ensures key { IfSome result (λ c. c.key.now ≡ key.entry.now) }
     {
-        match self {
-            Rule::Second => second_first(key, first, second),
-            Rule::SecondTurned => second_turned_first(key, first, second),
-            Rule::Over => over(key, first, second),
-            Rule::Under => under(key, first, second),
-            Rule::Then => then(key, first, second),
-            Rule::Unlike => unlike(key, first, second),
-            Rule::Starting => starting(key, first, second),
-            Rule::Inserted => inserted(key, first),
-            Rule::Deleted => deleted(key, first),
-        }
+        let made = match self {
+            Rule::Second => second_first(first, second),
+            Rule::SecondTurned => second_turned_first(first, second),
+            Rule::Over => over(first, second),
+            Rule::Under => under(first, second),
+            Rule::Then => then(first, second),
+            Rule::Unlike => unlike(first, second),
+            Rule::Starting => starting(first, second),
+            Rule::Inserted => inserted(first),
+            Rule::Deleted => deleted(first),
+        };
+        at(key, made)
     }
 }
 
-fn second_first<'a>(
-    key: &'a str,
-    first: Option<ChangeRef<'a>>,
-    second: Option<ChangeRef<'a>>,
-) -> Option<ChangeRef<'a>>
-    ensures value { option_map value_of result ≡ one_second (option_map value_of first.entry) (option_map value_of second.entry) }
-    ensures key { IfSome result (λ c. c.key.now ≡ key.entry.now) }
+// The change of a key in one of the two sets, where that has the key. What a rule makes may name any key.
+type Side<'a> = Option<ChangeRef<'a>>;
+
+fn second_first<'a>(first: Side<'a>, second: Side<'a>) -> Side<'a>
+    ensures { option_map value_of result ≡ one_second (option_map value_of first.entry) (option_map value_of second.entry) }
 {
     match second {
-        Some(change) => Some(change.at(key)),
-        None => at(key, first),
+        Some(change) => Some(change),
+        None => first,
     }
 }
 
-fn second_turned_first<'a>(
-    key: &'a str,
-    first: Option<ChangeRef<'a>>,
-    second: Option<ChangeRef<'a>>,
-) -> Option<ChangeRef<'a>>
-    ensures value { option_map value_of result ≡ one_second_turned (option_map value_of first.entry) (option_map value_of second.entry) }
-    ensures key { IfSome result (λ c. c.key.now ≡ key.entry.now) }
+fn second_turned_first<'a>(first: Side<'a>, second: Side<'a>) -> Side<'a>
+    ensures { option_map value_of result ≡ one_second_turned (option_map value_of first.entry) (option_map value_of second.entry) }
 {
     match second {
-        Some(change) => Some(change.turned().at(key)),
-        None => at(key, first),
+        Some(change) => Some(change.turned()),
+        None => first,
     }
 }
 
-fn over<'a>(
-    key: &'a str,
-    first: Option<ChangeRef<'a>>,
-    second: Option<ChangeRef<'a>>,
-) -> Option<ChangeRef<'a>>
-    ensures value { option_map value_of result ≡ one_over (option_map value_of first.entry) (option_map value_of second.entry) }
-    ensures key { IfSome result (λ c. c.key.now ≡ key.entry.now) }
+fn over<'a>(first: Side<'a>, second: Side<'a>) -> Side<'a>
+    ensures { option_map value_of result ≡ one_over (option_map value_of first.entry) (option_map value_of second.entry) }
 {
     match first {
         Some(mine) => match second {
             Some(theirs) => Some(ChangeRef {
-                key,
+                key: mine.key,
                 old: theirs.new,
                 new: mine.new,
             }),
-            None => Some(mine.at(key)),
+            None => Some(mine),
         },
         None => None,
     }
 }
 
-fn under<'a>(
-    key: &'a str,
-    first: Option<ChangeRef<'a>>,
-    second: Option<ChangeRef<'a>>,
-) -> Option<ChangeRef<'a>>
-    ensures value { option_map value_of result ≡ one_under (option_map value_of first.entry) (option_map value_of second.entry) }
-    ensures key { IfSome result (λ c. c.key.now ≡ key.entry.now) }
+fn under<'a>(first: Side<'a>, second: Side<'a>) -> Side<'a>
+    ensures { option_map value_of result ≡ one_under (option_map value_of first.entry) (option_map value_of second.entry) }
 {
     match second {
         Some(_) => None,
-        None => at(key, first),
+        None => first,
     }
 }
 
-fn then<'a>(
-    key: &'a str,
-    first: Option<ChangeRef<'a>>,
-    second: Option<ChangeRef<'a>>,
-) -> Option<ChangeRef<'a>>
-    ensures value { option_map value_of result ≡ one_then (option_map value_of first.entry) (option_map value_of second.entry) }
-    ensures key { IfSome result (λ c. c.key.now ≡ key.entry.now) }
+fn then<'a>(first: Side<'a>, second: Side<'a>) -> Side<'a>
+    ensures { option_map value_of result ≡ one_then (option_map value_of first.entry) (option_map value_of second.entry) }
 {
     match first {
         Some(before) => match second {
-            Some(behind) => Some(ChangeRef {
-                key,
+            Some(after) => Some(ChangeRef {
+                key: before.key,
                 old: before.old,
-                new: behind.new,
+                new: after.new,
             }),
-            None => Some(before.at(key)),
+            None => Some(before),
         },
-        None => at(key, second),
+        None => second,
     }
 }
 
-fn unlike<'a>(
-    key: &'a str,
-    first: Option<ChangeRef<'a>>,
-    second: Option<ChangeRef<'a>>,
-) -> Option<ChangeRef<'a>>
-    ensures value { option_map value_of result ≡ one_unlike (option_map value_of first.entry) (option_map value_of second.entry) }
-    ensures key { IfSome result (λ c. c.key.now ≡ key.entry.now) }
+fn unlike<'a>(first: Side<'a>, second: Side<'a>) -> Side<'a>
+    ensures { option_map value_of result ≡ one_unlike (option_map value_of first.entry) (option_map value_of second.entry) }
 {
     match first {
         Some(mine) => match second {
@@ -152,32 +126,27 @@ fn unlike<'a>(
                 if mine.same_values(theirs) {
                     None
                 } else {
-                    Some(mine.at(key))
+                    Some(mine)
                 }
             }
-            None => Some(mine.at(key)),
+            None => Some(mine),
         },
         None => None,
     }
 }
 
-fn starting<'a>(
-    key: &'a str,
-    first: Option<ChangeRef<'a>>,
-    second: Option<ChangeRef<'a>>,
-) -> Option<ChangeRef<'a>>
-    ensures value { option_map value_of result ≡ one_starting (option_map value_of first.entry) (option_map value_of second.entry) }
-    ensures key { IfSome result (λ c. c.key.now ≡ key.entry.now) }
+fn starting<'a>(first: Side<'a>, second: Side<'a>) -> Side<'a>
+    ensures { option_map value_of result ≡ one_starting (option_map value_of first.entry) (option_map value_of second.entry) }
 {
     match first {
         Some(mine) => match second {
             Some(theirs) => Some(ChangeRef {
-                key,
+                key: mine.key,
                 old: theirs.new,
                 new: mine.new,
             }),
             None => Some(ChangeRef {
-                key,
+                key: mine.key,
                 old: None,
                 new: mine.new,
             }),
@@ -186,14 +155,13 @@ fn starting<'a>(
     }
 }
 
-fn inserted<'a>(key: &'a str, first: Option<ChangeRef<'a>>) -> Option<ChangeRef<'a>>
-    ensures value { option_map value_of result ≡ option_and_then one_inserted (option_map value_of first.entry) }
-    ensures key { IfSome result (λ c. c.key.now ≡ key.entry.now) }
+fn inserted<'a>(first: Side<'a>) -> Side<'a>
+    ensures { option_map value_of result ≡ option_and_then one_inserted (option_map value_of first.entry) }
 {
     match first {
         Some(mine) => match mine.new {
             Some(new) => Some(ChangeRef {
-                key,
+                key: mine.key,
                 old: None,
                 new: Some(new),
             }),
@@ -203,13 +171,12 @@ fn inserted<'a>(key: &'a str, first: Option<ChangeRef<'a>>) -> Option<ChangeRef<
     }
 }
 
-fn deleted<'a>(key: &'a str, first: Option<ChangeRef<'a>>) -> Option<ChangeRef<'a>>
-    ensures value { option_map value_of result ≡ option_map one_deleted (option_map value_of first.entry) }
-    ensures key { IfSome result (λ c. c.key.now ≡ key.entry.now) }
+fn deleted<'a>(first: Side<'a>) -> Side<'a>
+    ensures { option_map value_of result ≡ option_map one_deleted (option_map value_of first.entry) }
 {
     match first {
         Some(mine) => Some(ChangeRef {
-            key,
+            key: mine.key,
             old: mine.old,
             new: None,
         }),
