@@ -1,6 +1,7 @@
 -- What the steps of a walk over a document keep, whatever actions follow.
 --     takes a i               an action that takes an item takes this one
 --     left_by a i             what it leaves of the item
+--     IsNoted u last          what was made of the annotations of the item kept last, where u runs
 --     demand_action u d       the action that a demand stands for, where the changes u run
 --     content_meets d c       a content meets a demand
 --     IsFit                   the keys of a demand's, of a component's update ascend
@@ -10,7 +11,7 @@
 --     Gives items made a left more b     what the actions a make of the items, the actions b make of the items left, which
 --                             are the last of them
 use Rattle.std.specs.Prelude.{◌≡◌, ◌≢◌, ◌+◌, ℕ, List, [], ◌∷◌, ◌++◌, length, Bool, true, is_some, Option, None, Some}
-use Rattle.doc_items.specs.Changes.{ChangeSet, change_set, IsAscending, Fits}
+use Rattle.doc_items.specs.Changes.{ChangeSet, change_set, put, IsAscending, Fits}
 use Rattle.doc_items.specs.declared.item.Content.{Content}
 use Rattle.doc_items.specs.declared.item.Content.TheVariants.{Character, Start, End}
 use Rattle.doc_items.specs.declared.item.Item.{Item}
@@ -23,6 +24,7 @@ use Rattle.op_validity.specs.Sources.{IsTail}
 use Rattle.op_validity.specs.declared.demand.Demand.{Demand}
 use Rattle.op_validity.specs.declared.demand.Demand.TheVariants.{Keep as KeepOne, Update as UpdateOne, Replace as ReplaceOne, Character as DeleteCharacter, Start as DeleteStart, End as DeleteEnd}
 use Rattle.op_validity.specs.declared.fault.CheckFault.{CheckFault}
+use Rattle.op_validity.specs.declared.noted.Noted.{Noted}
 use Rattle.op_validity.specs.declared.fault.CheckFault.TheVariants.{NotStructured, Mismatch, WrongLength, Memory}
 
 abbrev pub takes : Action → Item → Bool
@@ -35,6 +37,11 @@ abbrev pub left_by : Action → Item → Option Item
 left_by (Keep u a) i = Some (kept u a i)
 left_by (Ins x) i = None
 left_by (Del c n) i = None
+
+-- what was made of the last item's annotations, where u runs
+abbrev pub IsNoted : ChangeSet → Option Noted → Type 0
+IsNoted u None = Unit {0}
+IsNoted u (Some n) = n.after ≡ put u n.before
 
 -- these items, and then what is left
 abbrev pub with_left : List Item → Option Item → List Item

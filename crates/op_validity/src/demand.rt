@@ -1,12 +1,13 @@
 ghost use Rattle.std.specs.Prelude.{◌≡◌, IfOk};
-ghost use Rattle.doc_items.specs.Changes.{IsAscending, change_set, put};
+ghost use Rattle.doc_items.specs.Changes.{IsAscending, change_set};
 ghost use Rattle.doc_items.specs.Maps.{Key, Map};
 ghost use Rattle.doc_items.specs.declared.item.Content.TheVariants.{Character, Start, End};
 ghost use Rattle.doc_op.specs.Actions.{Update, Replace};
 ghost use Rattle.doc_op.specs.Apply.{content_agrees, put_content, same_content};
-ghost use Rattle.op_validity.specs.Walks.{takes, demand_action, content_meets, left_by, IsFitDemand};
+ghost use Rattle.op_validity.specs.Walks.{takes, demand_action, content_meets, left_by, IsFitDemand, IsNoted};
 
-use doc_items::{Attributes, Changes, Content, Item, Memory, Text, TextMap};
+use crate::noted::{Noted, changed, notes_after};
+use doc_items::{Attributes, Changes, Content, Item, Memory, Text};
 use std::alloc::Global;
 
 /// What an operation demands of one item.
@@ -121,29 +122,33 @@ fn is_end(content: &Content) -> bool
 }
 
 impl Demand<'_> {
-    /// The item that is left of one that meets the demand, under the running changes; None where it is deleted.
+    /// The item that is left of one that meets the demand, under the running changes; None where it is deleted. The last is the one kept
+    /// before it.
     pub fn leaves(
         self,
         alloc: Global,
         running: &Changes,
+        last: &mut Option<Noted>,
         item: &Item,
     ) -> Result<Option<Item>, Memory>
-        ensures { IfOk result (λ left. left ≡ left_by (demand_action (change_set running.now) self.entry) item.now) }
+        requires { IsNoted (change_set running.now) last.old }
+        ensures left { IfOk result (λ left. left ≡ left_by (demand_action (change_set running.now) self.entry) item.now) }
+        ensures noted { IsNoted (change_set running.now) last.new }
     {
         match self {
             Demand::Keep => {
                 let content = item.content.copy(alloc)?;
-                let notes = changed(alloc, running, &item.notes)?;
+                let notes = notes_after(alloc, running, last, &item.notes)?;
                 Ok(Some(Item { content, notes }))
             }
             Demand::Update(changes) => {
                 let content = updated(alloc, changes, &item.content)?;
-                let notes = changed(alloc, running, &item.notes)?;
+                let notes = notes_after(alloc, running, last, &item.notes)?;
                 Ok(Some(Item { content, notes }))
             }
             Demand::Replace { old: _, new } => {
                 let content = replaced(alloc, new, &item.content)?;
-                let notes = changed(alloc, running, &item.notes)?;
+                let notes = notes_after(alloc, running, last, &item.notes)?;
                 Ok(Some(Item { content, notes }))
             }
             Demand::Character(_) => Ok(None),
@@ -151,14 +156,6 @@ impl Demand<'_> {
             Demand::End => Ok(None),
         }
     }
-}
-
-fn changed(alloc: Global, changes: &Changes, map: &TextMap) -> Result<TextMap, Memory>
-    ensures { IfOk result (λ m. m ≡ put (change_set changes.now) map.now) }
-{
-    let mut copy = map.copy()?;
-    changes.put(alloc, &mut copy)?;
-    Ok(copy)
 }
 
 fn updated(alloc: Global, changes: &Changes, content: &Content) -> Result<Content, Memory>

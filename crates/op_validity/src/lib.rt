@@ -4,6 +4,7 @@
 mod demand;
 mod edits;
 mod fault;
+mod noted;
 mod pieces;
 mod rebuild;
 mod source;

@@ -3,9 +3,10 @@ ghost use Rattle.doc_items.specs.Changes.{change_set, put};
 ghost use Rattle.doc_items.specs.declared.item.Content.TheVariants.{Character, Start};
 ghost use Rattle.doc_op.specs.Actions.{Action, keep, insertion, deletion, component_actions, new_values};
 ghost use Rattle.op_validity.specs.Sources.{ahead};
-ghost use Rattle.op_validity.specs.Walks.{Gives, demand_action, with_left};
+ghost use Rattle.op_validity.specs.Walks.{Gives, IsNoted, demand_action, with_left};
 
 use crate::demand::Demand;
+use crate::noted::Noted;
 use crate::source::Source;
 use doc_items::{Attributes, Changes, Content, Item, Memory, Notes, Text};
 use doc_op::Component;
@@ -39,14 +40,19 @@ impl Rebuild<'_> {
             Component::ElementEnd => self.insert(alloc, running, Content::End),
             Component::DeleteCharacters(text) => self.delete(alloc, running, text),
             Component::DeleteElementStart { kind, attributes } => {
-                self.give(alloc, running, Demand::Start { kind, attributes })
+                self.give(
+                    alloc,
+                    running,
+                    &mut None,
+                    Demand::Start { kind, attributes },
+                )
             }
-            Component::DeleteElementEnd => self.give(alloc, running, Demand::End),
+            Component::DeleteElementEnd => self.give(alloc, running, &mut None, Demand::End),
             Component::ReplaceAttributes { old, new } => {
-                self.give(alloc, running, Demand::Replace { old, new })
+                self.give(alloc, running, &mut None, Demand::Replace { old, new })
             }
             Component::UpdateAttributes(changes) => {
-                self.give(alloc, running, Demand::Update(changes))
+                self.give(alloc, running, &mut None, Demand::Update(changes))
             }
             Component::AnnotationBoundary(_) => Ok(()),
         }
@@ -58,9 +64,10 @@ impl Rebuild<'_> {
             → Gives (ahead self.old.rest) self.old.items.items (replicate count (keep (change_set running.now)) ++ more)
             (ahead self.new.rest) self.new.items.items more) }
     {
+        let mut last = None;
         let mut left = count;
         while left > 0 {
-            self.give(alloc, running, Demand::Keep)?;
+            self.give(alloc, running, &mut last, Demand::Keep)?;
             left -= 1;
         }
         Ok(())
@@ -89,7 +96,7 @@ impl Rebuild<'_> {
             (ahead self.new.rest) self.new.items.items more) }
     {
         for c in chars {
-            self.give(alloc, running, Demand::Character(*c))?;
+            self.give(alloc, running, &mut None, Demand::Character(*c))?;
         }
         Ok(())
     }
@@ -163,16 +170,24 @@ impl Rebuild<'_> {
         Ok(())
     }
 
-    // Does what a demand says with the next item.
-    fn give(&mut self, alloc: Global, running: &Changes, demand: Demand<'_>) -> Result<(), Memory>
-        ensures { OnOk result ((more : List Action)
+    // Does what a demand says with the next item. The last is the one kept before it.
+    fn give(
+        &mut self,
+        alloc: Global,
+        running: &Changes,
+        last: &mut Option<Noted>,
+        demand: Demand<'_>,
+    ) -> Result<(), Memory>
+        requires { IsNoted (change_set running.now) last.old }
+        ensures gives { OnOk result ((more : List Action)
             → Gives (ahead self.old.rest) self.old.items.items (demand_action (change_set running.now) demand.entry ∷ more)
             (ahead self.new.rest) self.new.items.items more) }
+        ensures noted { IsNoted (change_set running.now) last.new }
     {
         let Some(item) = self.rest.first() else {
             return Ok(());
         };
-        let left = demand.leaves(alloc, running, item)?;
+        let left = demand.leaves(alloc, running, last, item)?;
         self.push(left)?;
         self.rest.skip(1);
         Ok(())

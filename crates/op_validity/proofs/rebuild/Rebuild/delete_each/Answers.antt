@@ -14,7 +14,7 @@ loop-c-preserved c =
     let f : ℕ → Action = λ x. deletion (change_set c.args.running.now) (Character x) in
     λ more. gives_more _ _ _ _ _ _ _ _ (map f (drop (c.loop-c.c-index + 1) c.args.chars.now) ++ more) (f c.c-item.result)
     (mapped_next f c.args.chars.now c.loop-c.c-index c.c-item.result more c.loop-c-test.true c.c-item.is) (c.loop-c.invariant more)
-    (c.in_ok-give.ensures (map f (drop (c.loop-c.c-index + 1) c.args.chars.now) ++ more))
+    (c.in_ok-give.ensures.gives (map f (drop (c.loop-c.c-index + 1) c.args.chars.now) ++ more))
 
 pub returns : goal.returns
 returns c =

@@ -11,11 +11,14 @@ pub loop-left-preserved : goal.loop-left-preserved
 loop-left-preserved c =
     let a = keep (change_set c.args.running.now) in
     let e : c.loop-left.left - 1 + 1 ≡ c.loop-left.left = omega (arith, c.loop-left-test.true) in
-    λ more. gives_more _ _ _ _ _ _ _ _ (replicate (c.loop-left.left - 1) a ++ more) a (replicate_next c.loop-left.left (c.loop-left.left - 1) a more e) (c.loop-left.invariant more)
-    (c.in_ok-give.ensures (replicate (c.loop-left.left - 1) a ++ more))
+    record {
+      gives = λ more. gives_more _ _ _ _ _ _ _ _ (replicate (c.loop-left.left - 1) a ++ more) a (replicate_next c.loop-left.left (c.loop-left.left - 1) a more e) (c.loop-left.invariant.gives more)
+          (c.in_ok-give.ensures.gives (replicate (c.loop-left.left - 1) a ++ more));
+      noted = c.give.ensures.noted;
+    }
 
 pub returns : goal.returns
 returns c =
     let a = keep (change_set c.args.running.now) in
     let none : c.loop-left.left ≡ 0 = omega (arith, c.loop-left-test.false) in
-    λ more. subst (λ (n : ℕ). Gives (ahead c.args.self.now.rest) c.args.self.now.items.items (replicate c.args.count a ++ more) (ahead c.loop-left.self.rest) c.loop-left.self.items.items (replicate n a ++ more)) none (c.loop-left.invariant more)
+    λ more. subst (λ (n : ℕ). Gives (ahead c.args.self.now.rest) c.args.self.now.items.items (replicate c.args.count a ++ more) (ahead c.loop-left.self.rest) c.loop-left.self.items.items (replicate n a ++ more)) none (c.loop-left.invariant.gives more)

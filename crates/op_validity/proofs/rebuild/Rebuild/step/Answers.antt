@@ -17,16 +17,16 @@ pub returns-in-DeleteCharacters : goal.returns-in-DeleteCharacters
 returns-in-DeleteCharacters c = rw c.in-DeleteCharacters.is c.delete.ensures
 
 pub returns-in-DeleteElementStart : goal.returns-in-DeleteElementStart
-returns-in-DeleteElementStart c = rw c.in-DeleteElementStart.is c.give.ensures
+returns-in-DeleteElementStart c = rw c.in-DeleteElementStart.is c.give.ensures.gives
 
 pub returns-in-DeleteElementEnd : goal.returns-in-DeleteElementEnd
-returns-in-DeleteElementEnd c = rw c.in-DeleteElementEnd.is c.give-in-DeleteElementEnd.ensures
+returns-in-DeleteElementEnd c = rw c.in-DeleteElementEnd.is c.give-in-DeleteElementEnd.ensures.gives
 
 pub returns-in-ReplaceAttributes : goal.returns-in-ReplaceAttributes
-returns-in-ReplaceAttributes c = rw c.in-ReplaceAttributes.is c.give-in-ReplaceAttributes.ensures
+returns-in-ReplaceAttributes c = rw c.in-ReplaceAttributes.is c.give-in-ReplaceAttributes.ensures.gives
 
 pub returns-in-UpdateAttributes : goal.returns-in-UpdateAttributes
-returns-in-UpdateAttributes c = rw c.in-UpdateAttributes.is c.give-in-UpdateAttributes.ensures
+returns-in-UpdateAttributes c = rw c.in-UpdateAttributes.is c.give-in-UpdateAttributes.ensures.gives
 
 pub returns-in-AnnotationBoundary : goal.returns-in-AnnotationBoundary
 returns-in-AnnotationBoundary c = λ more. rw c.in-AnnotationBoundary.is (gives_refl _ _ more)
