@@ -17,16 +17,23 @@ use crate::{Component, ContentRun, DocOp};
 use change_table::{ChangeTable, Joint};
 use change_view::ChangeView;
 use doc_items::{Attributes, Boundary, Memory, Text};
-use std::alloc::Global;
+use std::alloc::{AllocError, Global};
 use std::marker::Model;
 use std::mem;
 
-/// Makes an operation in normal form, run by run. It is seen as the actions that it took. After want of memory it has none.
+/// The most keys that end or change at the boundaries of an operation that is made here. Each takes a few bytes of its spelling, so an
+/// operation with more is longer than a delta may be.
+const MOST_CHANGES: usize = 1 << 20;
+
+/// Makes an operation in normal form, run by run. It is seen as the actions that it took. After want of memory it has none. An operation
+/// whose boundaries have more than 2^20 keys counts as one for which there is no memory: a few bytes may ask for very many of them.
 pub struct NormalBuilder {
     // The components that are done, the changes that run after them, and the last component.
     done: DocOp,
     written: ChangeTable,
     last: Open,
+    // How many keys end or change at the boundaries.
+    changes: usize,
 }
 
 impl Drop for NormalBuilder {
@@ -35,6 +42,7 @@ impl Drop for NormalBuilder {
             done: _done,
             written: _written,
             last: _last,
+            changes: _,
         } = self;
     }
 }
@@ -54,6 +62,21 @@ impl Model for NormalBuilder {
 
     ghost invariant = { λ b. IsOpenNormal (actions (b.done ++ shut (open_component b.last))) b.done (open_component b.last)
         b.written };
+}
+
+// How many keys end or change with those of a boundary more. They are refused where they are too many.
+fn counted(changes: usize, turn: &Option<Boundary>) -> Result<usize, Memory> {
+    let Some(boundary) = turn else {
+        return Ok(changes);
+    };
+    let more = boundary.end.as_slice().len();
+    let changes = changes.saturating_add(more);
+    let more = boundary.change.as_slice().len();
+    let changes = changes.saturating_add(more);
+    if changes > MOST_CHANGES {
+        return Err(AllocError);
+    }
+    Ok(changes)
 }
 
 // The components with the last, which grows no more, and after them the boundary, if there is one; and what runs then.
@@ -111,6 +134,7 @@ impl NormalBuilder {
             done: DocOp::new(alloc),
             written: ChangeTable::new(alloc),
             last: Open::Nothing,
+            changes: 0,
         }
     }
 
@@ -143,6 +167,7 @@ impl NormalBuilder {
             done,
             written,
             last,
+            changes,
         } = self;
         let turn = shown.turn_from(alloc, &written)?;
         if turn.is_none() && last.is_joined_by(more) {
@@ -151,14 +176,17 @@ impl NormalBuilder {
                 done,
                 written,
                 last,
+                changes,
             });
         }
+        let changes = counted(changes, &turn)?;
         let (done, written) = settled(alloc, done, last, written, turn)?;
         let last = more.to_open(alloc)?;
         Ok(NormalBuilder {
             done,
             written,
             last,
+            changes,
         })
     }
 
@@ -179,14 +207,17 @@ impl NormalBuilder {
             done,
             written,
             last,
+            changes,
         } = self;
         let turn = shown.turn_from(alloc, &written)?;
+        let changes = counted(changes, &turn)?;
         let (done, written) = settled(alloc, done, last, written, turn)?;
         let done = pushed(done, component)?;
         Ok(NormalBuilder {
             done,
             written,
             last: Open::Nothing,
+            changes,
         })
     }
 
@@ -416,6 +447,7 @@ impl NormalBuilder {
             done,
             written,
             last,
+            changes: _,
         } = self;
         let turn = written.turn_to(alloc, &ChangeView::empty(alloc))?;
         let (done, _written) = settled(alloc, done, last, written, turn)?;
