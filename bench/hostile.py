@@ -1,7 +1,7 @@
 #!/usr/bin/env python3
 """What the program does with what nobody should send it: python3 bench/hostile.py [PROGRAM] [PART ..]
 
-PROGRAM is crates/wave/out/wave unless it is given (`rt run` in crates/wave builds it), PART one of lines, long, large, deep, memory, words,
+PROGRAM is crates/wave/out/wave unless it is given (`rt run` in crates/wave builds it), PART one of lines, long, large, shown, deep, memory, words,
 files, commands, all of them if none is given. An assertion fails where the program does anything else than it should. Hostile frames over links are a part
 of bench/serve.py. COUNT in the environment is the number of mutated lines, 1,000,000 if it isn't given.
 """
@@ -229,6 +229,20 @@ def large(program):
     assert types(told) == ["welcome", "ack"], told[:500]
 
 
+def shown(program, keys=9_000):
+    """An operation in which retained and inserted items come in turn, under annotations that an insertion shows otherwise: in normal form each turn has a boundary of all keys."""
+    names = [f"{number:04d}" for number in range(keys)]
+    first = [{"annotation_boundary": {"end": [], "change": [{"key": name, "old": "a", "new": "b"} for name in names]}}]
+    last = [{"annotation_boundary": {"end": names, "change": []}}]
+    turn = [{"retain_item_count": 1}, {"characters": "x"}]
+    turns = (LIMIT - 4000 - len(compact(submission([ADD, mutation(*first, *last)])))) // (len(compact(turn)) - 1)
+    data = line(submission([ADD, mutation(*first, *turn * turns, *last)]))
+    assert len(data) <= LIMIT, len(data)
+    status, told, most, used = measured([program, "pipe"], [line(HELLO), b"\n", data, b"\n"])
+    print(f"{keys} annotations over {2 * turns} runs in turn, {len(data)} bytes: status {status}, {used:.2f} seconds of processor, {most:.0f} MB", flush=True)
+    assert status == 8 and types(told) == ["welcome"] and most < 1000, told[:500]
+
+
 def deep(program, depth=100_000):
     """Elements in one another."""
     empty = {"type": "", "attribute": []}
@@ -362,7 +376,7 @@ def commands(program, count=400):
     assert re.search(rb"^wavelet %s version \d+ settled$" % WAVELET.replace("+", r"\+").encode(), told, re.M), told[-500:]
 
 
-PARTS = {"lines": lines, "long": long, "large": large, "deep": deep, "memory": memory, "words": words, "files": files, "commands": commands}
+PARTS = {"lines": lines, "long": long, "large": large, "shown": shown, "deep": deep, "memory": memory, "words": words, "files": files, "commands": commands}
 
 
 def main():

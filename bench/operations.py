@@ -8,7 +8,8 @@ reads operations as bytes from standard input, so nothing but the work named is 
 
 A comb is an operation on a document of 1,000,000 items that retains and inserts in turn. The hostile operation has as many
 bytes as a delta may: 17,000 annotations run at once, and at each of 7,000 boundaries one of them ends. An edit inserts or
-deletes one letter in the middle of a document in pieces; what is inverted inserts one there, or deletes one or 500.
+deletes one letter in the middle of a document in pieces; what is inverted inserts one there, or deletes one or 500. All letters
+are marked with one annotation, and then no more.
 """
 
 import os
@@ -54,6 +55,17 @@ def boundary(ends, changes):
     return b"\x0a" + ended + changed
 
 
+def value(text_or_none):
+    return b"\0" if text_or_none is None else b"\1" + text(text_or_none)
+
+
+def marked(count, old, new):
+    """One annotation of so many items goes from the old value to the new one."""
+    begins = b"\x0a" + struct.pack(">II", 0, 1) + text("bold") + value(old) + value(new)
+    ends = b"\x0a" + struct.pack(">I", 1) + text("bold") + struct.pack(">I", 0)
+    return operation([begins, retain(count), ends])
+
+
 def hostile():
     """Each key's change asks for its absence and leaves it absent, so the operation composes with itself."""
     parts = [boundary([], range(KEYS))]
@@ -96,6 +108,12 @@ def show_edits(count, repeats):
     print("%9d letters, an edit %9.2f microseconds %9d KiB at the peak" % (size, each / 2000, peak), flush=True)
 
 
+def show_marks(count):
+    there, back = marked(count, None, "1"), marked(count, "1", None)
+    each, _, peak = measure(PROGRAM, "edit", there, back, 3, letters(count))
+    print("%9d letters, all of them marked, and then no more %9.1f milliseconds each %9d KiB at the peak" % (count, each / 2e6, peak), flush=True)
+
+
 def show_inverses(count, repeats):
     there, more = count // 2, "abcdefghij" * 50
     for what, change, taken in (("inserts one letter", b"\x02" + text("x"), 0), ("deletes one", b"\x05" + text("a"), 1), ("deletes 500", b"\x05" + text(more), 500)):
@@ -109,6 +127,8 @@ def main():
         show_edits(count, 20_000)
     for count in (1_000, 100_000):
         show_inverses(count, 20_000)
+    for count in (1_000, 100_000, 1_000_000):
+        show_marks(count)
     for count in (10, 100, 1_000):
         first, second = comb(count, ITEMS, "a"), comb(count, ITEMS, "b")
         onto = comb(count, ITEMS + count // 2, "c")
