@@ -6,6 +6,8 @@
 --     start_shown, counted what is shown after the first k deltas; the version that so many deltas lead up to
 --     goes_on, next_at     a delta on: it applies, and leads to the state after it
 --     back_at, kept_more   a delta back: its inverse leads to the state before it; one more that is kept
+--     as_ops               an inverse as operations of a delta leads back, too
+--     not_none             what is there isn't absent
 --     at_the_start         where a playback begins
 --     IsOn, IsOff, IsSought     what a move answers, and where the playback is then
 use Rattle.std.proofs.Common.{◌≡◌, ◌≢◌, ℕ, zero, suc, ◌+◌, ◌-◌, ◌<◌, ◌≤◌, Bool, true, false, cond, ◌==◌, IsFalse, List, [], ◌∷◌, ◌++◌, length, take, get_or, slice_get, Option, Some, None, IsSome, is_some, refl, sym, ap, subst, ◌∙◌, arith, le_refl, true≢false, IfSome, option_and_then}
