@@ -79,6 +79,7 @@ pub(crate) fn between(
     if ended.is_empty() && changed.is_empty() {
         return Ok(None);
     }
+    // For the proof: both are texts.
     let _ended_texts = ended.as_slice();
     let _changed_texts = changed.as_slice();
     let end = ended.to_keys(alloc)?;

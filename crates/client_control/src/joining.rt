@@ -111,6 +111,7 @@ fn if_short(alloc: Global, ops: Ops) -> Result<Option<Ops>, Memory>
     requires { AreNormal ops }
     ensures { IfOk result (λ o. IsFit (meanings ops) o) }
 {
+    // For the proof: they are as many as a delta may have.
     let _count = ops.len();
     if ops_len(alloc, &ops)? <= SUBMIT_BYTES {
         Ok(Some(ops))

@@ -144,6 +144,7 @@ fn append<D: Items>(
     ensures ok { IfOk result (λ op. IsAppended op (D.items manifest.now) found.now contents.now) }
     ensures refused { IfErr result (IsAppendFault (length (D.items manifest.now) + length contents.now)) }
 {
+    // For the proof: the manifest has no more items than a document may.
     let _total = manifest.len();
     let place = found.place + 1;
     let end = place + end_behind(manifest, place, found.reading);

@@ -225,6 +225,7 @@ impl History {
         ensures refused { IfErr result (IsRefused self.now delta.now) }
         ensures legal { IsLegal self.now.name self.now.deltas }
     {
+        // For the proof: the delta has operations, and the history is legal.
         let _len = len(delta);
         let _deltas = self.log.deltas();
         match next_step(alloc, &self.log, delta) {
@@ -241,6 +242,7 @@ impl History {
         ensures refused { IfErr result (IsRefused self.now delta.now) }
         ensures legal { IsLegal self.now.name self.now.deltas }
     {
+        // For the proof: the delta has operations, and the history is legal.
         let _len = len(delta);
         let _deltas = self.log.deltas();
         match step_of(&self.log, delta, bytes) {

@@ -188,6 +188,7 @@ impl Log {
     pub fn kept(&self, id: &DeltaId) -> Option<Kept>
         ensures { result ≡ kept id.now (start self.now.name) self.now.deltas }
     {
+        // For the proof: the history is legal.
         let _deltas = self.deltas();
         match self.place(id) {
             Some(place) => self.stands(place),

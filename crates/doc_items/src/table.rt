@@ -75,6 +75,7 @@ impl Table {
     pub fn same(&self, other: &Table) -> bool
         ensures { result ≡ same_values self.now other.now }
     {
+        // For the proof: the keys of both ascend.
         let _sorted = self.map.len();
         let _other_sorted = other.map.len();
         self.map == other.map

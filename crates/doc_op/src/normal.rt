@@ -17,6 +17,7 @@ impl DocOp {
         ensures normal { IfOk result (λ op. op ≡ normal_form (actions self.now)) }
         ensures actions { IfOk result (λ op. actions op ≡ actions self.now) }
     {
+        // For the proof: what an operation takes and gives, a document may have.
         let _input = self.input_len();
         let _output = self.output_len();
         let cursor = Cursor::new(alloc, self)?;

@@ -145,6 +145,7 @@ impl NormalBuilder {
         ensures output { output_len result ≤ max_count }
         ensures left { self.new ≡ [] }
     {
+        // For the proof: what a builder keeps of itself.
         let _ = &self.done;
         mem::replace(self, NormalBuilder::new(alloc))
     }

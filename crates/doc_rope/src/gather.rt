@@ -107,6 +107,7 @@ pub fn copy_tree(tree: &Tree, alloc: Global) -> Result<Tree, Memory>
     ensures sound { IfOk result (λ t. IsSound t) }
     ensures height { IfOk result (λ t. height t ≡ height tree.now) }
 {
+    // For the proof: how many items the tree has.
     let _whole = tree.count();
     match tree {
         Tree::Empty => Ok(Tree::Empty),

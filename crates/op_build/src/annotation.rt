@@ -74,6 +74,7 @@ fn annotate_items<D: Items>(
     ensures { OnOk result (out.new ≡ out.old
         ++ map (annotate_one key.now (option_copied value.entry)) (range (D.items document.now) from count)) }
 {
+    // For the proof: it has no more items than a document may.
     let _length = document.len();
     let mut place = from;
     let mut left = count;

@@ -103,6 +103,7 @@ fn erase_items<D: Items>(
     requires room { input_len out.old + count ≤ max_count }
     ensures { OnOk result (out.new ≡ out.old ++ map erase_one (range (D.items document.now) from count)) }
 {
+    // For the proof: it has no more items than a document may.
     let _length = document.len();
     let mut place = from;
     let mut left = count;

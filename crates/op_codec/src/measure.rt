@@ -41,6 +41,7 @@ impl Meter {
         ensures size { (n : ℕ) → self.old.size ≡ capped n → self.new.size ≡ capped (n + length (to_be_bytes w64 number)) }
         ensures short { number < 2 ^ 64 }
     {
+        // For the proof alone it matters which number it is: each has eight bytes.
         let _any = number;
         self.add(8);
     }

@@ -79,6 +79,7 @@ fn is_normal(alloc: Global, op: &DocOp, bytes: &[u8]) -> Result<bool, Memory>
     ensures { IfOk result (λ b. IsTrue b ↔ ((normal_form (actions op.now) ≡ op.now) × (length bytes.now < limit))) }
 {
     let normal = op.normal(alloc)?;
+    // For the proof: an operation is as a builder takes it.
     let _components = normal.as_slice();
     spells(alloc, &normal, bytes)
 }

@@ -49,6 +49,7 @@ pub fn write_normal(op: &DocOp, out: &mut Vec<u8>) -> Result<(), Memory>
     ensures spelling { OnOk result (IsSpelling op.now) }
     ensures same { OnErr result (out.new.items ≡ out.old.items) }
 {
+    // For the proof: an operation is as a builder takes it.
     let _components = op.as_slice();
     let mut meter = Meter::new();
     meter.add_components(op);

@@ -138,6 +138,7 @@ impl<'a> Edits<'a> {
         ensures closed { OnOk result (IsClosed self.new) }
         ensures step { OnOk result ((all more : List Action) → MakesAll all self.old more → MakesAll all self.new more) }
     {
+        // For the proof: the rope has no more items than a document may.
         let _whole = self.rope.len();
         let items = mem::replace(&mut self.build.items, Vec::new(alloc));
         let items = Insertion::new(alloc, items)?;

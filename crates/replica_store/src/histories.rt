@@ -17,6 +17,7 @@ pub(crate) fn kept(history: &History, id: &DeltaId) -> Option<Kept>
     ensures value { result ≡ kept id.now (start history.now.name) history.now.deltas }
     ensures has { has_id id.now history.now.deltas ≡ is_some result }
 {
+    // For the proof: the history is legal.
     let _deltas = history.deltas();
     history.kept(id)
 }
@@ -34,9 +35,11 @@ pub(crate) fn push_copy(
     ensures legal { IsLegal history.old.name history.old.deltas }
     ensures same { OnErr result (IsSameHistory history.old history.new) }
 {
+    // For the proof: the history is legal.
     let _before = history.deltas();
     let copy = delta.copy(alloc)?;
     history.push_applied(alloc, copy)?;
+    // For the proof: it is legal still.
     let _after = history.deltas();
     Ok(())
 }

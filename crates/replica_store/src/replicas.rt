@@ -62,6 +62,7 @@ impl Replicas {
     pub fn are_named(&self)
         ensures { AreNamed self.now }
     {
+        // For the proof: what replicas keep of themselves.
         let _copies = &self.copies;
     }
 

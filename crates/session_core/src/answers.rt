@@ -325,6 +325,7 @@ impl Session {
         ensures fits { is_snapshot (head_of history.now).count (head_of history.now).state ≡ true }
         ensures same { OnErr result (self.new ≡ self.old) }
     {
+        // For the proof: the history is legal.
         let _deltas = history.deltas();
         match from {
             Some(from) => Ok(Reply::Message(self.attach_hash(alloc, name, from, history)?)),

@@ -41,6 +41,7 @@ fn standing_in(copy: &Replica, id: &DeltaId) -> Standing
     ensures { IsStandingIn copy.now.history.name (world_of copy.now) id.now result }
 {
     let history = copy.history();
+    // For the proof: the history is legal.
     let _deltas = history.deltas();
     match history.kept(id) {
         Some(kept) => Standing::Kept(kept),

@@ -55,6 +55,7 @@ fn insert_all(alloc: Global, out: &mut NormalBuilder, rope: &Rope) -> Result<(),
     requires { out.old ≡ [] }
     ensures { OnOk result (out.new ≡ map Ins rope.now) }
 {
+    // For the proof: the rope has no more items than a document may.
     let _whole = rope.len();
     let mut reader = rope.reader();
     while reader.len() > 0 {

@@ -26,6 +26,7 @@ pub fn push_framed(session: &SessionName, message: &[u8], out: &mut Vec<u8>) -> 
     ensures { OnOk result ((m : Data) → message.now ≡ compact_text m → out.new.items ≡ out.old.items
         ++ (compact_text (line_data session.now m) ++ 10 ∷ [])) }
 {
+    // For the proof: the text is an id.
     let _id = session.text();
     push_around(session, message, out)
 }

@@ -143,6 +143,7 @@ impl CachedHistory {
         ensures same { OnErr result (IsSameHistory self.old self.new) }
         ensures legal { IsLegal self.old.name self.old.deltas }
     {
+        // For the proof: the history is legal.
         let _deltas = self.history.deltas();
         self.history.push_applied(alloc, delta)
     }

@@ -94,6 +94,7 @@ impl CachedHistory {
         ensures full { IfOk result (λ r. IsFullTold self.old submission.now time r) }
         ensures same { self.new ≡ self.old }
     {
+        // For the proof: the history is legal, and the submission has operations.
         let _deltas = self.history().deltas();
         let _len = submission.ops.len();
         if !has_room(self.history(), &submission.ops) {

@@ -41,6 +41,7 @@ fn test_author(history: &History, submission: &Submission) -> Tested
     ensures tested { IsTested history.now submission.now result }
     ensures early { IsEarlyTold result }
 {
+    // For the proof: the history is legal.
     let _deltas = history.deltas();
     match standing(history, &submission.id.author, &submission.ops) {
         None => Tested::Told(Verdict::NotParticipant),

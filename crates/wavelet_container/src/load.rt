@@ -58,6 +58,7 @@ fn push(alloc: Global, history: &mut History, bytes: &[u8]) -> Result<(), Record
     ensures legal { IsLegal history.old.name history.old.deltas }
     ensures same { OnErr result (IsSameHistory history.old history.new) }
 {
+    // For the proof: the history is legal.
     let _deltas = history.deltas();
     let delta = read(alloc, history, bytes)?;
     match history.push_read(alloc, delta, bytes) {

@@ -23,6 +23,7 @@ fn past(alloc: Global, ops: &Ops, earlier: &Ops) -> Result<Ops, Memory>
 fn memory(fault: WaveletFault) -> Memory
     requires { fault ≡ WaveletFault.Memory }
 {
+    // For the proof alone it is given.
     let _ = fault;
     AllocError
 }

@@ -60,6 +60,7 @@ impl CachedHistory {
         ensures is { result ≡ Ack at (head_of self.now).at }
         ensures legal { IsLegal self.now.name self.now.deltas }
     {
+        // For the proof: the history is legal.
         let _deltas = self.history().deltas();
         let to = self.history().head();
         Verdict::Ack { at, to }

@@ -109,6 +109,7 @@ impl<F: Folder> Shelf<F> {
         ensures deltas { HaveDeltas (hosted_of self.now) }
         ensures ascending { AreAscending (names_of (hosted_of self.now)) }
     {
+        // For the proof: what containers keep of themselves.
         let _containers = &self.containers;
     }
 }

@@ -83,6 +83,7 @@ impl Documents {
     pub fn balanced(&self)
         ensures { AreBalanced self.now }
     {
+        // For the proof: what documents keep of themselves.
         let _count = self.map.len();
     }
 
