@@ -1,4 +1,5 @@
 pub mod Agreement
+mod Others
 mod Passing
 mod Stored
 mod Turning

@@ -1,4 +1,5 @@
 pub mod Tables
 pub mod Keys
+pub mod Otherwise
 pub mod Turns
 pub mod Joints

@@ -3,10 +3,12 @@
 #![tactic(auto)]
 
 mod joint;
+mod running;
 mod table;
 mod touched;
 mod turn;
 
 pub use joint::Joint;
+pub use running::RunningChanges;
 pub use table::ChangeTable;
 pub use touched::Touched;

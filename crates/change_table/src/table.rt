@@ -1,4 +1,4 @@
-ghost use Rattle.std.specs.Prelude.{◌≡◌, true, IfOk, IfSome, OnOk, string_bytes};
+ghost use Rattle.std.specs.Prelude.{◌≡◌, true, IfOk, IfSome, OnOk, OnErr, string_bytes};
 ghost use Rattle.std.specs.Option.{option_map};
 ghost use Rattle.std.specs.FinMap as finite;
 ghost use Rattle.doc_items.specs.Changes.{none_running, after_boundary, key_change};
@@ -77,16 +77,17 @@ impl ChangeTable {
         }
     }
 
-    // Takes a key away.
-    fn remove(&mut self, key: &str)
+    /// Takes a key away.
+    pub(crate) fn remove(&mut self, key: &str)
         ensures { self.new ≡ finite.remove self.old key.now }
     {
         let _old = self.map.remove(key);
     }
 
-    // Sets the change of its key.
-    fn put(&mut self, alloc: Global, change: Change) -> Result<(), Memory>
-        ensures { OnOk result (self.new ≡ finite.insert self.old (encode_utf8_all change.key) (key_change change)) }
+    /// Sets the change of its key. After want of memory they are as they were.
+    pub(crate) fn put(&mut self, alloc: Global, change: Change) -> Result<(), Memory>
+        ensures ok { OnOk result (self.new ≡ finite.insert self.old (encode_utf8_all change.key) (key_change change)) }
+        ensures kept { OnErr result (self.new ≡ self.old) }
     {
         let key = String::from_str(alloc, change.key.as_str())?;
         let _old = self.map.insert(key, change)?;

@@ -54,6 +54,18 @@ impl Touched {
         }
     }
 
+    // These keys too, unless they may be any.
+    pub(crate) fn extend(&mut self, more: Vec<Text>) -> Result<(), Memory>
+        ensures { OnOk result (self.new ≡ option_map (λ keys. keys ++ more.items) self.old) }
+    {
+        let Some(keys) = &mut self.keys else {
+            return Ok(());
+        };
+        let mut more = more;
+        keys.append(&mut more)?;
+        Ok(())
+    }
+
     /// The keys of a boundary too. After want of memory a part of them may be noted.
     pub fn add(&mut self, alloc: Global, boundary: &Boundary) -> Result<(), Memory>
         ensures { OnOk result (self.new ≡ option_map (λ keys. keys ++ boundary_keys boundary.now) self.old) }

@@ -29,7 +29,7 @@ either_none true true x = refl
 either_none true false x = refl
 either_none false b x = refl
 
-abbrev among : Key → List (List ℕ) → Bool
+abbrev pub among : Key → List (List ℕ) → Bool
 among q ks = list_any (λ k. at q (encode_utf8_all k)) ks
 
 pub get_without : (ks : List (List ℕ)) (u : ChangeSet) (q : Key) → get (without u ks) q ≡ cond (among q ks) None (get u q)
@@ -42,7 +42,7 @@ among_keys : (q : Key) (es : List Entry) → Each IsText es → among q (map cha
 among_keys q [] h = refl
 among_keys q (e ∷ es) h = λ i. at q (encoded e.0 (key_text e.0 e.1 h.0) i) || among_keys q es h.1 i
 
-among_list : (q : Key) (m : ChangeSet) → AreTexts m → among q (key_list m) ≡ contains_key m q
+pub among_list : (q : Key) (m : ChangeSet) → AreTexts m → among q (key_list m) ≡ contains_key m q
 among_list q m t = among_keys q (entries m) (each_of IsText m (λ k c s. ap (is_text_at k) (sym s) ∙ t k)) ∙ sym (contains_key-keys m q)
 
 -- ---- what runs after

@@ -4,6 +4,7 @@
 --     shown_of_insertions, shown_of_deletions     what runs over the last of such runs
 --     noted                                  nothing started or ended since
 --     known_on                               changes start or end
+--     turned                                 the next run is of another kind
 use Rattle.std.proofs.Common.{◌≡◌, ℕ, ◌<◌, List, [], ◌++◌, length, map, refl, sym, ap, subst, ◌∙◌, Option, None, Some, option_map, option_and_then}
 use Rattle.std.specs.FinMap.{get}
 use Rattle.doc_items.specs.Changes.{KeyChange, ChangeSet, none_running}
@@ -14,7 +15,7 @@ use Rattle.change_view.specs.Rules.{one_second, one_inserted, one_deleted, combi
 use Rattle.change_view.specs.Sets.{joined, as_inserted, as_deleted}
 use Rattle.change_view.proofs.Sets.{joined_inserted, joined_deleted}
 use Rattle.change_table.specs.Keys.{AgreeBut, Adds, Touches}
-use Rattle.change_table.proofs.Agreement.{agree_more}
+use Rattle.change_table.proofs.Agreement.{agree_more, agree_more_back}
 use Rattle.doc_op.specs.declared.normal_output.Kind.{Kind}
 use Rattle.doc_op.specs.declared.normal_output.Kind.TheVariants.{Kept, Inserted, Deleted}
 use Rattle.doc_op.specs.Actions.{Action, insertion, deletion}
@@ -60,3 +61,10 @@ pub known_on : (t s : Option (List (List ℕ))) (k : Kind) (acts : List Action) 
 known_on None s k acts u w h a = subst (λ x. IsKnown x acts (shown_by k w)) (sym a) tt
 known_on (Some ks) None k acts u w h a = absurd a
 known_on (Some ks) (Some ls) k acts u w h a = agree_more ks ls (shown_last acts) (shown_by k u) (shown_by k w) h (adds_shown k ks ls u w a)
+
+-- the next run is of another kind
+pub turned : (t s r : Option (List (List ℕ))) (k l : Kind) (acts : List Action) (u : ChangeSet) → IsKnown t acts (shown_by k u) → Touches t u s (shown_by k u) → Touches s u r (shown_by l u) → IsKnown r acts (shown_by l u)
+turned None s r k l acts u h a b = subst (λ x. IsKnown x acts (shown_by l u)) (sym (subst (λ x. Touches x u r (shown_by l u)) a b)) tt
+turned (Some ks) None r k l acts u h a b = absurd a
+turned (Some ks) (Some ls) None k l acts u h a b = absurd b
+turned (Some ks) (Some ls) (Some ms) k l acts u h a b = agree_more ls ms (shown_last acts) u (shown_by l u) (agree_more_back ks ls (shown_last acts) (shown_by k u) u h a) b

@@ -7,7 +7,7 @@ ghost use Rattle.doc_op.specs.Actions.{actions, actions_from, component_actions}
 ghost use Rattle.doc_op.specs.Cursors.{IsSoundFrom, IsPast, head_text};
 
 use crate::{AttributePart, Component, ContentRun, DocOp, Head};
-use change_table::{ChangeTable, Touched};
+use change_table::{ChangeTable, RunningChanges, Touched};
 use doc_items::Memory;
 use std::alloc::Global;
 use std::marker::Model;
@@ -22,7 +22,7 @@ pub struct Cursor<'a> {
     // The number of actions of the first, and its characters.
     len: u64,
     text: Vec<char>,
-    running: ChangeTable,
+    running: RunningChanges,
 }
 
 impl<'a> Model for Cursor<'a> {
@@ -49,7 +49,7 @@ fn characters(text: &[char], used: u64) -> ContentRun<'_>
 // Goes past the boundaries at the front of an operation's components.
 fn past_boundaries<'a>(
     alloc: Global,
-    running: &mut ChangeTable,
+    running: &mut RunningChanges,
     touched: &mut Touched,
     components: &'a [Component],
 ) -> Result<&'a [Component], Memory>
@@ -118,7 +118,7 @@ impl<'a> Cursor<'a> {
             used: 0,
             len: 0,
             text: Vec::new(alloc),
-            running: ChangeTable::new(alloc),
+            running: RunningChanges::new(alloc),
         };
         cursor.enter(alloc, op.as_slice(), &mut Touched::any())?;
         Ok(cursor)
@@ -200,6 +200,13 @@ impl<'a> Cursor<'a> {
 
     /// The running changes.
     pub fn running(&self) -> &ChangeTable
+        ensures { result.now ≡ self.now.under }
+    {
+        self.running.table()
+    }
+
+    /// The same, with those that an insertion or a deletion shows otherwise.
+    pub(crate) fn running_changes(&self) -> &RunningChanges
         ensures { result.now ≡ self.now.under }
     {
         &self.running

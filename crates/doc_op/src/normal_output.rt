@@ -5,6 +5,7 @@ ghost use Rattle.doc_items.specs.Limits.{max_count};
 ghost use Rattle.doc_items.specs.Changes.{ChangeSet};
 ghost use Rattle.change_view.specs.Sets.{joined};
 ghost use Rattle.change_table.specs.Joints.{together};
+ghost use Rattle.change_table.specs.Keys.{Touches};
 ghost use Rattle.doc_op.specs.Actions.{Keep, keep, insertion, deletion, actions};
 ghost use Rattle.doc_op.specs.Cursors.{left};
 ghost use Rattle.doc_op.specs.Known.{shown_by, IsKnown, IsUpToDate};
@@ -14,7 +15,7 @@ ghost use Rattle.doc_op.specs.Runs.{contents, part_change, IsFitPart};
 ghost use Rattle.doc_op.specs.declared.normal_output.Kind.TheVariants.{Kept, Inserted, Deleted};
 
 use crate::{AttributePart, ContentRun, Cursor, DocOp, Head, NormalBuilder};
-use change_table::{ChangeTable, Joint, Touched};
+use change_table::{ChangeTable, Joint, RunningChanges, Touched};
 use change_view::{ChangeView, Rule};
 use doc_items::{Memory, Text};
 use std::alloc::Global;
@@ -50,9 +51,26 @@ impl Kind {
             rule: self.rule(),
         }
     }
+
+    // The keys at which a run of this kind shows something else than what runs are noted.
+    fn add_to(
+        self,
+        alloc: Global,
+        running: &RunningChanges,
+        touched: &mut Touched,
+    ) -> Result<(), Memory>
+        ensures { OnOk result (Touches touched.old running.now touched.new (shown_by self running.now)) }
+    {
+        match self {
+            Kind::Kept => Ok(()),
+            Kind::Inserted => running.add_inserted(alloc, touched),
+            Kind::Deleted => running.add_deleted(alloc, touched),
+        }
+    }
 }
 
-/// A builder that takes runs, the kind of the last, and the keys at which changes started or ended since.
+/// A builder that takes runs, a kind of runs, and the keys at which something else was shown over the last run than one of this kind
+/// would show now.
 pub(crate) struct NormalOutput {
     builder: NormalBuilder,
     kind: Kind,
@@ -67,14 +85,6 @@ impl Drop for NormalOutput {
             touched: _touched,
         } = self;
     }
-}
-
-// The keys at which other changes may be shown over a run of this kind than were over the last; None where that may be at any.
-fn keys_to_compare(touched: &Touched, last: Kind, kind: Kind) -> Option<&[Text]>
-    ensures keys { IfSome result (λ keys. touched.now ≡ Some keys.now) }
-    ensures kind { IfSome result (λ keys. last ≡ kind) }
-{
-    if last == kind { touched.keys() } else { None }
 }
 
 // So many items stay.
@@ -202,6 +212,20 @@ impl NormalOutput {
         self.touched.clear(alloc);
     }
 
+    // The run to come is of this kind. The keys are noted at which it shows something else than one of the last kind.
+    fn turn(&mut self, alloc: Global, running: &RunningChanges, kind: Kind) -> Result<(), Memory>
+        requires known { IsUpToDate self.old running.now }
+        ensures known { OnOk result (IsKnown self.new.touched self.new.builder (shown_by kind running.now)) }
+        ensures builder { self.new.builder ≡ self.old.builder }
+    {
+        if self.kind == kind {
+            return Ok(());
+        }
+        self.kind.add_to(alloc, running, &mut self.touched)?;
+        kind.add_to(alloc, running, &mut self.touched)?;
+        Ok(())
+    }
+
     /// Takes the run at which the cursor stands, and tells its length, which is 0 where nothing is left.
     pub fn add(&mut self, alloc: Global, cursor: &Cursor<'_>) -> Result<u64, Memory>
         requires known { IsUpToDate self.old cursor.now.under }
@@ -214,7 +238,8 @@ impl NormalOutput {
     {
         match cursor.head() {
             Head::Keep(count) => {
-                let keys = keys_to_compare(&self.touched, self.kind, Kind::Kept);
+                self.turn(alloc, cursor.running_changes(), Kind::Kept)?;
+                let keys = self.touched.keys();
                 keep_run(alloc, &mut self.builder, count, cursor.running(), keys)?;
                 self.note(alloc, Kind::Kept);
                 Ok(count)
@@ -225,13 +250,15 @@ impl NormalOutput {
                 Ok(1)
             }
             Head::Insert(run) => {
-                let keys = keys_to_compare(&self.touched, self.kind, Kind::Inserted);
+                self.turn(alloc, cursor.running_changes(), Kind::Inserted)?;
+                let keys = self.touched.keys();
                 insert_run(alloc, &mut self.builder, run, cursor.running(), keys)?;
                 self.note(alloc, Kind::Inserted);
                 Ok(run.len())
             }
             Head::Delete(run) => {
-                let keys = keys_to_compare(&self.touched, self.kind, Kind::Deleted);
+                self.turn(alloc, cursor.running_changes(), Kind::Deleted)?;
+                let keys = self.touched.keys();
                 delete_run(alloc, &mut self.builder, run, cursor.running(), keys)?;
                 self.note(alloc, Kind::Deleted);
                 Ok(run.len())

@@ -14,7 +14,7 @@ loop-key-preserved c =
 
 pub loop-change-preserved : goal.loop-change-preserved
 loop-change-preserved c =
-    c.in_ok-put.ensures ∙ ap (λ (d : Change). finite.insert c.loop-change.self (encode_utf8_all d.key) (key_change d)) c.in_ok-copy.ensures
+    c.in_ok-put.ensures.ok ∙ ap (λ (d : Change). finite.insert c.loop-change.self (encode_utf8_all d.key) (key_change d)) c.in_ok-copy.ensures
     ∙ ap (λ u. finite.insert u (encode_utf8_all c.change-item.result.key) (key_change c.change-item.result)) c.loop-change.invariant
     ∙ sym (with_changes_next c.loop-key.self c.as_slice-change-items.result.now c.loop-change.change-index c.change-item.result c.loop-change-test.true c.change-item.is)
 
