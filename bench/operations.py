@@ -7,7 +7,8 @@ PROGRAM is crates/bench_operations/out/bench_operations unless it is given (`rt 
 reads operations as bytes from standard input, so nothing but the work named is in its time and memory.
 
 A comb is an operation on a document of 1,000,000 items that retains and inserts in turn. The hostile operation has as many
-bytes as a delta may: 17,000 annotations run at once, and at each of 7,000 boundaries one of them ends. An edit inserts or
+bytes as a delta may: 17,000 annotations run at once, and at each of 7,000 boundaries one of them ends. In the one with runs in turn
+15,000 run, and retained items and insertions come in turn. An edit inserts or
 deletes one letter in the middle of a document in pieces; what is inverted inserts one there, or deletes one or 500. All letters
 are marked with one annotation, and then no more.
 """
@@ -72,6 +73,16 @@ def hostile():
     for number in range(BOUNDARIES - 2):
         parts += [retain(1), boundary([number], [])]
     parts += [retain(1), boundary(range(BOUNDARIES - 2, KEYS), [])]
+    return operation(parts)
+
+
+def in_turn(keys=15_000, boundaries=6_500):
+    """Retained items and insertions in turn, under annotations that both show alike; each boundary ends one of them."""
+    starts = b"".join(text(key(number)) + value(None) + value("") for number in range(keys))
+    parts = [b"\x0a" + struct.pack(">II", 0, keys) + starts]
+    for number in range(boundaries):
+        parts += [retain(1), b"\x02" + text("x"), boundary([number], [])]
+    parts += [retain(1), boundary(range(boundaries, keys), [])]
     return operation(parts)
 
 
@@ -140,6 +151,9 @@ def main():
     made = hostile()
     for work in ("read", "write", "compose", "transform"):
         show("hostile, %d bytes" % len(made), work, made, made, 1)
+    made = in_turn()
+    for work in ("read", "write"):
+        show("in turn, %d bytes" % len(made), work, made, made, 1)
 
 
 HERE = os.path.dirname(os.path.abspath(__file__))
