@@ -1,7 +1,7 @@
 -- What two tables show together, and the boundary to it.
 --     together j         the changes that the rule makes of both
 --     IsTurnTo b v w     the changes v and w differ, and the boundary leads from v to w
---     IsTurn t v w       so it does, or there is none, and the changes are the same
+--     IsTurn t v w       t leads from v to w; or it is None, and they are the same
 use Rattle.std.specs.Prelude.{◌≡◌, true, false, Option, None, Some}
 use Rattle.doc_items.specs.Changes.{ChangeSet, Fits, after_boundary}
 use Rattle.doc_items.specs.declared.change.Boundary.{Boundary}

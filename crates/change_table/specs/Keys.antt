@@ -4,7 +4,7 @@
 --     AgreeBut ks v w      the two sets have the same at each key but these
 --     PassBut ks t u w     the two pass the test at each key but these
 --     Adds ks ls v w       ls are the keys ks and more, but at which w has what v had
---     Touches t v u w      so for keys that may be any
+--     Touches t v u w      u are the keys t and more, but at which w has what v had; where t may be any key, so may u
 use Rattle.std.specs.Prelude.{◌≡◌, ℕ, Bool, true, false, List, ◌++◌, map, Option, None, Some}
 use Rattle.std.specs.List.{list_any}
 use Rattle.std.specs.Str.{encode_utf8_all}

@@ -2,7 +2,7 @@
 --     with_change u q c   the set with this change of the key; None leaves it as it is
 --     HasAmong ks v w     w has what v has at these keys, and nothing elsewhere
 --     Between b e c       the boundary ends the keys of e and changes those of c, of which there are some, and all are texts
---     IsBetween t e c     so it does, or there is none, and both are empty
+--     IsBetween t e c     t is such a boundary; or it is None, and e and c are empty
 use Rattle.std.specs.Prelude.{◌≡◌, ℕ, List, cond, false, Option, None, Some, ◌&&◌, ◌==◌}
 use Rattle.std.specs.FinMap.{get, insert, len}
 use Rattle.doc_items.specs.Maps.{Key}

@@ -31,7 +31,7 @@ impl<'a> Joint<'a> {
             .combine(key, self.first.at(key), self.second.at(key))
     }
 
-    /// Whether the two tables pass the test at each key, which they do at each but these.
+    /// Whether the two tables pass the test at each key. They do at each but these, which alone are looked at.
     pub fn passes(self, test: Test, keys: &[Text]) -> bool
         requires { PassBut keys.now test self.first.now self.second.now }
         ensures { result ≡ passes test self.entry.first.now self.entry.second.now }

@@ -1,5 +1,5 @@
-//! Changes in a table by key, and the boundary to the changes that two tables show together: only the keys are looked at at which
-//! something may differ, however many run.
+//! Changes in a table by key, and the boundary to the changes that two tables show together: however many run, only the keys where
+//! something may differ are looked at.
 #![tactic(auto)]
 
 mod joint;

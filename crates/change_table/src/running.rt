@@ -16,7 +16,7 @@ use std::marker::Model;
 /// The changes that run at a place, seen as the change set, with those of them that an insertion or a deletion shows otherwise.
 pub struct RunningChanges {
     all: ChangeTable,
-    // An insertion shows what isn't from absent to a value otherwise, and a deletion what isn't to absent.
+    // An insertion shows a change otherwise that isn't from absent to a value, and a deletion one that isn't to absent.
     inserted: ChangeTable,
     deleted: ChangeTable,
 }
@@ -108,7 +108,7 @@ impl RunningChanges {
         add_keys(alloc, &self.inserted, touched)
     }
 
-    /// The same for a deletion.
+    /// Notes the keys at which a deletion shows something else than what runs. After want of memory a part of them may be noted.
     pub fn add_deleted(&self, alloc: Global, touched: &mut Touched) -> Result<(), Memory>
         ensures { OnOk result (Touches touched.old self.now touched.new (as_deleted self.now)) }
     {

@@ -67,7 +67,7 @@ impl ChangeTable {
         Ok(())
     }
 
-    /// The change too, if there is one.
+    /// Adds the change, if there is one.
     pub(crate) fn add(&mut self, alloc: Global, change: Option<ChangeRef<'_>>) -> Result<(), Memory>
         ensures { OnOk result (self.new ≡ with_entry self.old (option_map entry_of change.entry)) }
     {

@@ -54,7 +54,7 @@ impl Touched {
         }
     }
 
-    // These keys too, unless they may be any.
+    // Adds these keys, unless the keys may be any.
     pub(crate) fn extend(&mut self, more: Vec<Text>) -> Result<(), Memory>
         ensures { OnOk result (self.new ≡ option_map (λ keys. keys ++ more.items) self.old) }
     {
@@ -66,7 +66,7 @@ impl Touched {
         Ok(())
     }
 
-    /// The keys of a boundary too. After want of memory a part of them may be noted.
+    /// Adds the keys of a boundary, unless the keys may be any. After want of memory a part of them may be noted.
     pub fn add(&mut self, alloc: Global, boundary: &Boundary) -> Result<(), Memory>
         ensures { OnOk result (self.new ≡ option_map (λ keys. keys ++ boundary_keys boundary.now) self.old) }
     {

@@ -1,5 +1,5 @@
 -- The codes of a change and of a change set.
---     key_change_code, change_set_code
+--     key_change_code, change_set_code      the code of the change of a key, and that of a change set
 use Rattle.std.specs.Prelude.{refl, Option}
 use Rattle.std.specs.Coded.{Coded, code_by, coded×, coded_ℕ, coded_list, coded_option}
 use Rattle.std.specs.FinMap.{code}

@@ -3,11 +3,11 @@
 --     of_change c           what an owned change means
 --     view_of cs            the change set of a list of borrowed changes
 --     IsView cs             their keys rise, and all are texts
---     rises, all_texts      of entries: their keys rise;  all are texts
+--     rises, all_texts      the keys of entries rise;  all their keys and values are texts
 --     Meeting, pairs        the keys of two lists in order, each with what either list has there
---     made f ps             f of the two at each key
---     all_pass p ps         p of the two at each key
---     inserted_entries es   those with a new value, as absent before
+--     made f ps             what f makes of the two at each key
+--     all_pass p ps         the two pass p at each key
+--     inserted_entries es   the entries with a new value, as absent before
 use Rattle.std.specs.Prelude.{◌≡◌, Bool, true, ◌&&◌, List, [], ◌∷◌, map, Option, None, Some}
 use Rattle.std.specs.Option.{option_copied}
 use Rattle.std.specs.Ordering.{nat_cmp}

@@ -1,6 +1,6 @@
 -- Change sets whose keys and values are texts, and how components write them.
 --     is_text_change k c    the key and the values of the change are UTF-8
---     AreTexts u            all keys and values of a change set are
+--     AreTexts u            all keys and values of a change set are UTF-8
 --     change_list u         the changes, in byte order of their keys
 --     key_list u            the keys, in byte order
 --     boundary_between u w  where u runs before and w after: the keys of u that w lacks end, and those of w change that u hasn't so

@@ -100,7 +100,7 @@ impl<'a> ChangeView<'a> {
         meet::passes(self.list.as_slice(), other.list.as_slice(), test)
     }
 
-    /// Old and new exchanged.
+    /// The changes with old and new values exchanged.
     pub fn turned(&self, alloc: Global) -> Result<ChangeView<'a>, Memory>
         ensures { IfOk result (λ v. v ≡ back self.now) }
     {

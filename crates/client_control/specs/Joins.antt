@@ -3,7 +3,7 @@
 --     fit r                   what is compacted, where it is few and short enough for a submission
 --     gather_joined acts rest     the acts joined with as many of the entries as fit, and those that are left
 --     IsCompacted ops o       the operations compacted, in normal form
---     IsJoined acts more o    those that are compacted already with others after them
+--     IsJoining acts more o   those that are compacted already with others after them
 --     IsFit acts o            the operations of these acts, where they are few and short enough
 --     IsGathered first rest g     how many of the others are joined with the first entry
 use Rattle.std.specs.Prelude.{◌≡◌, ◌≤◌, ◌<◌, List, [], ◌∷◌, length, map, drop, Option, Some, None, Result, Ok, option_and_then}

@@ -2,7 +2,7 @@
 --     IsPair ls es p          both lists past each other, in normal form; the earlier one structured
 --     AreStructured es        each entry's operations on documents are structured
 --     IsRebased es acts p     the entries past the acts, and what is left of these
---     IsOver g q acts p       the flight and the entries so
+--     IsOver g q acts p       the flight and the entries past the acts, and what is left of these
 --     IsInvalid s acts e      why acts aren't valid
 --     IsTried s acts full short e   why an edit is refused at the screen s
 --     IsComparison g d m      what a delta with the flight's id is to it

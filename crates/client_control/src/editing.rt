@@ -27,7 +27,7 @@ impl Follower {
         }
     }
 
-    /// The screen is kept, so that `shown` lends it and an edit costs by its operations.
+    /// Keeps the screen, so that `shown` lends it and an edit costs by its operations.
     pub fn keep_screen(&mut self, alloc: Global) -> Result<(), Memory>
         ensures { self.new ≡ self.old }
     {
@@ -36,7 +36,7 @@ impl Follower {
         Ok(())
     }
 
-    /// The operations, in normal form, are one more entry after what is pending. Refusals, in this order: `OpInvalid` with the first
+    /// Puts the operations, in normal form, as one more entry after what is pending. Refusals, in this order: `OpInvalid` with the first
     /// operation that isn't valid where the ones before it lead from the screen; `EditFull` exactly where what is pending would
     /// insert more items than the deltas of a history may; `TooBig` exactly where the operations have more bytes than
     /// `SUBMIT_BYTES`. After a refusal, `Memory` included, the follower is as it was.
@@ -48,7 +48,7 @@ impl Follower {
         self.edit_within(alloc, ops, MAX_INSERTED)
     }
 
-    /// The same with this bound, of at most 2^40, in the place of a history's: `EditFull` exactly where what is pending would insert
+    /// As `edit`, with this bound, of at most 2^40, in the place of a history's: `EditFull` exactly where what is pending would insert
     /// more items. A test reaches it with a small one.
     pub fn edit_within(&mut self, alloc: Global, ops: Ops, most: u64) -> Result<(), FollowerFault>
         requires { most ≤ max_inserted }

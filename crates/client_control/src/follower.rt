@@ -75,7 +75,7 @@ impl Model for Follower {
 }
 
 impl Follower {
-    /// At the start of the history, with nothing pending. The client's key is at most 2^53 - 1.
+    /// A follower at the start of the history, with nothing pending. The client's key is at most 2^53 - 1.
     pub fn new(alloc: Global, name: WaveletName, user: Address, client: u64) -> Follower
         requires { client ≤ max_count }
         ensures { follower_of result ≡ new_follower name (record { author = user; client = client }) }

@@ -1,5 +1,5 @@
 -- The law of chains: a wavelet's chain of undo stands at its follower's screen, and what takes edits back is valid in turn there.
---     IsFollowed s            so it is, and the follower is sound
+--     IsFollowed s            this holds of a wavelet, and its follower is sound
 --     NewIsFollowed, EditIsFollowed, UndoIsFollowed, DropIsFollowed, SubmitIsFollowed, RefusalIsFollowed, SnapshotIsFollowed,
 --         UpdateIsFollowed
 --                             each step keeps that

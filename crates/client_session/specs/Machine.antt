@@ -4,7 +4,7 @@
 --     new_machine u k         none yet
 --     place_of n ss           the place of the wavelet of a name
 --     on_place i g r m        what g makes of the wavelet at a place; r where there is none
---     on_current              so of the current one
+--     on_current g r m        what g makes of the current wavelet; r where there is none
 --     opened m n, created m n     the wavelet of a name becomes the current one
 --     IsHere s c r            what a command does to the current wavelet
 --     IsDone m c r            what a command itself does
@@ -13,7 +13,7 @@
 --     IsCutShort m c n        what a command may leave where memory gave out
 --     name_in x, told_by u s x     the wavelet that a message is about, and what it does there
 --     taken_by m x            what a message itself does
---     received m x            all that it does
+--     received m x            all that a message does, its submission included
 --     greeted m               what is sent on a new link
 --     is_waiting m            the current wavelet isn't settled, or an opening of it is unanswered
 use Rattle.std.specs.Prelude.{◌≡◌, ◌⊎◌, ℕ, ◌+◌, ◌==◌, Bool, true, false, cond, not, ◌||◌, ◌&&◌, nat_le, List, [], ◌∷◌, ◌++◌, map, length, Option, Some, None, slice_get, slice_set}

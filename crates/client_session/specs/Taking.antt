@@ -2,7 +2,7 @@
 --     Told                    the wavelet, with what is then sent and printed
 --     open_at f               the opening at the follower's version
 --     ask s                   the wavelet is opened again at its version, once for each version
---     ask_anyway s            so each time
+--     ask_anyway s            the wavelet is opened again at its version, however often it was before
 --     reopen s                it is opened on a new link: without a version where nothing is pending, and else at its version, with the
 --                             submission in flight as it was first taken
 --     ack_seat s              an acknowledgement: the first one on a wavelet that was created here opens it at its beginning

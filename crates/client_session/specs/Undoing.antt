@@ -1,13 +1,13 @@
 -- The law of undo, of a client's machine.
 --     IsUndoable s              a wavelet's chain follows its screen, has at most a hundred entries, and none that inserts more
---     AreUndoable m             so it is of each wavelet of a machine
+--     AreUndoable m             each wavelet of a machine is undoable
 --     IsFit s x                 a snapshot is of a whole state; a delta that has the flight's id has its acts
 --     BeginIsUndoable, LineIsUndoable, MessageIsUndoable, LinkIsUndoable      each step of a client keeps that
 --     ChangePasses              another's delta by which a follower advances passes what is pending and then the chain's entries, as the
 --                               chain's own definition says: no new chain begins
 --     IsUndone s es r           what comes of an undo where these are the entries: there is nothing to undo; or the first entry is
 --                               edited into the follower, or refused by 22 or 23, and all is as it was
---     UndoIsSaid                so it is at a wavelet that follows
+--     UndoIsSaid                an undo at a wavelet whose chain follows its screen comes to this
 --     IsDoneLine m c n          a line of this command, of which nothing is said
 --     AreEdits m es n, AreUndos m i n      such lines: edits of the current wavelet; so many undos
 --     screen_here m             what the screen of the current wavelet shows

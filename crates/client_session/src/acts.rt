@@ -121,7 +121,7 @@ impl Acts {
         }
     }
 
-    /// The submission is handed in after what is sent, and what is said of it is told, if it is to be. The error is want of memory.
+    /// The submission is handed in after what is sent, and what is said of it is printed where `tells`. The error is want of memory.
     pub(crate) fn with_sent(self, handed: Handed, tells: bool) -> Result<Acts, Memory>
         ensures { IfOk result (λ a. a ≡ with_sent tells self handed) }
     {

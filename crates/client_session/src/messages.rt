@@ -25,7 +25,7 @@ impl Model for Messages {
 }
 
 impl Messages {
-    /// None.
+    /// No messages.
     pub(crate) fn new(alloc: Global) -> Messages
         ensures { result ≡ [] }
     {

@@ -140,7 +140,7 @@ impl Said {
 
 // ---- what is said of a refusal
 
-/// Of a call of the follower. The error is want of memory.
+/// What is said of a call of the follower. The error is want of memory.
 pub(crate) fn fault_said(fault: FollowerFault) -> Result<Said, Memory>
     ensures { IfOk result (IsFaultSaid fault) }
 {
@@ -153,7 +153,7 @@ pub(crate) fn fault_said(fault: FollowerFault) -> Result<Said, Memory>
     }
 }
 
-/// Of a submission.
+/// What is said of a submission.
 pub(crate) fn verdict_said(verdict: &Verdict) -> Said
     ensures { result ≡ verdict_said verdict.now }
 {
@@ -168,7 +168,7 @@ pub(crate) fn verdict_said(verdict: &Verdict) -> Said
     }
 }
 
-/// Of an opening; nothing where the server's snapshot would be too large.
+/// What is said of an opening; nothing where the server's snapshot would be too large.
 pub(crate) fn unopened_said(reason: UnopenedReason) -> Said
     ensures { result ≡ unopened_said reason }
 {
@@ -180,7 +180,7 @@ pub(crate) fn unopened_said(reason: UnopenedReason) -> Said
     }
 }
 
-/// Of a wavelet that is open no more.
+/// What is said of a wavelet that is open no more.
 pub(crate) fn closed_said(reason: ClosedReason) -> Said
     ensures { result ≡ closed_said reason }
 {
@@ -190,7 +190,7 @@ pub(crate) fn closed_said(reason: ClosedReason) -> Said
     }
 }
 
-/// Of a message.
+/// What is said of a message.
 pub(crate) fn bad_said(reason: BadReason) -> Said
     ensures { result ≡ bad_said reason }
 {

@@ -40,7 +40,7 @@ impl Drop for Seat {
 }
 
 impl Seat {
-    /// With a new follower of the user.
+    /// A wavelet of a run, with a new follower of the user.
     pub fn new(
         alloc: Global,
         name: WaveletName,

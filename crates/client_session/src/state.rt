@@ -141,7 +141,7 @@ impl ClientState {
         }
     }
 
-    // After a step: the submission.
+    // What is done after a step: a submission of the current wavelet is taken.
     fn finish(&mut self, alloc: Global, acts: Acts, tells: bool) -> Result<Acts, Memory>
         ensures ok { IfOk result (λ a. (machine_of self.new, a) ≡ finished tells (machine_of self.old, acts)) }
         ensures err { OnErr result (IsHalted (machine_of self.old) (machine_of self.new)) }
@@ -152,7 +152,7 @@ impl ClientState {
 
     // ---- another wavelet
 
-    // With a new follower of the user.
+    // A wavelet of the run, with a new follower of the user.
     fn new_seat(&self, alloc: Global, name: &WaveletName, created: bool) -> Result<Seat, Memory>
         ensures { IfOk result (λ s. seat_of s ≡ new_seat name.now (client_of (machine_of self.now)) created) }
     {
@@ -161,7 +161,7 @@ impl ClientState {
         Ok(Seat::new(alloc, name, user, &self.client, created))
     }
 
-    // One wavelet more, which is the current one.
+    // Adds a wavelet, which becomes the current one.
     fn seat(&mut self, seat: Seat) -> Result<(), Memory>
         ensures ok { OnOk result (machine_of self.new ≡ with_seat (machine_of self.old) (seat_of seat)) }
         ensures same { OnErr result (machine_of self.new ≡ machine_of self.old) }
@@ -213,7 +213,7 @@ impl ClientState {
         }
     }
 
-    // So where there is one of the name, and else a new one whose first edit adds the user.
+    // The same where there is one of the name, and else with a new one whose first edit adds the user.
     fn create(&mut self, alloc: Global, name: &WaveletName) -> Result<Acts, Memory>
         ensures ok { IfOk result (λ a. (machine_of self.new, a) ≡ created (machine_of self.old) name.now) }
         ensures same { OnErr result (machine_of self.new ≡ machine_of self.old) }

@@ -90,7 +90,7 @@ module _ (tells : Bool) where
     pub on : IsOn o f m lines es held
     pub front : (rest : List ℕ) → IsPrefix lines (input_lines (read ++ rest))
 
-  -- so while the run goes on, with this line open
+  -- these bytes were read and the run goes on, with this line open
   pub record IsReading (o : Origin) (m : MachineOf) (read line : List ℕ) (es : List LinkEvent) (held : Option (List ℕ)) : Type 0 where
     pub lines : List (List ℕ)
     pub on : IsOn o (in_phase Reading) m lines es held

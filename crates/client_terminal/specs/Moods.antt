@@ -3,7 +3,7 @@
 --     ends_closed d    the server closed the link
 --     after_run a      as a line asks
 --     went_on b        it looks at the link, or the server closed it
---     is_closed l      a look told the server's close
+--     is_closed l      a look found that the server closed the link
 use Rattle.std.specs.Prelude.{Bool, true, false}
 use Rattle.client_terminal.specs.Runs.{RunOf, Reading, Left, Closed, in_phase, looked, synced}
 use Rattle.client_terminal.specs.declared.mood.After.{After}

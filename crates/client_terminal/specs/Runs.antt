@@ -9,12 +9,12 @@
 --     acted r a           what the machine did is sent and printed
 --     looked r j          it goes on looking, or reads the next line
 --     synced r i j        it goes on waiting, while there is something to wait for and it may
---     lined r a           after a line
+--     lined r a           the run after a line, by what the machine did
 --     reply_of m b        what the machine makes of the bytes of a message; those that are no message are passed over
---     heard r b           after a message
+--     heard r b           the run after the bytes of a message
 --     begun user key      at the start: the client said who it is
 --     IsStep p r st s     the step leads from one run to another, in a phase
---     IsWalk r sts s      so do steps, the newest first
+--     IsWalk r sts s      the steps, the newest first, lead from one run to another
 --     lines_in sts        the lines that were read
 use Rattle.std.specs.Prelude.{◌≡◌, ℕ, ◌+◌, ◌==◌, ◌||◌, cond, List, [], ◌∷◌, ◌++◌, map, Result, Ok, Err, codes}
 use Rattle.doc_items.specs.Maps.{Key}

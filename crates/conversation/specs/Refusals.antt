@@ -3,7 +3,7 @@
 --     IsAppended op items f cs  the operation inserts the contents at the end of the element that begins at f
 --     IsTaken, IsMissing, IsTakenFault, IsAppendFault     why an edit can't be made
 --     next_len t items          how many items one blip more takes
---     IsReplyRefused, IsNextRefused, IsDeleteRefused     in the order in which it is told
+--     IsReplyRefused, IsNextRefused, IsDeleteRefused     why each of the edits is refused, the first reason first
 use Rattle.std.specs.Prelude.{◌≡◌, ◌⊎◌, ℕ, ◌+◌, ◌<◌, Bool, true, false, cond, List, [], ◌∷◌, length, drop, Option, Some}
 use Rattle.doc_items.specs.Limits.{max_count}
 use Rattle.doc_items.specs.Maps.{Key}
@@ -54,7 +54,7 @@ IsAppendFault n (TakenId id) = ⊥
 IsAppendFault n CountTooLarge = max_count < n
 IsAppendFault n Memory = Unit {0}
 
--- two new ids, of which the first that is taken is told
+-- two new ids, of which the fault names the first that is taken
 abbrev pub IsTaken : List Node → Key → Key → Key → Type 0
 IsTaken ns t n id = ((id ≡ t) × (is_taken t ns ≡ true)) ⊎
     ((id ≡ n) × (is_taken t ns ≡ false) × ((is_taken n ns ≡ true) ⊎ (named n t ≡ true)))

@@ -12,7 +12,7 @@
 --     part_at d m, node_at d m what stands at this depth
 --     shown r i                the node that an item adds
 --     tree r items             the nodes of the items
---     after r items           how far the manifest is read after them
+--     behind r items          how far the manifest is read after them
 --     thread_tree items        the tree of a manifest
 use Rattle.std.specs.Prelude.{ℕ, zero, suc, ◌+◌, ◌-◌, ◌%◌, ◌==◌, Bool, true, false, cond, ◌&&◌, not, List, [], ◌∷◌, ◌++◌, Some, is_some, unwrap_or, codes}
 use Rattle.std.specs.FinMap.{get}

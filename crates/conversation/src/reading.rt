@@ -61,7 +61,7 @@ impl Reading {
         is_node(self.inside - 1, kind, attributes)
     }
 
-    // Behind a start.
+    // Goes past a start.
     fn pass_start(&mut self, kind: &Text, attributes: &Attributes)
         requires inside { self.old.inside + 1 < 2 ^ 64 }
         requires passed { self.old.passed + 1 < 2 ^ 64 }
@@ -75,7 +75,7 @@ impl Reading {
         }
     }
 
-    // Behind an end.
+    // Goes past an end.
     fn pass_end(&mut self)
         ensures { self.new ≡ step_content self.old End }
     {
@@ -86,7 +86,7 @@ impl Reading {
         }
     }
 
-    /// Behind one more item.
+    /// Goes past one more item.
     pub fn pass(&mut self, item: &Item)
         requires inside { self.old.inside + 1 < 2 ^ 64 }
         requires passed { self.old.passed + 1 < 2 ^ 64 }

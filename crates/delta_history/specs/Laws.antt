@@ -2,20 +2,20 @@
 --     PointIs, PointThere     a version names one point: the one that the history leads through there
 --     PassIs                  two versions name one pass
 --     GoesOn                  a legal history with a delta that may come next is legal
---     Begins                  so is each beginning of one, and its points are points of the whole
+--     Begins                  each beginning of a legal history is legal, and its points are points of the whole
 --     IsKept name ds i k      a delta of the history has the id, and it stands there
 --     KeptIs, KeptThere       what is kept for an id; it is there exactly where a delta has the id
 --     IsSpelled as            acts have operations in normal form, of which they are the acts
---     EndsSpelled name ds s   so have those that the operations of a submission become on their way to the head
+--     EndsSpelled name ds s   the acts that the operations of a submission become on their way to the head are spelled
 --     IsAdded, IsJudged       what a verdict says: an acknowledgement is that of a kept delta, or comes with the delta by which
 --                             the history grows, which may come next
---     JudgedIs                so each verdict on a legal history
+--     JudgedIs                each verdict on a legal history says so
 --     IsHead, IsStanding      where the head is, and what the author of a submission may do there
 --     IsBroken p acts d       a bound is broken: of versions, of items inserted, of bytes
 --     IsInvalid, IsFull       the operations aren't valid where they were made; they are, and the delta that they become at the head
 --                             breaks a bound
 --     IsCaused name ds s t v  a verdict that adds nothing has its cause
---     CauseIs                 so has each on a legal history
+--     CauseIs                 each such verdict on a legal history has its cause
 use Rattle.std.specs.Prelude.{◌≡◌, ◌≢◌, ◌⊎◌, ◌+◌, ◌<◌, ℕ, true, false, List, [], ◌∷◌, ◌++◌, length, Option, Some, None}
 use Rattle.doc_items.specs.Limits.{max_count}
 use Rattle.wave_base.specs.Versions.{IdOf, VersionAt}

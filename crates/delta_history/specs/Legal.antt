@@ -7,7 +7,7 @@
 --     may_write r                 operations may be submitted
 --     IsNext name ds d            the delta may come next in the history
 --     IsLegalFrom name before ds  each of the deltas may come next, after those before
---     IsLegal name ds             so from the start on
+--     IsLegal name ds             each of the deltas may come next, from the start of the history on
 use Rattle.std.specs.Prelude.{◌≡◌, ◌≤◌, ℕ, Bool, true, false, cond, ◌||◌, List, [], ◌∷◌, ◌++◌, length, Option, Some, None}
 use Rattle.doc_items.specs.Limits.{max_count}
 use Rattle.doc_items.specs.Maps.{Key, same_text}

@@ -1,7 +1,7 @@
 -- Acts on their way through a history.
 --     all_acts ds                        the acts of each delta
 --     pass_to p e acts ds                acts as later ones through the deltas from the point p on, up to version e
---     pass_between name ds b e acts      so from version b up to version e; None where one of the two is no delta end, or where two
+--     pass_between name ds b e acts      acts through the deltas from version b up to e; None where b or e is no delta end, or where two
 --                                        acts have no transform
 --     IsPassed name ds b e acts acts'    acts that were made at one hashed version, passed through the deltas up to another
 use Rattle.std.specs.Prelude.{◌≡◌, ℕ, ◌==◌, cond, List, [], ◌∷◌, ◌++◌, map, Option, Some, None, option_and_then}

@@ -7,9 +7,9 @@
 --     stands_at head ds k     where the delta at a place stands: its version, and the hashed version after it
 --     Places                  a map from ids, by author and then by client and number, to places
 --     id_at author n          the id of this author, client and number
---     place_in m i            the place there
---     IsIndex m n ds          it has the places of the first n deltas
---     IsPut m m' i k          it has this place for the id, and the others as before
+--     place_in m i            the place of an id in the map
+--     IsIndex m n ds          the map has the places of the first n deltas
+--     IsPut m m' i k          the map m' has this place for the id, and the others as m has them
 use Rattle.std.specs.Prelude.{◌≡◌, ◌≤◌, ℕ, suc, ◌==◌, cond, nat_lt, List, [], ◌∷◌, slice_get, take, Option, Some, None, option_and_then}
 use Rattle.std.specs.Option.{option_map}
 use Rattle.std.specs.declared.cmp.Ordering.{Ordering}

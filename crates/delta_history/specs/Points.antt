@@ -3,7 +3,7 @@
 --     start name             where the history of a wavelet of this name starts
 --     acts_of d              the acts of a delta
 --     point_behind p d s     the point after a delta that was applied at p, where s is the state after it
---     next_point p d         so, where the acts of the delta are valid at p
+--     next_point p d         the point after the delta, where its acts are valid at p
 --     replay p ds            the point after deltas in turn
 --     run_all s ds           the state after them alone, from a state on
 --     cut p v ds             the point at version v on the way from p through the deltas, and those after it; None where no delta

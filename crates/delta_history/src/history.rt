@@ -277,7 +277,7 @@ impl History {
         Ok(state)
     }
 
-    // The delta, which leads to this step but for its state, is after the others. It is refused where its operations aren't valid.
+    // Puts the delta, which leads to this step but for its state, after the others. It is refused where its operations aren't valid.
     fn push_step(
         &mut self,
         alloc: Global,
@@ -302,7 +302,7 @@ impl History {
         }
     }
 
-    /// The delta is after the others. Refusals: `NotNext` exactly where it doesn't start at the head; then `NotLegal` exactly where
+    /// Puts the delta after the others. Refusals: `NotNext` exactly where it doesn't start at the head; then `NotLegal` exactly where
     /// the longer history wouldn't be legal. After a refusal, `Memory` included, all but the room is as it was.
     pub fn push_applied(&mut self, alloc: Global, delta: AppliedDelta) -> Result<(), HistoryFault>
         ensures ok { OnOk result (IsGrown self.old delta self.new) }
@@ -313,7 +313,7 @@ impl History {
         self.push_step(alloc, delta, step)
     }
 
-    /// The delta, which was read from these bytes, is after the others. Its bytes are hashed as they are; outcomes as those of
+    /// Puts the delta, which was read from these bytes, after the others. Its bytes are hashed as they are; the outcomes are those of
     /// `push_applied`.
     pub fn push_read(
         &mut self,
@@ -355,7 +355,7 @@ impl History {
         }
     }
 
-    /// The prepared delta, which may come next, is after the others.
+    /// Puts the prepared delta, which may come next, after the others.
     pub fn commit(&mut self, prepared: Prepared)
         requires ready { IsReady self.old prepared.delta prepared.after }
         requires room { 0 < self.old.spare }
@@ -382,7 +382,7 @@ fn len(delta: &AppliedDelta) -> u64
     delta.ops.len()
 }
 
-// The state is after the operations. Refusals: `NotLegal` exactly where they aren't valid. After one, the state is as it was.
+// Applies the operations to the state. Refusals: `NotLegal` exactly where they aren't valid. After one, the state is as it was.
 fn applied(alloc: Global, state: &mut WaveletState, ops: &Ops) -> Result<(), HistoryFault>
     ensures ok { OnOk result (run state.old (meanings ops.now) ≡ Some state.new) }
     ensures refused { IfErr result (IsInvalid state.old (meanings ops.now)) }

@@ -196,7 +196,7 @@ impl Log {
         }
     }
 
-    // One delta more is in the index, if it lacks one.
+    // Puts one more delta into the index, if it lacks one.
     fn index_next(&mut self, alloc: Global) -> Result<(), Memory>
         ensures { self.new ≡ self.old }
     {
@@ -208,7 +208,7 @@ impl Log {
         Ok(())
     }
 
-    /// There is room for a delta. After want of memory all but the room is as it was.
+    /// Makes room for a delta. After want of memory all but the room is as it was.
     pub fn reserve(&mut self, alloc: Global) -> Result<(), Memory>
         ensures same { IsSameHistory self.old self.new }
         ensures room { OnOk result (0 < self.new.spare) }
@@ -221,7 +221,7 @@ impl Log {
         Ok(())
     }
 
-    /// The delta, which may come next, is after the others. The head is at `head` then, and so many items are inserted.
+    /// Puts the delta, which may come next, after the others. The head is at `head` then, and so many items are inserted.
     pub fn push(&mut self, delta: AppliedDelta, head: HashedVersion, inserted: u64)
         requires next { IsNext self.old.name self.old.deltas delta }
         requires room { 0 < self.old.spare }

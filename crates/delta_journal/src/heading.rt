@@ -27,7 +27,7 @@ fn header_of(alloc: Global, name: &[u8]) -> Result<Vec<u8>, AllocError>
 }
 
 impl Heading {
-    /// That of this name. The error is want of memory.
+    /// The heading of a journal of this name. The error is want of memory.
     pub fn new(alloc: Global, name: &str) -> Result<Heading, AllocError>
         requires short { length name.now < 2 ^ 32 }
         ensures { IfOk result (IsHeadingOf name.now) }

@@ -92,7 +92,7 @@ impl<K: Disk> Journal<K> {
         }
     }
 
-    /// The same with a header that is made here.
+    /// The same journal, with a header that is made here. The error is want of memory.
     pub fn start(alloc: Global, disk: K, name: &str) -> Result<Journal<K>, AllocError>
     where
         K: Drop,

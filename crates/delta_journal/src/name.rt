@@ -66,7 +66,7 @@ fn header_in(front: &[u8], size: u64) -> Header
     Header::Named(count)
 }
 
-/// The name in the header of a disk's file, as it is read: none exactly where the file stands for no header.
+/// The name in the header of a disk's file, as it is read: None exactly where the file stands for no header.
 /// `Damaged` at offset 0 exactly where the header after an open gate is no name's, and `DiskFault` where the disk
 /// failed.
 pub fn stored_name<K: Disk>(alloc: Global, disk: &mut K) -> Result<Option<Vec<u8>>, JournalFault>

@@ -1,5 +1,5 @@
 -- Finite maps from texts, and how to make one from others key by key. A key is the list of its UTF-8 bytes, so that the
--- order of a map is byte order; so is the text that a map of texts gives.
+-- order of a map is byte order; a text that a map of texts gives is such a list, too.
 --     Key, Map X                          UTF-8 bytes; a map from them to values of X
 --     same_text, same_value, same_values  tests of ≡ on texts, on optional texts, on maps of texts
 --     is_next last k                      the key is the first of a list, or comes after the last one in byte order

@@ -2,7 +2,7 @@
 --     Way                   the changes that run, the actions that are left of a component, and those after it
 --     left w                all actions that are left
 --     IsSound u c           where u runs the component isn't empty, an update's keys ascend, and a boundary fits
---     IsSoundFrom u cs      so is each of these components in turn
+--     IsSoundFrom u cs      each of these components is sound in turn, the first where u runs
 --     head_text c           the characters of a component
 --     way u cs used         where u runs, `used` actions of the first of these components are passed
 --     IsPast cs             the first component isn't a boundary

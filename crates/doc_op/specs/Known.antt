@@ -1,7 +1,7 @@
 -- What is known of the changes that an output showed over its last run.
 --     shown_by k u         what is shown over a run of this kind where u runs
 --     IsKnown t acts w     over the last of these actions w was shown but at these keys; None tells nothing
---     IsUpToDate out u     so for an output, where u runs
+--     IsUpToDate out u     the same of an output, where w is what a run of its kind shows under u
 use Rattle.std.specs.Prelude.{ℕ, List, Option, None, Some}
 use Rattle.doc_items.specs.Changes.{ChangeSet}
 use Rattle.change_view.specs.Sets.{as_inserted, as_deleted}

@@ -10,7 +10,7 @@
 --     normal_from u acts   the components of these actions where u runs before them; at the end all that runs ends
 --     normal_form acts     the components of an operation with these actions
 --     IsWritable a         the action has a spelling: its keys and values are texts, and an update has a key
---     AreWritable acts     so has each action
+--     AreWritable acts     each action has a spelling
 use Rattle.std.specs.Prelude.{◌≢◌, ◌+◌, List, [], ◌∷◌, ◌++◌, cond, Option, None}
 use Rattle.doc_items.specs.Maps.{Key, each}
 use Rattle.doc_items.specs.Changes.{KeyChange, ChangeSet, none_running}

@@ -1,7 +1,6 @@
 -- An output in normal form whose last component may still grow.
 --     shut o           the last component, as it would be if it didn't grow
 --     onto o cs        the last component in front of those after it
---     open_text o      ..
 --     open_component o      the component that is open
 --     more_component m     the component that is to come
 --     joins o c        a component goes on with the open one
@@ -9,7 +8,7 @@
 --     open_len o       the length of what is open
 --     is_lone c        the component joins no other, and is no boundary
 --     IsSpelling w c   the normal form writes the component for its actions where w runs over them, and w runs over the last of them
---     IsLone w c       so it does, and the component joins no other
+--     IsLone w c       a component that joins no other, which the normal form writes where w runs
 --     IsSettled        the components with the last, and a boundary to other changes
 --     shown_changes s  the changes that are to run over a run
 --     IsReady s u      where u ran last: they are listed, or are those but at the keys that are given

@@ -4,7 +4,7 @@
 --     bad_change e p cs     the first key of cs, after p, that doesn't ascend or that is among the ends e
 --     bad_key u c       the first bad key of a boundary's ends and then of its changes, or of an update
 --     refusal cs c      why a builder with the components cs refuses c, if it does
---     takes cs c        it doesn't
+--     takes cs c        a builder with the components cs takes c
 --     IsBuilt cs        a builder takes each component in turn
 use Rattle.std.specs.Prelude.{◌≡◌, ℕ, ◌+◌, ◌==◌, ◌&&◌, ◌||◌, nat_lt, List, [], ◌∷◌, ◌++◌, length, Bool, not, if◌then◌else◌, Option, None, Some, is_none}
 use Rattle.std.specs.Str.{encode_utf8_all}

@@ -4,7 +4,7 @@
 --     Follows u m       exactly the keys of u are on
 --     SameSwitches, KeepsThere     nothing is switched; no switch is lost
 --     AreThere m cs     each change's key has a switch
---     HasSwitches m c   so has each that a component changes
+--     HasSwitches m c   each key that a component changes has a switch
 --     IsSwitched        one switch is turned, where there is one
 use Rattle.std.specs.Prelude.{◌≡◌, ℕ, ◌<◌, List, length, slice_index_or, Bool, true, false, Option, None, Some}
 use Rattle.std.specs.Str.{encode_utf8_all}
@@ -34,7 +34,7 @@ SameSwitches m n = (q : Key) → on_at n q ≡ on_at m q
 abbrev pub KeepsThere : Map Bool → Map Bool → Type 0
 KeepsThere m n = (q : Key) → IsThere m q → IsThere n q
 
--- so for the first n changes
+-- the key of each of the first n changes has a switch
 abbrev pub AreThereBelow : ℕ → Map Bool → List Change → Type 0
 AreThereBelow n m cs = (i : ℕ) → i < n → (d : Change) → IsThere m (encode_utf8_all (slice_index_or cs i d).key)
 

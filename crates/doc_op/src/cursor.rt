@@ -205,7 +205,7 @@ impl<'a> Cursor<'a> {
         self.running.table()
     }
 
-    /// The same, with those that an insertion or a deletion shows otherwise.
+    /// The running changes, with those that an insertion or a deletion shows otherwise.
     pub(crate) fn running_changes(&self) -> &RunningChanges
         ensures { result.now ≡ self.now.under }
     {

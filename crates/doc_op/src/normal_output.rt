@@ -52,7 +52,7 @@ impl Kind {
         }
     }
 
-    // The keys at which a run of this kind shows something else than what runs are noted.
+    // Notes the keys at which a run of this kind shows something else than what runs.
     fn add_to(
         self,
         alloc: Global,
@@ -212,7 +212,7 @@ impl NormalOutput {
         self.touched.clear(alloc);
     }
 
-    // The run to come is of this kind. The keys are noted at which it shows something else than one of the last kind.
+    // The run to come is of this kind. Notes the keys at which it shows something else than one of the last kind.
     fn turn(&mut self, alloc: Global, running: &RunningChanges, kind: Kind) -> Result<(), Memory>
         requires known { IsUpToDate self.old running.now }
         ensures known { OnOk result (IsKnown self.new.touched self.new.builder (shown_by kind running.now)) }
@@ -226,7 +226,7 @@ impl NormalOutput {
         Ok(())
     }
 
-    /// Takes the run at which the cursor stands, and tells its length, which is 0 where nothing is left.
+    /// Takes the run at which the cursor stands, and gives its length, which is 0 where nothing is left.
     pub fn add(&mut self, alloc: Global, cursor: &Cursor<'_>) -> Result<u64, Memory>
         requires known { IsUpToDate self.old cursor.now.under }
         requires input { input_len self.old.builder + input_len cursor.now.front ≤ max_count }

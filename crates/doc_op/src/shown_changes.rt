@@ -11,9 +11,9 @@ use std::alloc::Global;
 /// The changes that are to run over a run.
 #[derive(Clone, Copy)]
 pub(crate) enum Shown<'s, 'a> {
-    /// These.
+    /// The changes of this list.
     Listed(&'s ChangeView<'a>),
-    /// Those that two tables show together, which are the ones that ran last at each key but these.
+    /// The changes that two tables show together, which are the ones that ran last at each key but these.
     Joint { joint: Joint<'s>, keys: &'s [Text] },
 }
 

@@ -8,8 +8,8 @@
 --     sized        a piece has 1 to 128 items
 --     apart        a piece and the next one wouldn't fit into one
 --     IsPacked     each piece is sized and apart from the next
---     last_len     how many items the last piece has, or what is said where there is no piece
---     first_len    how many items the first piece has, or what is said where there is no piece
+--     last_len     how many items the last piece has, or a given number where there is no piece
+--     first_len    how many items the first piece has, or a given number where there is no piece
 --     IsBetween    some pieces are packed where a piece of so many items stands before them, and one of so many after them; where
 --                  none stands there it counts as one of 128, since nothing fits into one with that
 --     glued        two packed lists of pieces as one

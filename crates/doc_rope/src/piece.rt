@@ -9,10 +9,10 @@ use std::marker::Model;
 
 pub const PIECE: usize = 128;
 
-// More items than these aren't moved one by one.
+// More items than this aren't moved one by one.
 const FEW: usize = 16;
 
-// Seen as its items. It has room for 128 from its making, and keeps their shape.
+// A piece, seen as its items. It has room for 128 of them from its making, and keeps their shape.
 #[derive(Drop)]
 pub struct Piece {
     items: Vec<Item>,

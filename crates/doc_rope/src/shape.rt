@@ -4,7 +4,7 @@ ghost use Rattle.doc_rope.specs.Shapes.{no_elements, one, meet, shape_of};
 
 use doc_items::{Content, Item};
 
-// Of some items: how many ends close nothing among them, and how many starts nothing among them closes.
+// The shape of some items: how many ends close nothing among them, and how many starts nothing among them closes.
 #[derive(Clone, Copy)]
 pub struct Shape {
     pub ends: usize,
@@ -12,14 +12,14 @@ pub struct Shape {
 }
 
 impl Shape {
-    // Of no items.
+    // The shape of no items.
     pub fn none() -> Shape
         ensures { result ≡ no_elements }
     {
         Shape { ends: 0, starts: 0 }
     }
 
-    // Of these items.
+    // The shape of these items.
     #[tactic(auto, using(crate::proofs::Shapes::shape_next))]
     pub fn of(items: &[Item]) -> Shape
         ensures { result ≡ shape_of items.now }
@@ -31,7 +31,7 @@ impl Shape {
         shape
     }
 
-    // Of the items and one more.
+    // The shape of the items and one more.
     fn with(self, content: &Content) -> Shape
         requires ends { self.ends + 1 < 2 ^ 64 }
         requires starts { self.starts + 1 < 2 ^ 64 }
@@ -65,7 +65,7 @@ impl Shape {
         }
     }
 
-    // Of these items and those of a later shape after them.
+    // The shape of these items and those of a later shape after them.
     pub fn meet(self, later: Shape) -> Shape
         requires ends { self.ends + later.ends < 2 ^ 64 }
         requires starts { self.starts + later.starts < 2 ^ 64 }

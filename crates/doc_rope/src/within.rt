@@ -181,7 +181,7 @@ pub fn put_items(
     }
 }
 
-// No items in place of those.
+// Puts no items in place of the `count` items from place `from` on.
 #[tactic(auto, using(crate::proofs::Seams::packed_none))]
 fn put_none(tree: Tree, from: usize, count: usize, mut first: Box<Node>, second: Box<Node>) -> Tree
     requires sound { IsSound tree }
@@ -200,7 +200,7 @@ fn put_none(tree: Tree, from: usize, count: usize, mut first: Box<Node>, second:
     }
 }
 
-// The items of one piece in place of those.
+// Puts the items of one piece in place of those.
 fn put_one(
     tree: Tree,
     from: usize,
@@ -235,7 +235,7 @@ fn put_one(
     }
 }
 
-// The items between the pieces that lie before and after those, which are cut where they have to be.
+// Puts the items between the pieces that lie before and after those, which are cut where they have to be.
 #[tactic(auto, using(crate::proofs::Laws::length_joined, crate::proofs::Seams::total_glued, crate::proofs::Seams::packed_glued, crate::proofs::Seams::joined_glued, crate::proofs::Laws::spliced))]
 fn put_between(
     tree: Tree,

@@ -28,7 +28,7 @@ pub record HasSentSome (tells : Bool) (ws vs : List Waiting) (es fs : List LinkE
   pub noted_is : vs ≡ ws ++ map noted rs
   pub events : IsTrue tells → fs ≡ es ++ map relay rs
 
--- `told` says whether the calls of turns are
+-- `told` says whether the calls of turns are told
 module _ (tells told : Bool) (domain : Key) where
   pub record IsPassed (place : ℕ) (ws vs : List Waiting) (es fs : List LinkEvent) (cs ds : List TurnCall) (sent : Bool) : Type 0 where
     pub relay : Relay

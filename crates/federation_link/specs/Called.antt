@@ -1,4 +1,4 @@
--- The same of links and turns, as calls have them.
+-- What `Asking`, `Steps` and `Dials` say, of links and turns as calls have them.
 --     TellsNext, TellsAll, RelaysNext, RelaysAll, Tells, Greets     what a new link begins with
 --     SendsNext, SendsFresh, Sends                                  what is sent after nothing came
 --     StepsOn, GoesOn, Rests                                        one step on an open link

@@ -3,10 +3,10 @@
 --     have c, relay r      how far a copy reaches; a submission that waits for an answer
 --     greeting d cs rs     what a new link begins with: for which domain this one speaks, how far its copies reach, and what waits
 --     item_calls f k xs    what was asked, place by place from one on, until there was nothing more
---     copy_calls d k cs    so the copies of a domain
---     relay_calls d k rs   so the submissions that wait for it
+--     copy_calls d k cs    the calls that asked so for the copies of a domain
+--     relay_calls d k rs   the calls that asked so for the submissions that wait for it
 --     noted r              a submission that was sent and has no answer yet
---     has ws r             it is among these
+--     has ws r             the submission is among those that were noted
 --     fresh ws rs          the submissions that weren't sent yet, where those were
 --     WasSent es w         a submission of that name and id was sent
 use Rattle.std.specs.Prelude.{◌≡◌, ℕ, ◌+◌, Bool, if◌then◌else◌, List, [], ◌∷◌, ◌++◌, map, Option, Some, None, Result, Ok}

@@ -3,7 +3,7 @@
 --     heard b              what bytes are read as
 --     GivesOf m cs, Gives h cs       the calls that a message asks for, and bytes: one, or none
 --     KeepsOf e m cs, Keeps e h cs   the calls where the message wasn't taken for this reason
---     HasGiven ..          the calls that were added are such
+--     HasGiven ..          of the calls that were added this holds
 --     same_as n i w        the submission has this name and id
 --     without n i ws       what waits on after an answer
 --     settled h ws         what waits on after a message

@@ -2,8 +2,8 @@
 --     together f s           the first's input length and both counts of inserted items
 --     HasAllRoom w f s       the output and the place have room for what these actions give
 --     Goes done f s n m after     n actions of the first operation and m of the second are passed
---     IsStep p ..            so many as the step says; at the end of both nothing happens
---     IsStepped              so, and the cursors stand after them
+--     IsStep p ..            as many actions as p says are passed; at the end of both nothing happens
+--     IsStepped              a step passed some actions, and the cursors stand after them; or both are at their end
 --     IsUnfit                the walk is refused
 --     IsComposition, IsDontFit, IsRefused     what `compose` answers
 use Rattle.std.specs.Prelude.{◌≡◌, ℕ, ◌+◌, ◌<◌, ◌≤◌, Bool, true, false, List, [], length, drop, Ok, Err}

@@ -2,10 +2,10 @@
 --     expects w f s          what comes out in the end, where these actions are still to come
 --     NoDelete f             the actions don't begin with a deletion, so that an insertion of the second operation comes first
 --     Passed, PassedSecond   the walk went past actions of both, or an insertion of the second operation
---     Refused                it is refused within them
+--     Refused                the walk is refused within these actions
 --     HasRoom w n, Grows     the output and the place have room for n more;  they grow by n at most
 --     IsInStepBut ks v b w u the changes v are b, and u can come after w, at each key but these, which may be any
---     IsInStep done w u      so for the touched keys, where v was shown last, and b is w and then u
+--     IsInStep done w u      the same but at the touched keys: v was shown last, and b is w and then u
 --     IsKeptTwice            what comes of items that both operations keep
 --     IsInsertedAfter        what comes of an insertion that the second operation keeps
 --     IsDeletedBefore        what comes of a deletion of what the first operation keeps

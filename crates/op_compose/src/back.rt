@@ -28,7 +28,7 @@ pub(crate) fn agree_back(
     }
 }
 
-/// The attributes with the change turned back put.
+/// What the change, turned back, makes of the attributes.
 pub(crate) fn put_back(
     alloc: Global,
     part: AttributePart<'_>,

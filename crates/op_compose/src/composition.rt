@@ -11,7 +11,8 @@ use doc_op::{Cursor, DocOp};
 use std::alloc::Global;
 
 /// The operation that does what the first and then the second does, in normal form; structured where both are. Refusals, in
-/// this order: `CountTooLarge`, `DontFit`.
+/// this order: `CountTooLarge` where the first's input and both counts of inserted items together exceed the greatest count;
+/// `DontFit` where the second can't apply to what the first gives.
 pub fn compose(alloc: Global, first: &DocOp, second: &DocOp) -> Result<DocOp, ComposeFault>
     ensures ok { IfOk result (λ op. IsComposition first.now second.now op) }
     ensures fits { OnOk result (together (actions first.now) (actions second.now) ≤ max_count) }

@@ -6,8 +6,8 @@ pub enum ComposeFault {
     /// The first's input length and both counts of inserted items together exceed the greatest count.
     #[error("operations over too many items together")]
     CountTooLarge,
-    /// The second operation can't apply to what the first gives: so many items that the first gives are passed before the first
-    /// at which they don't agree.
+    /// The second operation can't apply to what the first gives. The number is how many items that the first gives are passed
+    /// before the one at which they don't agree.
     #[error("an operation that doesn't apply behind the other, past {0} items")]
     DontFit(u64),
     /// Want of memory.

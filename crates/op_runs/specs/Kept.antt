@@ -2,7 +2,7 @@
 --     kept_change part      their attribute change
 --     kept_actions u k      their actions, where u runs
 --     IsFitPartOf n part    where attributes change it is one item, and an update has a key and its keys ascend
---     IsFitKept k           so, and the run isn't empty
+--     IsFitKept k           the run is fit in this way, and isn't empty
 use Rattle.std.specs.Prelude.{◌≡◌, ℕ, ◌<◌, List, replicate, Option, None, Some}
 use Rattle.doc_items.specs.Changes.{ChangeSet}
 use Rattle.doc_op.specs.Actions.{AttributeChange, Unchanged, Action, Keep}

@@ -2,7 +2,7 @@
 --     goes_on p              whether it passes any actions
 --     CanPass p f s          the runs at which the cursors stand have so many
 --     ArePast n m f s t f' s' t'     n actions of the first and m of the second are passed, and the keys touched on the way are noted
---     IsPassed p f s t f' s' t'      so many as the step says; at the end of both nothing happens
+--     IsPassed p f s t f' s' t'      as many actions as p says are passed; at the end of both nothing happens
 use Rattle.std.specs.Prelude.{◌≡◌, ℕ, ◌<◌, ◌≤◌, Bool, true, false, List, length, drop, Option}
 use Rattle.change_table.specs.Keys.{Touches}
 use Rattle.doc_op.specs.Cursors.{Way, left}

@@ -66,7 +66,7 @@ pub fn agree(part: AttributePart<'_>, attributes: &Attributes) -> bool
     }
 }
 
-/// The attributes with the change put.
+/// What the change makes of the attributes.
 pub fn put(
     alloc: Global,
     part: AttributePart<'_>,

@@ -2,8 +2,8 @@
 --     HasAllRoom w ls es     the walk's outputs have room for these actions too
 --     Goes done l e n m done'     n actions of the later operation and m of the earlier one are passed, and what runs there is in
 --                            step
---     IsStep s ..            so many as the step says; at the end of both nothing happens
---     IsStepped              so, and the cursors stand after them
+--     IsStep s ..            as many actions as s says are passed; at the end of both nothing happens
+--     IsStepped              a step passed some actions, and the cursors stand after them; or both are at their end
 --     IsBroken               the walk is refused
 --     IsPairOf               the operations of the walk's outputs
 --     IsConflict             the operations have no transform

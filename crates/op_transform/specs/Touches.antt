@@ -1,7 +1,7 @@
 -- What the walk knows of the changes that run, since the last pair of runs that both operations keep.
 --     AreInStepBut ks l e u w     at each key but these, the outputs l and e show what u and w make of each other, and u and w cross
---     AreInStep t l e u w         so where the keys are known
---     IsInStep done u w           so for the keys that the walk touched
+--     AreInStep t l e u w         the same at each key but those of t; nothing is said where t is None
+--     IsInStep done u w           the same for the walk's outputs, at each key but those that it touched
 use Rattle.std.specs.Prelude.{ℕ, List, Option, None, Some}
 use Rattle.doc_items.specs.Changes.{ChangeSet}
 use Rattle.change_view.specs.declared.rule.Test.TheVariants.{SameOld}

@@ -5,10 +5,10 @@
 --     front l e r            the actions l and e stand in front of the results
 --     later_inserts d x r    the later operation inserts x where the earlier one has d deleted elements open: x is deleted with
 --                            them
---     earlier_inserts b y r      and the other way round
+--     earlier_inserts b y r      the same for the earlier operation, where the later one has b deleted elements open
 --     transform_from k b ls d es     after k common items, where the operations have b and d deleted elements open; where
 --                            both insert, the later one comes first
---     transform later earlier
+--     transform later earlier    both results, from the start of both operations on
 use Rattle.std.specs.Prelude.{ℕ, zero, suc, cond, ◌&&◌, List, [], ◌∷◌, ◌++◌, Result, Ok, Err}
 use Rattle.doc_items.specs.Balance.{level}
 use Rattle.doc_items.specs.declared.item.Item.{Item}

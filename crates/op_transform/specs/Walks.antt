@@ -3,7 +3,7 @@
 --     NoInsert l             the actions don't begin with an insertion, so that one of the earlier operation comes first
 --     expects w ls es        what comes out in the end, where these actions are still to come
 --     Passed, PassedEarlier  the walk went past actions of both, or an insertion of the earlier operation
---     Refused                it is refused within them
+--     Refused                the walk is refused within these actions
 --     HasRoomForOne          an output has room for one item more
 --     IsWithin w, HasRoom w n, Grows     no output is longer than the walk's length;  it has room for n items;  it has n more
 --     HasRoomForBoth w x y   x and y are fit runs of items that stay, equally long, and the walk has room for them

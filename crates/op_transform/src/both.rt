@@ -14,7 +14,8 @@ use std::alloc::Global;
 
 /// Takes two operations that were made on one document past each other: the later one for the document that the earlier one
 /// gives, and the earlier one for the document that the later one gives. Where both insert, the later one's items come first.
-/// Both results are in normal form and structured. Refusals, in this order: `CountTooLarge`, `Conflict`.
+/// Both results are in normal form and structured. Refusals, in this order: `CountTooLarge` where the larger input and both
+/// counts of inserted items together exceed the greatest count; `Conflict` where the operations can't both apply to one document.
 pub fn transform(alloc: Global, later: &DocOp, earlier: &DocOp) -> Result<Pair, TransformFault>
     requires later { Structured (actions later.now) }
     requires earlier { Structured (actions earlier.now) }

@@ -167,7 +167,7 @@ impl Walk {
         Ok(true)
     }
 
-    // So by all keys that run.
+    // Writes what both keep, if it can stay in both ways; or answers false. All keys that run are looked at.
     fn write_listed<'a>(
         &mut self,
         alloc: Global,

@@ -1,4 +1,4 @@
--- Why an operation doesn't apply to a document, in the order in which it is told.
+-- Why an operation doesn't apply to a document, in the order in which the reasons are looked for.
 --     IsRefused e cs items     NotStructured: where the components break the rules of structure; then Mismatch: the index of
 --                              the first item that doesn't agree; then WrongLength: all common items agree, and the lengths
 --                              differ

@@ -158,7 +158,7 @@ impl Rebuild<'_> {
         self.push_new(running, content, notes)
     }
 
-    // Inserts an item with these notes, which are the new values that run. What runs is only spoken of.
+    // Inserts an item with these notes, which are the new values that run. Its clauses alone speak of what runs.
     #[tactic(auto, using(crate::proofs::Gives::starts))]
     fn push_new(&mut self, running: &Changes, content: Content, notes: Notes) -> Result<(), Memory>
         requires { notes ≡ new_values (change_set running.now) }

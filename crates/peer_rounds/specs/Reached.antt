@@ -5,7 +5,8 @@
 --     HaveReached n m ps      the count of the line rose from n to m by one for each peer that was not reached, or it stands at its
 --                             last value
 --     line_then ps n          the count of the line after the links of these were put back
---     HaveCome own n m ls k   so with the links that were stepped, of k peers
+--     HaveCome own n m ls k   the count of the line rose from n to m by one for each of k peers that has no stepped link among ls, or
+--                             it stands at its last value
 use Rattle.std.specs.Prelude.{◌≡◌, ◌⊎◌, ◌≤◌, ◌<◌, ℕ, ◌+◌, ◌-◌, ◌^◌, List, [], ◌∷◌, length}
 use Rattle.doc_items.specs.Maps.{Key}
 use Rattle.wave_outside.specs.declared.link.Link as link_of

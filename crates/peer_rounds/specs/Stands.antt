@@ -2,10 +2,10 @@
 --     WasDialled a xs        this address is among those that were dialled
 --     HasSaid own l          the link begins with the message that says for which domain this server speaks, or it has failed
 --     IsReady xs p           a peer whose link is open was dialled, and its link began so
---     AreReady xs ps         so each
+--     AreReady xs ps         each of these peers is ready in this way
 --     AreDialled xs ns       each of peers with these names was dialled
 --     IsStepped own l        it was said so on the link, and then a look found nothing or the peer closed it; where it tells its list
---     IsFruit own l          so, or the link has failed
+--     IsFruit own l          the link was stepped in this way, or has failed
 use Rattle.std.specs.Prelude.{◌≡◌, ◌⊎◌, ◌≤◌, ℕ, Bool, true, false, IsTrue, List, [], ◌∷◌, ◌++◌, IfSome}
 use Rattle.std.specs.Str.{encode_utf8_all}
 use Rattle.std.specs.List.{AllByRecursion}

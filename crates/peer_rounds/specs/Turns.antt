@@ -1,14 +1,14 @@
 -- What a turn of the loop does, and what a server does with its peers before it ends.
 --     IsStep p q t u n m r    one step of a link, by what it came to: the turns and the net before and after
---     HasCome .. b            so one that gave an answer; b says whether the link may be left then
+--     HasCome .. b            one step that gave an answer; b says whether the link may be left then
 --     is_work s               a step that came to this did something that the loop needn't sleep after
 --     HasPaused .., HasStepped ..     a peer paused for a turn, or its link was stepped once
 --     HasTurned .. b          one of them, by its pause; b says whether it worked
---     HaveTurned .. b         so each peer, one after the other
+--     HaveTurned .. b         each peer had such a turn, one after the other; b says whether one worked
 --     Runs ss ..              steps of a link, one after the other; what they came to, the newest first
 --     is_end s                a link that came to this may be left
 --     HasRun ..               a link was stepped until it could be left
---     HaveRun ..              so each peer, one after the other
+--     HaveRun ..              the link of each peer was stepped so, one after the other
 use Rattle.std.specs.Prelude.{◌≡◌, ◌⊎◌, ◌<◌, ◌≤◌, ◌-◌, ◌^◌, min, ◌||◌, Bool, true, false, IsTrue, List, [], ◌∷◌, Result, Ok}
 use Rattle.std.specs.Str.{encode_utf8_all}
 use mathlib.Core.List.{IsPrefix}

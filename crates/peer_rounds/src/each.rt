@@ -13,7 +13,7 @@ use std::alloc::Global;
 use std::sync::Wait;
 use wave_outside::{Link, Net};
 
-// Whether one of them is so.
+// Whether one of the two holds.
 fn either(one: bool, others: bool) -> bool
     ensures { result ≡ (one || others) }
 {

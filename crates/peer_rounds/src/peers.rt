@@ -24,7 +24,7 @@ pub struct Peers<L: Link> {
 }
 
 impl<L: Link> Peers<L> {
-    // None.
+    // No peers.
     fn none(alloc: Global) -> Peers<L>
         ensures { result.list.items ≡ [] }
     {

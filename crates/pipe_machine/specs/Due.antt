@@ -4,10 +4,10 @@
 --     due_among d i ss        the places of the due among these, of which the first has this place
 --     due_at i o              whom there may be something for after the reply to the session there, where this wavelet may have changed
 --     is_told c s             the session of a seat was sent all that there is of what it has open, as the copies are
---     are_told c ss           so was each
---     AreToldFrom c i j ss    so was each from one place up to another
---     IsDueAlone c d ss       so was each that isn't due
---     AreTheDue c i ps ss     these places ascend, and from i on so was each that isn't at one of them
+--     are_told c ss           the session of each seat was sent all in this way
+--     AreToldFrom c i j ss    each session from the place i up to j was sent all
+--     IsDueAlone c d ss       each session that isn't due was sent all
+--     AreTheDue c i ps ss     these places ascend, and from i on each session that isn't at one of them was sent all
 --     reach i ps              the place after the last of these, or i
 use Rattle.std.specs.Prelude.{◌≡◌, ℕ, ◌+◌, ◌<◌, ◌≤◌, ◌==◌, Bool, true, false, ◌||◌, cond, List, [], ◌∷◌, ◌++◌, length, slice_get, Option, None, Some, is_some}
 use Rattle.std.specs.List.{list_all}

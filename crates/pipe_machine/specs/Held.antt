@@ -2,8 +2,8 @@
 --     IsIn d ds          the delta is one of them
 --     HasOf ds c n       one of them has this client and number
 --     IsHead name ds s   a snapshot is that of a beginning of them
---     IsHeld hs m        what the message tells of a history is so of these
---     SentIsHeld         the law: so is all that is sent
+--     IsHeld hs m        what the message tells of a history holds of the one among these
+--     SentIsHeld         the law: all that is sent is held by the histories after it
 use Rattle.std.specs.Prelude.{◌≡◌, ℕ, List, ◌∷◌, ◌++◌}
 use Rattle.doc_items.specs.Maps.{Key}
 use Rattle.wavelet_op.specs.Deltas.{DeltaOf}
@@ -59,7 +59,7 @@ IsHeld hs (Applied name d) = Unit {0}
 IsHeld hs (Relayed name id v) = Unit {0}
 IsHeld hs (Dropped name) = Unit {0}
 
--- whatever turns send is so of the histories after them, and these go on with the deltas that they had
+-- whatever turns send is held by the histories after them, and these go on with the deltas that they had
 pub record SentIsHeld : Type 0 where
   pub all_held : (p : Pipe) (ts : List Turn) → AreAscending (names_of p.hosted)
       → All (λ s. IsHeld (after p ts).hosted s.message) (sent p ts)

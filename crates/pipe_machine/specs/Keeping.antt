@@ -1,9 +1,9 @@
 -- What a turn does to the shelf, whatever its answer.
 --     Begins ds es        the deltas are the first of those
 --     submits m n         the message is a submission to the wavelet of the name
---     asks_for r n        the request is one
---     submits_to l n      the line is one
---     submitted_in ts n   one of the turns is one
+--     asks_for r n        the request is for a submission to that wavelet
+--     submits_to l n      the line is a submission to it
+--     submitted_in ts n   the line of one of the turns is a submission to it
 --     IsFileAmong may m   this is the file of a name of which this holds
 --     IsMoved may a b     the shelf before and after a step that may submit to the names of which this holds
 --     StandsForEither n ds es f   the file stands for the one history of the name, or for the other

@@ -11,8 +11,8 @@
 --     are_ordered ss         their names ascend in byte order
 --     is_idle ws             nothing waits
 --     IsPlain s              a session of a pipe: it has no domain, and speaks for none, and none of its submissions waits
---     IsPlainSeat s          so is that of a seat
---     AsksAsUser s r         only one with a user asks for a wavelet to be opened
+--     IsPlainSeat s          the session of a seat is plain
+--     AsksAsUser s r         only a session with a user asks for a wavelet to be opened
 use Rattle.std.specs.Prelude.{◌≡◌, ℕ, ◌+◌, List, [], ◌∷◌, ◌++◌, take, drop, slice_get, slice_set, slice_index_or, map, Bool, true, false, ◌&&◌, cond, None, is_some}
 use Rattle.std.specs.Coded.{Coded-set, coded_bool, ×_prop}
 use Rattle.std.specs.Option.{option_map_or}

@@ -1,6 +1,6 @@
 -- Updates that are written once.
 --     IsUpdate c u     the text is that of the update with the delta at its place, as the copies are
---     IsLast c o       so is the text that was written last, where there is one
+--     IsLast c o       the text that was written last, where there is one, is that of its update
 use Rattle.std.specs.Prelude.{◌≡◌, Option, Some, None, slice_get}
 use Rattle.serde_json.specs.Written.{compact_text}
 use Rattle.wavelet_op.specs.Deltas.{DeltaOf}

@@ -73,7 +73,7 @@ fn submit<F: Folder + Drop>(
     }
 }
 
-// The reply to what a session asks for. A session of a pipe has no peers, so it asks for the last of these never.
+// The reply to what a session asks for. A session of a pipe has no peers, so it never asks for the last of these.
 fn answer<F: Folder + Drop>(
     alloc: Global,
     shelf: &mut Shelf<F>,

@@ -9,7 +9,7 @@ use doc_items::Memory;
 use std::alloc::{AllocError, Global};
 use wave_base::SessionName;
 
-// So many seats a run has at most before it is parted.
+// The most seats that a run has before it is parted.
 const MOST: usize = 256;
 
 /// Seats that stand one after the other.
@@ -107,7 +107,7 @@ fn part(alloc: Global, runs: &mut Vec<Run>, index: usize) -> Result<(), Memory>
     Ok(())
 }
 
-// There is a run. The error is want of memory.
+// Makes a run where there is none. The error is want of memory.
 fn begin(alloc: Global, runs: &mut Vec<Run>) -> Result<(), Memory>
     ensures same { seats_in runs.new.items ≡ seats_in runs.old.items }
     ensures some { OnOk result (0 < length runs.new.items) }

@@ -3,8 +3,8 @@
 --     WasAnswered b n name xs    the calls for a wavelet that came after the first ones were these, with these answers
 --     HasAnswered P robots h r s m     of the first m deltas of the history the robot was shown exactly its view since it was added, where
 --                                it tells its calls, and P is so of each delta that it answered by a submission, and of this
---     AreAnswered P g h          so it is of each robot that is there, of as many deltas as it went through; and no edit is kept
---     HaveAnsweredAll P g h      so it is of all deltas of the history
+--     AreAnswered P g h          this holds of each robot that is there, for the deltas that it went through; and no edit is kept
+--     HaveAnsweredAll P g h      this holds of each robot that is there, for all deltas of the history
 use Rattle.std.specs.Prelude.{◌≡◌, ℕ, true, List, [], ◌++◌, length, map, filter, slice_get, Some, IfSome}
 use Rattle.std.specs.List.{AllByRecursion}
 use Rattle.doc_items.specs.Maps.{Key, same_text}

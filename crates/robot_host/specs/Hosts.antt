@@ -14,7 +14,7 @@
 --                                added
 --     IsSettled g h              each robot that is there went through all deltas of the history, and no edit is kept for it
 --     IsWithout g r g'           a robot was dropped
---     AreFewer g g'              so were some
+--     AreFewer g g'              some robots were dropped, or none, and nothing else was done
 use Rattle.std.specs.Prelude.{◌≡◌, ◌≢◌, ℕ, true, List, [], ◌++◌, length, map, filter, slice_get, slice_set, Option, Some}
 use Rattle.std.specs.Cmp.Lexicographic.{slice_cmp}
 use Rattle.std.specs.Option.{option_map_or}

@@ -1,6 +1,6 @@
 -- Whether an address was a participant, by what came after.
---     was_before a x now         before an act that applies, given whether it is after it
---     were_before a xs now       before acts in turn
+--     was_before a x now         the address was one before an act that applies, by whether it is one after it
+--     were_before a xs now       the same of acts in turn
 use Rattle.std.specs.Prelude.{Bool, not, ◌&&◌, ◌||◌, List, [], ◌∷◌}
 use Rattle.doc_items.specs.Maps.{Key, same_text}
 use Rattle.wavelet_op.specs.Acts.{Act, Idle, Adds, Removes, Sets, Mutates}

@@ -4,7 +4,7 @@
 --     HasStayed as here        of answers in turn only the last one may be to leave; whether the robot is there after them
 --     id_at a at               the id of a robot's submission at a version: client key 1, and the version as number
 --     edit_by r i at answer    the edit of an answer, if it is one
---     edit_of r a x answer     so at the end of the delta that it answers
+--     edit_of r a x answer     the same, made at the end of the delta that it answers
 --     edits_of r a xs          the edits of answers in turn
 --     call_of name x           the call of `react` that was answered
 --     with_calls o more        calls with more of them, where they are told

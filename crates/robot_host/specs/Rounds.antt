@@ -3,7 +3,7 @@
 --     IsTurnCut g h g'           one that ended for want of memory, after which its edits are kept
 --     IsRound g hs g' o es       turns over the histories in order, until one gave edits, which are these; `o` is its wavelet, and None
 --                                where no turn gave any
---     IsRoundCut g hs g'         so, until want of memory
+--     IsRoundCut g hs g'         turns over the histories in order, until want of memory
 --     calls_for name o           the calls for a wavelet, where calls are told
 --     IsUntouched g g' name      of the wavelet nothing changed, but that the edits of robots that are gone are kept no more
 use Rattle.std.specs.Prelude.{◌≡◌, ◌≢◌, ◌⊎◌, ℕ, true, List, [], ◌∷◌, length, filter, slice_get, Option, Some, None}

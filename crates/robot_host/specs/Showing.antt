@@ -1,12 +1,12 @@
 -- How a robot is shown deltas.
 --     asked name s x r        the robot after it answered
 --     dropped s               the robot after it was dropped
---     after_answer s r        so only where it leaves
+--     after_answer s r        the robot after this answer: it is dropped only where it leaves
 --     HasReacted h r i s t es es'      the robot r was shown the delta at a place, and its edit is after the others
 --     AreTaken h n is as m left        of the places the first ones were taken in turn, with these answers; the robot then went through
 --                                      m deltas
---     HasShown h r is left n s t m es es'      so the robot was shown the deltas at these places, but for those that are left
---     HasShownSome, HasShownAll     so for some that are left; where the robot stays, none are, and it went through all deltas
+--     HasShown h r is left n s t m es es'      the robot was shown so the deltas at these places, but for those that are left
+--     HasShownSome, HasShownAll     the same where some are left; where the robot stays, none are, and it went through all deltas
 use Rattle.std.specs.Prelude.{◌≡◌, ℕ, suc, true, false, cond, List, [], ◌∷◌, ◌++◌, length, map}
 use Rattle.doc_items.specs.Maps.{Key}
 use Rattle.wavelet_op.specs.Deltas.{DeltaOf}

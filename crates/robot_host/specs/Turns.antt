@@ -4,18 +4,18 @@
 --     StayedFrom b as here       a robot that is there answered so; one that isn't is shown nothing
 --     IsTurnOf robots h r s t n m es      the robot r was shown what of its view comes after the first n deltas, up to the first m; these
 --                                are its edits
---     IsOneTurn robots h r ss ts ns ms es es'    so, among all robots and their numbers; its edits are after the others
+--     IsOneTurn robots h r ss ts ns ms es es'    the same among all robots and their numbers; its edits are after the others
 --     IsThrough h r ss ns        the robot, if it is there, went through all deltas
 --     of_robot r es              the edits of a robot
---     AreTurns robots h ss ts ns ms es       so each of the robots
+--     AreTurns robots h ss ts ns ms es       each of the robots had such a turn
 --     AreTurnsBelow k ..         those with numbers from k on are as they were
---     HaveTurnedBelow, HaveTurned     so, with their edits after the others
+--     HaveTurnedBelow, HaveTurned     those below k, or all, had their turns, with their edits after the others
 --     is_of_there robots e       the edit is of a robot that is there
 --     HaveAnswered .. es given   each robot had its part; what is given are the edits kept before and then those answered, of robots that
 --                                are there
 --     AreThrough h ss ns         each robot that is there went through all deltas
 --     IsShown robots h s n       of the first n deltas the robot was shown exactly its view since it was added, where it tells its calls
---     AreShown robots h ss ns    so each robot that is there
+--     AreShown robots h ss ns    each robot that is there was shown so what it went through
 use Rattle.std.specs.Prelude.{◌≡◌, ◌<◌, ◌≤◌, ℕ, ◌==◌, Bool, true, false, List, [], ◌++◌, length, map, filter, slice_get, slice_set, Some, IfSome, unwrap_or}
 use Rattle.std.specs.Option.{option_map_or}
 use Rattle.doc_items.specs.Maps.{Key}

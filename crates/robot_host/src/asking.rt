@@ -56,7 +56,7 @@ fn ask_robot(
     robot.react(alloc, name, delta, state)
 }
 
-// So the robot of a seat, which is there.
+// The same for the robot of a seat, which is there.
 fn ask(
     alloc: Global,
     seat: &mut Seat,
@@ -74,7 +74,7 @@ fn ask(
     }
 }
 
-// What follows from an answer: an edit is put after the others, and a robot that leaves is dropped. Whether it stays.
+// What follows from an answer: an edit is put after the others, and a robot that leaves is dropped. It says whether the robot stays.
 fn follow(
     seat: &mut Seat,
     edits: &mut Vec<RobotEdit>,

@@ -125,7 +125,7 @@ impl RobotHost {
         let _was = self.retire(robot);
     }
 
-    /// The robot of a number is dropped, and with it its kept edits. Whether it was there. The other robots stay as they are.
+    /// Drops the robot of a number, and with it its kept edits, and says whether it was there. The other robots stay as they are.
     pub fn retire(&mut self, robot: u64) -> bool
         ensures was { result ≡ is_robot_there (host_by calls self.old).robots robot }
         ensures without { IsWithout (host_by calls self.old) robot (host_by calls self.new) }

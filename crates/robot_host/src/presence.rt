@@ -7,7 +7,7 @@ ghost use Rattle.robot_host.specs.Presence.{was_before, were_before};
 use wave_base::Address;
 use wavelet_op::{AppliedDelta, Ops, WaveletOp};
 
-// Before an operation that applies.
+// Whether the address was one before an operation that applies.
 fn was_before(op: &WaveletOp, address: &Address, now: bool) -> bool
     ensures { result ≡ was_before address.now (meaning op.now) now }
 {
@@ -20,7 +20,7 @@ fn was_before(op: &WaveletOp, address: &Address, now: bool) -> bool
     }
 }
 
-// Before operations that apply in turn.
+// Whether the address was one before operations that apply in turn.
 fn were_before(ops: &Ops, address: &Address, now: bool) -> bool
     ensures { result ≡ were_before address.now (meanings ops.now) now }
 {

@@ -106,7 +106,7 @@ fn show_robot(
     )
 }
 
-// So a robot, if it is there; one that isn't is shown nothing.
+// The same for a robot, if it is there; one that isn't is shown nothing.
 fn turn_robot(
     alloc: Global,
     seats: &mut [Seat],
@@ -130,7 +130,7 @@ fn turn_robot(
     Ok(())
 }
 
-// So all robots, one after the other.
+// The same for all robots, one after the other.
 fn turn_all(
     alloc: Global,
     seats: &mut [Seat],
@@ -162,7 +162,7 @@ fn drop_gone(seats: &[Seat], edits: &mut Vec<RobotEdit>)
 }
 
 impl Progress {
-    /// Nothing yet.
+    /// No robot went through a delta yet, and no edit is kept.
     pub fn new(alloc: Global) -> Progress
         ensures counts { result.counts.items ≡ [] }
         ensures edits { result.edits.items ≡ [] }
@@ -173,7 +173,7 @@ impl Progress {
         }
     }
 
-    // Has a number for each of so many robots, 0 where it had none. The error is want of memory.
+    // Makes a number for each of so many robots, 0 where there was none. The error is want of memory.
     fn count(&mut self, robots: usize) -> Result<(), Memory>
         ensures counted { OnOk result (robots ≤ length self.new.counts.items) }
         ensures numbers { (r : ℕ) → number_of self.new.counts.items r ≡ number_of self.old.counts.items r }

@@ -27,7 +27,7 @@ impl Drop for Walk {
 }
 
 impl Walk {
-    /// At the start.
+    /// A walk that is at the start.
     pub fn new(alloc: Global) -> Walk
         ensures place { result.place ≡ 0 }
         ensures state { result.state ≡ empty_state }
@@ -38,7 +38,7 @@ impl Walk {
         }
     }
 
-    // One delta on.
+    // Goes one delta on.
     fn step(&mut self, alloc: Global, deltas: &[AppliedDelta]) -> Result<(), Memory>
         requires valid { IsSome (run_all empty_state deltas.now) }
         requires within { self.old.place < length deltas.now }
@@ -51,7 +51,7 @@ impl Walk {
         Ok(())
     }
 
-    // On to a place that it isn't past.
+    // Goes on to a place that it isn't past.
     fn on(&mut self, alloc: Global, deltas: &[AppliedDelta], place: usize) -> Result<(), Memory>
         requires valid { IsSome (run_all empty_state deltas.now) }
         requires before { self.old.place ≤ place }
@@ -66,7 +66,7 @@ impl Walk {
         Ok(())
     }
 
-    // To a place, from the start where it is past it.
+    // Goes to a place, from the start again where it is past that.
     fn go(&mut self, alloc: Global, deltas: &[AppliedDelta], place: usize) -> Result<(), Memory>
         requires valid { IsSome (run_all empty_state deltas.now) }
         requires within { place ≤ length deltas.now }
@@ -81,7 +81,7 @@ impl Walk {
         self.on(alloc, deltas, place)
     }
 
-    /// To a place of the history, for `state` there. The error is want of memory.
+    /// Goes to a place of the history, so that `state` may be asked for there. The error is want of memory.
     pub fn reach(&mut self, alloc: Global, history: &History, place: usize) -> Result<(), Memory>
         requires within { place ≤ length history.now.deltas }
         requires reached { IsReached history.now.deltas self.old }

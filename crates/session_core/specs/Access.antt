@@ -4,12 +4,12 @@
 --     shown_by copies c         the copies of a value, by what its type tells of them: clauses write `shown_by C.Copies copies`
 --     with_hosts c ns           the same copies, of which these names alone are looked at as hosted
 --     is_member h u             the address is a participant at the head of the history
---     in_state s d keys         one of the addresses is of the domain
+--     is_of_domain d a          the address is of the domain
 --     has_domain h d            an address of the domain is a participant at the head
 --     seen_by c n u, seen_from c n d     the history that may be shown to a user, or to a domain: there is a copy, it isn't dropped,
 --                               and the user, or an address of the domain, is a participant at its head
 --     IsDeltaOf o d, IsStateOf o s     a delta, or the state at the head, of a history that may be shown
---     MaySee c p m              whoever it is may be sent this message: if it holds a delta or a state, then of such a history
+--     MaySee c p m              the party p may be sent this message: if it holds a delta or a state, then of such a history
 use Rattle.std.specs.Prelude.{◌≡◌, Bool, not, ◌&&◌, cond, List, ◌∷◌, ◌++◌, Option, Some, None, is_some, option_and_then}
 use Rattle.std.specs.List.{list_any}
 use Rattle.std.specs.FinMap.{keys}

@@ -1,7 +1,7 @@
 -- Sessions that were sent all that there is.
 --     is_sent v o           a wavelet that may be shown was sent up to its head, to which nothing is missing
---     is_opening_sent c u o so was an open wavelet of which there is a copy
---     are_sent c s          so were all that a user has open
+--     is_opening_sent c u o an open wavelet of which there is a copy was sent so
+--     are_sent c s          all wavelets that a user has open were sent so
 --     IsWholeTo c u o       nothing of the open wavelet is missing at its head
 use Rattle.std.specs.Prelude.{◌≡◌, ℕ, Bool, true, false, ◌&&◌, ◌==◌, List, [], ◌∷◌, Option, Some, None, IfSome}
 use Rattle.std.specs.List.{list_all}

@@ -5,8 +5,8 @@
 --     opening_sent, openings_sent  for each open wavelet of which there is a copy: its deltas that weren't sent, or that it is closed
 --     opening_kept, openings_kept  what is open then, and up to where it was sent
 --     telling_of ts n              what a peer was told of a wavelet
---     host_sent .., host_told ..   for each hosted wavelet: its deltas, or that none of the peer's addresses is a participant any more
---     hosts_sent, hosts_told       so of all, in order
+--     host_news .., host_told ..   for each hosted wavelet: its deltas, or that none of the peer's addresses is a participant any more
+--     hosts_sent, hosts_told       the messages for all of them, in order, and what the peer was told then
 --     delivered c s                the messages
 --     after_delivery c s           the session
 use Rattle.std.specs.Prelude.{ℕ, true, false, if◌then◌else◌, List, [], ◌∷◌, ◌++◌, map, drop, Option, Some, None}

@@ -9,13 +9,14 @@
 --     as_user s act, as_peer s act      what is done where there is a user, a peer; another message is refused before
 --     in_domain s r             the rule of a message between domains, in a session that has a domain
 --     is_reached s n            the wavelet's host is the session's domain or a peer; a session without a domain reaches all
---     is_hosted s n             it is the session's domain
+--     is_hosted s n             the wavelet's host is the session's domain
 --     place_of n os, without i os     where a wavelet stands among those that are open; the others
---     closed s n, submitted s .., asked_open s .., told_have s .., relayed s ..     by kind
---     taken_kind s m            a message that a server takes
---     taken s m                 any message; one that no server takes is refused
---     read_by s b               what bytes are read as, by the limit for this session
---     taken_bytes s b           bytes
+--     closed s n, submitted s .., asked_open s ..     what is made of a client's message: a `close`, a submission, an `open`
+--     told_have s .., relayed s ..      what is made of a peer's message: a `have`, a submission that it passes on
+--     taken_kind s m            what is made of a message of a kind that a server takes
+--     taken s m                 what is made of any message; one that no server takes is refused
+--     taken_read s r            what is made of what bytes were read as
+--     taken_bytes s b           what is made of bytes, read by the limit for this session
 use Rattle.std.specs.Prelude.{ℕ, ◌+◌, Bool, true, false, ◌&&◌, ◌||◌, if◌then◌else◌, List, [], ◌∷◌, ◌++◌, take, drop, Option, Some, None, is_some, option_map, Result, Ok, Err}
 use Rattle.std.specs.Option.{option_map_or}
 use Rattle.std.specs.List.{list_any}

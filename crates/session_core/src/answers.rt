@@ -96,7 +96,7 @@ fn relayed_message(
     Ok(Message::Relayed { name, id, verdict })
 }
 
-// How whoever it is is told a verdict on a submission.
+// How the party of a session is told a verdict on a submission.
 fn told_verdict(
     alloc: Global,
     party: &Party,

@@ -1,4 +1,4 @@
-//! Sessions: who it is, what a message asks for, what is answered, and what is sent of the copies of wavelets.
+//! Sessions: for whom each speaks, what a message asks for, what is answered, and what is sent of the copies of wavelets.
 #![tactic(auto)]
 
 mod answers;

@@ -337,7 +337,7 @@ impl Session {
     }
 
     /// Reads a message of at most `MAX_PEER` bytes after an accepted `peer`, else of at most `MAX_CLIENT`, and takes it; bytes that are
-    /// none are replied `bad` with their kind. The error is want of memory, after which the session is as it was.
+    /// no message are replied `bad` with their kind. The error is want of memory, after which the session is as it was.
     pub fn take_message(&mut self, alloc: Global, bytes: &[u8]) -> Result<Request, Memory>
         ensures ok { IfOk result (λ r. (self.new, r) ≡ taken_bytes self.old bytes.now) }
         ensures same { OnErr result (self.new ≡ self.old) }

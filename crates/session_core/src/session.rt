@@ -1,4 +1,4 @@
-// A session: who it is, and what it has open.
+// A session: for whom it speaks, and what it has open.
 ghost use Rattle.std.specs.Prelude.{◌≡◌};
 ghost use Rattle.session_core.specs.Rules.{fresh, has_user, has_peer};
 

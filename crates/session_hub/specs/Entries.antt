@@ -2,7 +2,7 @@
 --     entries_of s       the history of the shard
 --     copies_at s        the copies at the moment of its last mark
 --     IsLoaded d k p s   a shard of that domain and number, of what the domain hosts on a shelf, with a mark for each delta
---     AreLoaded d k ps ss     so is each of some shards, numbered from there on
+--     AreLoaded d k ps ss     each of some shards is loaded so, the first with the number k, each further one with the next
 use Rattle.std.specs.Prelude.{◌≡◌, ℕ, ◌+◌, List, [], ◌∷◌}
 use Rattle.doc_items.specs.Maps.{Key}
 use Rattle.disk_model.specs.declared.disk.Disk as disk_of

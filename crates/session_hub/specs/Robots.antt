@@ -1,10 +1,10 @@
 -- Turns of robots at a shard.
 --     MayTurnAt d k ms g            over the history of each wavelet of the shard that the marks give, the robots may take a turn
 --     IsRoundAt d k ms g g' o es    turns over the histories that the marks give, in byte order of names, until one gave edits
---     IsRoundCutAt d k ms g g'      so, until want of memory
+--     IsRoundCutAt d k ms g g'      turns over these histories, in the same order, until want of memory
 --     AreSettledAt d k ms g         nothing is left for the robots of the histories that the marks give
 --     AreUntouchedAt d k ms g g'    for wavelets of which the marks give no history the robots are as they were
---     MayTurnFrom ms g              so for whosever marks these are
+--     MayTurnFrom ms g              the robots may take these turns, of whatever domain and number the shard is that has the marks
 use Rattle.std.specs.Prelude.{◌≡◌, ◌≢◌, ℕ, true, List, [], Option}
 use Rattle.doc_items.specs.Maps.{Key}
 use Rattle.robot_host.specs.declared.edit.RobotEdit.{RobotEdit}

@@ -2,7 +2,7 @@
 --     Standing              as it is declared: the history has it, a submission of it waits, or neither
 --     IsNewIn n w i         a copy of this name has neither
 --     IsStandingIn n w i    what it has
---     IsNew, IsStanding     so of the copy of a name among copies
+--     IsNew, IsStanding     the same of the copy of a name among copies
 use Rattle.std.specs.Prelude.{◌≡◌, true, false, Some, None}
 use Rattle.doc_items.specs.Maps.{Key}
 use Rattle.wave_base.specs.Versions.{IdOf}

@@ -113,7 +113,7 @@ impl<'a, F: Folder + Drop> HubTurns<'a, F> {
 
 /// A `take` call is one turn of the wavelet's shard: where it changes the copy, its mark is the last one then. A wavelet that the
 /// domain hosts itself has no copy, and nothing changes. `next_relay` and `next_copy` go through the shards in order, one turn
-/// after the other, and in each through its copies in byte order of names. It isn't told which calls were made.
+/// after the other, and in each through its copies in byte order of names. The calls that were made aren't kept.
 impl<'a, F: Folder + Drop> PeerTurns for HubTurns<'a, F> {
     ghost use Rattle.std.specs.Prelude.{false, []};
 

@@ -32,7 +32,7 @@ impl Drop for Round {
 }
 
 impl Round {
-    // Nothing.
+    // A round that gave nothing.
     fn none(alloc: Global) -> Round
         ensures name { result.name ≡ None }
         ensures edits { result.edits.items ≡ [] }
@@ -59,7 +59,7 @@ impl Round {
         }
     }
 
-    /// It, at a moment.
+    /// What the round gave, at the moment of a look.
     pub fn placed(self, look: Look) -> RobotWork
         ensures { result ≡ record { look = look; name = self.name; edits = self.edits } }
     {

@@ -24,7 +24,7 @@ pub enum Wanted {
     Reaches,
 }
 
-/// One of them.
+/// A thing of either kind.
 pub enum Item {
     Relay(Relay),
     Reach(CopyAt),

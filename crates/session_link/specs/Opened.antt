@@ -1,9 +1,9 @@
 -- Shards at which something may be due to a session, by a flag for each, and up to which length of its history it was sent what is new.
 --     IsQuietAt d k s          the shard gives the session nothing, and a peer was told all of it, whatever its marks are
---     AreUnopened d s flags    so it is with each shard that has no flag
+--     AreUnopened d s flags    each shard that has no flag is quiet in this way
 --     IsNoted k ..             something of the shard may be due from then on: its length is 0, and it has a flag; all others stay
 --     AreSameNotes ..          nothing changed
---     IsNotedFor a k ..        so it is by the answer to a submission, whose outcome is due later where it waits
+--     IsNotedFor a k ..        what is noted for the answer to a submission: where it waits its outcome is due later, else nothing changed
 use Rattle.std.specs.Prelude.{◌≡◌, ◌≢◌, ◌<◌, ℕ, Bool, true, false, List, [], slice_index_or}
 use Rattle.doc_items.specs.Maps.{Key}
 use Rattle.session_core.specs.declared.request.SubmitAnswer.{SubmitAnswer}

@@ -3,8 +3,8 @@
 --     MayAsk s r           what such a session asks for: to open a wavelet with a user alone, and what a peer has with a peer alone
 --     IsSentTo d k ms s n  of the shard with these marks, the session was sent all that there is at their length n, and what it was told
 --                          stays then; 0 says nothing
---     AreSentTo d ms s ns  so it is with each shard
---     AreSentAll ms i ns   of the first i shards, these are the lengths
+--     AreSentTo d ms s ns  of each shard the session was sent all that there is at its length among ns
+--     AreSentAll ms i ns   the lengths ns are those of the marks, of the first i shards
 use Rattle.std.specs.Prelude.{◌≡◌, ◌≢◌, ◌<◌, ℕ, true, false, List, [], length, slice_index_or, Some}
 use mathlib.Core.List.{IsPrefix}
 use Rattle.doc_items.specs.Maps.{Key}

@@ -8,8 +8,8 @@
 --     HasWorked .. s m     what a message asked for was done: the session then, and the reply, if it has one
 --     IsUnasked ts         a message was read, and at most the clock was, too
 --     Since o .. P         P holds of all readings and marks since the start
---     GoesOn, HasBroken, HasEnded     so it is with a session between two turns, one that broke off, and one that ended with a cause
---     HasReplied, HasHalted           so it is with one call that replied to a message, and with one that gave no reply
+--     GoesOn, HasBroken, HasEnded     the same of a session between two turns, one that broke off, and one that ended with a cause
+--     HasReplied, HasHalted           the same of one call that replied to a message, and of one that gave no reply
 use Rattle.std.specs.Prelude.{◌≡◌, ◌⊎◌, ◌<◌, ◌≤◌, ◌+◌, ℕ, Bool, IsTrue, List, [], ◌∷◌, length, Option, Some, None}
 use mathlib.Core.List.{IsPrefix}
 use Rattle.message_json.specs.declared.message.Message.{Message}

@@ -1,5 +1,5 @@
 -- A session's end, by what its passes had seen before and have seen then.
---     AreTaken f g ts          a clock with these readings to come gave those, and has those others to come
+--     AreTaken f g ts          a clock that had the readings f to come gave the readings ts, and has g to come
 --     IsEnded v .. es c        a session of the server was served over a link with this list, and ended for this cause: the marks that were
 --                              added are those of its answers, each shard was looked at before each poll, and the readings are the clock's
 use Rattle.std.specs.Prelude.{◌≡◌, ◌<◌, ◌≤◌, ◌+◌, ℕ, Bool, IsTrue, List, length, slice_get, Some}

@@ -38,7 +38,7 @@ total (suc n) f = total n f + f n
 abbrev pub HaveNothingLeft : Key → (ℕ → List Mark) → Session → Type 0
 HaveNothingLeft d marks s = (k : ℕ) → k < 16 → delivered (shown_at d k (marks k)) s ≡ []
 
--- the list ends with the poll that told the close
+-- the list ends with the poll that found the link closed
 abbrev pub EndsClosed : List LinkEvent → Type 0
 EndsClosed es = (before : List LinkEvent) × (es ≡ before ++ Ended ∷ [])
 

@@ -3,10 +3,10 @@
 --     threads s              the threads of a state
 --     is_live p              a blip that isn't deleted
 --     named_items s id       the items of the document that an id names; an id that is no document's name names none
---     named_version ds id    its changed version
+--     named_version ds id    the changed version of the document that an id names
 --     title_of s ns          the title of the first blip that isn't deleted; empty where there is none
 --     is_unread ds mark n    a blip that isn't deleted, and whose document changed after the mark
---     unread ds mark ns      how many there are
+--     unread ds mark ns      how many of the blips are unread
 use Rattle.std.specs.Prelude.{ℕ, ◌+◌, Bool, false, cond, ◌&&◌, not, nat_lt, codes, List, [], ◌∷◌}
 use Rattle.doc_items.specs.Maps.{Key}
 use Rattle.doc_items.specs.declared.item.Item.{Item}

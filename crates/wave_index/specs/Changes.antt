@@ -1,10 +1,10 @@
 -- The changed version of a document: the version after the last delta that changes it.
 --     is_idle a                an action that keeps an item and changes nothing of it
---     changes_by acts          some action does more
+--     changes_by acts          one of the actions isn't idle
 --     changes d a, is_changed d as     an act, some of the acts changes the document
 --     end_of_delta d           the version after a delta
 --     changed_from d v ds      the changed version of a document after deltas, where it was v before them
---     changed_version d ds     so from the start on; 0 where no delta changes it
+--     changed_version d ds     the changed version from the start of a history on; 0 where no delta changes the document
 use Rattle.std.specs.Prelude.{ℕ, ◌+◌, Bool, false, cond, ◌&&◌, ◌||◌, not, List, [], ◌∷◌, length}
 use Rattle.std.specs.List.{list_any}
 use Rattle.doc_items.specs.Changes.{none_running}

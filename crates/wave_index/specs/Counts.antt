@@ -1,6 +1,6 @@
 -- How often words stand in the documents of wavelets, as it is kept.
 --     counted s w d            how often a word stands in a document; never in the manifest
---     counts_in m w n d        so in a document of one of the histories
+--     counts_in m w n d        how often a word stands in a document at the head of the history of the name n
 --     touched_words e ls       the words of letters that lie between edges, or reach into what does
 --     touched s os w d         how often a word stands in what operations touch of a document
 --     moved way x n            a number less or more by another

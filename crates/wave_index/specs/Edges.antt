@@ -4,13 +4,13 @@
 --     cut e                    an item is put in or taken away
 --     step_over e c            what a component leaves
 --     edges_from e cs          what components leave
---     edges_of cs              so of an operation
+--     edges_of cs              what the components of an operation leave
 --     smaller a b              the smaller of two numbers
 --     both e f                 what one operation and then another leave
 --     is_on d o                the operation is on a document
 --     edges_after e d o        what an operation more leaves of a document
---     edges_over e d os        so of operations in turn
---     edges_in d os            from the first one on
+--     edges_over e d os        what operations in turn leave after that
+--     edges_in d os            what operations in turn leave, from the first one on
 --     is_mutated d os          one of the operations is on a document
 --     is_first d os i          the operation at a place is the first one on a document
 --     IsApart e ls ms          two documents are the same there, or as wholes

@@ -1,16 +1,14 @@
 -- What a user has, and where a word stands. Only wavelets count in which the user is a participant at the head.
---     mark_in marks n         the version up to which a wavelet is read; 0 where none is noted
 --     sees t user             the user is a participant at the head of the history
 --     line t mark             what the inbox shows of a history
---     lines_of ts user marks  of histories in order
---     inbox m user marks      of all, in byte order of their names
---     has_word w items        the word is one of the document's
+--     lines_of ts user marks  what the inbox shows of histories, in order
+--     inbox m user marks      what the inbox shows of all histories, in byte order of their names
 --     is_hit s w d            the document has the word, and isn't the manifest
 --     hit_at n d              a hit
 --     hits_of t w             the documents of a history that have the word, in byte order of their names
---     all_hits ts user w      of histories in order
---     search m user w         of all, in byte order of their names
---     hits_at m user w n      those in the history of a name, if there is one
+--     hits_among ts user w    the hits in histories, in order
+--     search m user w         the hits in all histories, in byte order of their names
+--     hits_at m user w n      the hits in the history of a name, if there is one
 use Rattle.std.specs.Prelude.{ℕ, Bool, cond, ◌&&◌, not, nat_lt, is_some, List, [], ◌∷◌, ◌++◌, map}
 use Rattle.std.specs.FinMap.{entries, get, keys}
 use Rattle.std.specs.Option.{option_map_or}

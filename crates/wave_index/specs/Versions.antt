@@ -1,11 +1,11 @@
 -- Changed versions as they are kept.
 --     Versions               the versions by the names of documents
 --     version_in m d         that of a document; 0 where none is noted
---     IsThere m d           there is one
+--     IsThere m d           a version is kept of the document
 --     KeepsAll m n           the versions stay, and what is there stays there
 --     HasRoom m o            there is one for the document that an operation is on
 --     is_retain c            the component lets items stay
---     KeepsVersions m ds     they are the changed versions after deltas
+--     KeepsVersions m ds     the versions that are kept are the changed versions after deltas
 use Rattle.std.specs.Prelude.{◌≡◌, ℕ, Bool, true, false, IsSome, unwrap_or, List}
 use Rattle.std.specs.BTreeMap as tree
 use Rattle.std.specs.Cmp.Lexicographic.{slice_cmp}

@@ -44,7 +44,7 @@ impl ChangedVersions {
         }
     }
 
-    // There is room for the version of a document.
+    // Makes room for the version of a document.
     fn reserve(&mut self, alloc: Global, name: &DocumentName) -> Result<(), Memory>
         ensures same { KeepsAll self.old.map self.new.map }
         ensures room { OnOk result (IsThere self.new.map name.now) }
@@ -57,7 +57,7 @@ impl ChangedVersions {
         Ok(())
     }
 
-    // There is room for the version of the document that an operation is on.
+    // Makes room for the version of the document that an operation is on.
     fn reserve_for(&mut self, alloc: Global, op: &WaveletOp) -> Result<(), Memory>
         ensures same { KeepsAll self.old.map self.new.map }
         ensures room { OnOk result (HasRoom self.new.map op.now) }
@@ -71,7 +71,7 @@ impl ChangedVersions {
         }
     }
 
-    /// There is room for the versions of the documents that operations are on. The versions stay.
+    /// Makes room for the versions of the documents that operations are on. The versions stay.
     pub fn reserve_all(&mut self, alloc: Global, ops: &[WaveletOp]) -> Result<(), Memory>
         ensures same { KeepsAll self.old.map self.new.map }
         ensures room { OnOk result (All (HasRoom self.new.map) ops.now) }

@@ -95,7 +95,7 @@ fn move_document(
     move_words(alloc, places, words.as_slice(), name, document, way)
 }
 
-// So of the document that the operation at a place is the first of all to be on.
+// The same for the document of the operation at a place, where that is the first operation on it.
 fn move_first(
     alloc: Global,
     places: &mut WordPlaces,
@@ -156,7 +156,7 @@ fn shifted(
 }
 
 impl KeptWords {
-    /// Those of no wavelet.
+    /// The words of no wavelet.
     pub fn new(alloc: Global) -> KeptWords
         ensures { CountsAs result.places (λ w n d. 0) }
     {
@@ -165,7 +165,7 @@ impl KeptWords {
         }
     }
 
-    /// None are kept.
+    /// No words are kept, as after want of memory.
     pub fn none() -> KeptWords
         ensures { result.places ≡ None }
     {

@@ -1,7 +1,7 @@
 -- Runs of the terminal client.
 --     IfEdit c P       P of the words of a command that is one of the terminal client
 --     IsClient c       it is one
---     HasNetCause c .. why a net failed: its door did for a server, the line for a client
+--     HasNetCause c .. why a net failed: for a server its door failed, for a client the line
 --     IsEdited ..      the address was dialled, the run was the client's over that link, and the link was put back
 --     IsUndialled ..   the dialling gave no link, and none was put back
 --     IsEditRun ..     one of these; where there was no link, nothing was read and nothing written

@@ -1,7 +1,7 @@
 -- Runs over a store.
 --     IsFileOf o n ds           the file stands for this history of the name, as it reads
 --     GoesOn n ds bytes         bytes stand for a history of the name that begins with these deltas
---     IsStoredFrom o n ds       so does the file, as it reads and in each image
+--     IsStoredFrom o n ds       the file stands for such a history, as it reads and in each image
 --     IsThere loaded hs n       the file of the name was loaded, or the name has a delta
 --     AreStored files P hs      the file of each name with P stands for its history, as it reads and in each image
 --     AreStoredFrom files hs    that of each name that has a delta stands for a history that begins with its own
@@ -12,7 +12,7 @@
 --                               what has P
 --     IsFileBegun p P           it was made in the run, empty, and a crash since then left it so, or with what has P
 --     AreApartIn P              no two names with P have one file
---     AreApartAmong loaded ts   so of the names whose files were loaded and those to which one of these turns submits
+--     AreApartAmong loaded ts   no two have one file, of the names whose files were loaded or to which one of these turns submits
 --     IsBeforeIn a b            the files of no container read as before, and a crash leaves no more of them, or what they read
 --     IsLoaded a m              the shelf m is a with its files loaded
 --     IsClosed a g              the disks of the shelf a were put back into the folder g

@@ -1,4 +1,4 @@
-// What is told where the words name no command.
+// What is printed where the words name no command.
 ghost use Rattle.std.specs.Prelude.{◌≡◌, codes};
 ghost use Rattle.line_loop.specs.Output.{IsWritten};
 ghost use Rattle.wave_program.specs.Words.{usage};

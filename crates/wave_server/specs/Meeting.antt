@@ -4,8 +4,8 @@
 --     HasMet .. n es            of this many peers: the links that no entry names and that were stepped, after it was said on them for
 --                               which domain the server speaks, and what the count of the line rose by beyond the faults of the others, are
 --                               together as many at least, or that count stands at its last value
---     HaveMet .. es ps          so before the links of these peers are put back, each of which was reached or made the count of the line
---                               rise
+--     HaveMet .. es ps          the same before the links of these peers are put back, each of which was reached or made the count of the
+--                               line rise
 use Rattle.std.specs.Prelude.{◌<◌, ◌≤◌, ◌+◌, ℕ, min, Bool, nat_eq, cond, List, [], ◌∷◌}
 use Rattle.std.specs.List.{list_any}
 use Rattle.doc_items.specs.Maps.{Key}

@@ -1,8 +1,8 @@
 -- The robots of a server.
---     is_verdict_invalid v, is_invalid a      the verdict, the answer to an edit, is that it was invalid
+--     is_verdict_invalid v, is_invalid a      the verdict on an edit, or the answer to it, is that it was invalid
 --     HaveAnswered d k ms g n    of the wavelet the robots were shown just their views, so far as they went through it, and something came
 --                                of each edit that they answered
---     AreReady d marks g         so it is of each wavelet of each shard
+--     AreReady d marks g         the robots have answered so of each wavelet of each shard
 --     AreSettledBelow n d marks g      of the shards with numbers below n nothing is left for them
 --     WereServed d marks g       of each history that the marks give: each robot that is there, where it tells its calls, was shown its
 --                                whole view since it was added, and something came of each edit that it answered

@@ -7,7 +7,7 @@
 --     AreRising es              the places of the entries rise, so no two of them are the same
 --     returned before now       the links that were put back since the first of these were
 --     IsEntry .. back e         the session of an entry was served over the link that was put back at its place
---     HasServed .. es           so the session of each entry; the links that were put back are those before and more
+--     HasServed .. es           the session of each entry was served so; the links that were put back are those before and more
 --     faults_named back es      the faults of the links that entries name
 --     IsGoing ..                so far, with this many links put back, and the faults of those that entries name are counted as the line's
 use Rattle.std.specs.Prelude.{◌≡◌, ◌≢◌, ◌<◌, ◌≤◌, ◌+◌, ℕ, min, Bool, true, false, IsTrue, List, [], ◌∷◌, drop, filter, length}

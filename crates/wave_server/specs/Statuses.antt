@@ -1,7 +1,7 @@
 -- The status of each stop.
 --     IsStatus s n         this is the status
 --     IsServerStatus n     any that a server may end with
---     TellsSpent b r       where a shard was seen to have no turn left a call stops for that, and for nothing of the kind where none was
+--     TellsSpent b r       a call stops with `Spent` exactly where a shard was seen to have no turn left
 use Rattle.std.specs.Prelude.{◌≡◌, ◌≢◌, ◌⊎◌, ℕ, Bool, false, MatchBool, Result, MatchResult}
 use Rattle.wave_server.specs.declared.stop.Stop.{Stop}
 use Rattle.wave_server.specs.declared.stop.Stop.TheVariants.{Door, Memory, Refused, Spent}

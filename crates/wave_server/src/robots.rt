@@ -83,7 +83,7 @@ fn submit_edit<R: Wait, F: Folder + Drop, C: Clock, G: Gate>(
     Ok(())
 }
 
-// So edits, in order.
+// Submits edits in this way, in order.
 fn submit_edits<R: Wait, F: Folder + Drop, C: Clock, G: Gate>(
     rt: &R,
     alloc: Global,
@@ -152,7 +152,7 @@ fn turn_at<R: Wait, F: Folder + Drop, C: Clock, G: Gate>(
     }
 }
 
-// So at a shard that has grown since nothing of it was left for the robots.
+// `turn_at`, at a shard that has grown since nothing of it was left for the robots.
 fn attend_one<R: Wait, F: Folder + Drop, C: Clock, G: Gate>(
     rt: &R,
     alloc: Global,
@@ -181,7 +181,7 @@ fn attend_one<R: Wait, F: Folder + Drop, C: Clock, G: Gate>(
     }
 }
 
-// So at each shard.
+// `attend_one` at each shard.
 fn attend_all<R: Wait, F: Folder + Drop, C: Clock, G: Gate>(
     rt: &R,
     alloc: Global,
@@ -276,7 +276,7 @@ fn settle_one<R: Wait, F: Folder + Drop, C: Clock, G: Gate>(
     unreachable!()
 }
 
-// So at each shard, one after the other.
+// `settle_one` at each shard, one after the other.
 fn settle_all<R: Wait, F: Folder + Drop, C: Clock, G: Gate>(
     rt: &R,
     alloc: Global,

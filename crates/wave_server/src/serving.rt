@@ -484,7 +484,7 @@ fn go_on<
     unreachable!()
 }
 
-/// Makes what the server needs meanwhile, and goes on so.
+/// Makes what the server needs while it runs, and then does what `go_on` does.
 pub(crate) fn serve_all<
     R: Wait,
     N: Net,

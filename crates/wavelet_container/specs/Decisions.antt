@@ -1,17 +1,18 @@
--- The verdict on a submission, in two steps: what is told of it before it becomes a delta, and what its delta tells.
+-- The verdict on a submission, in two steps: what is decided before it becomes a delta, and what its delta decides.
 --     judged h s t          the verdict, and the delta by which the history grows
 --     IsBase h s k          the submission's id is new and its author may write, and it was made after the first k deltas: what is
 --                           left to test is its operations
 --     has_room h os         the bounds of versions and of items hold with the operations
---     refusal at p as u     what is told where no delta can follow: that the acts aren't valid at the base, or else that there is no
+--     refusal at p as u     the verdict where no delta can follow: that the acts aren't valid at the base, or else that there is no
 --                           room
 --     IsNear h s t k d      the delta d is what the submission becomes: that is the verdict, unless the delta can't be next
---     IsDecided h s t r     what is told at once is the verdict
+--     IsDecided h s t r     a verdict that is given at once is the one on the submission; a delta is the one that it becomes
 --     LooksAtOps j          the verdict is one that comes only after the operations were looked at: that they aren't valid, that there
 --                           is no room, or that they are accepted
---     refusal_of h s k v    this verdict is the refusal
+--     IsRefusal h s k v     this verdict is the refusal at the base after the first k deltas
 --     IsFullFor h s t v     where it is `Full`, the operations are valid at their base, and the delta that they become breaks a bound
---     IsEarlyTold r, IsFullTold h s t r     so of what is told before the operations were looked at, and of what is told then
+--     IsEarlyTold r         a verdict that is given here doesn't need the operations
+--     IsFullTold h s t r    where the verdict that is given at once is `Full`, `IsFullFor` holds of it
 use Rattle.std.specs.Prelude.{◌≡◌, ◌≤◌, ◌<◌, ◌+◌, ℕ, Bool, true, false, ◌&&◌, nat_le, min, List, length, take, drop, Option, Some, None, IsSome}
 use Rattle.doc_items.specs.Limits.{max_count}
 use Rattle.wave_base.specs.Versions.{VersionAt}

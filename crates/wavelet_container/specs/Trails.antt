@@ -1,9 +1,9 @@
 -- A state of the past that goes forward and back with the deltas of a history.
 --     LeadsBack ds n b        from the state after n + 1 deltas these operations lead to the one after n
---     AllLeadBack ds n bs     so does each, the first of them to the state after n deltas
+--     AllLeadBack ds n bs     each of some operations leads back by a delta, the first of them to the state after n deltas
 --     place_of t              how many deltas the state is after
---     IsTrail ds t            it is the state there, and what takes the deltas before it back is what it keeps
---     IsReached ds n o        it is the state after n deltas, where there is one
+--     IsTrail ds t            the trail's state is the one after so many deltas, and it keeps what takes the last of them back
+--     IsReached ds n o        the trail, where there is one, is at the state after n deltas
 --     IsKeptBack n b t u      what takes the last delta back was kept, or else nothing before it can be taken back
 --     IsTriedAt s as o        what is found where acts are tried at a state: None where they are valid
 use Rattle.std.specs.Prelude.{◌≡◌, ◌⊎◌, ◌+◌, ◌≤◌, ℕ, List, [], ◌∷◌, ◌++◌, length, Option, Some, None, IsSome, IfSome, MatchOption}

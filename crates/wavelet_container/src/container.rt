@@ -66,7 +66,7 @@ impl<K: Disk> Container<K> {
         }
     }
 
-    /// The same with what is made here. The error is want of memory; the disk is dropped then, and nothing was done to it.
+    /// `over` with an `Unstored` that is made here. The error is want of memory; the disk is dropped then, and nothing was done to it.
     pub fn start(alloc: Global, name: WaveletName, disk: K) -> Result<Container<K>, Memory>
     where
         K: Drop,

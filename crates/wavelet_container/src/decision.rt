@@ -18,7 +18,7 @@ use wavelet_state::MAX_INSERTED;
 pub(crate) enum Decision {
     /// The verdict.
     Told(Verdict),
-    /// It was made after so many deltas, and becomes this delta, unless that can't be the next one.
+    /// The submission was made after so many deltas, and becomes this delta, unless that can't be the next one.
     Near(usize, AppliedDelta),
 }
 

@@ -46,7 +46,7 @@ pub enum LoadFault {
     Memory,
 }
 
-/// Why a delta isn't after the others.
+/// Why a delta wasn't put after the others.
 #[derive(Clone, Copy, Debug, PartialEq, Eq)]
 pub(crate) enum AddFault {
     /// The history wouldn't be legal.

@@ -51,7 +51,7 @@ fn read(alloc: Global, history: &History, bytes: &[u8]) -> Result<AppliedDelta, 
     }
 }
 
-// The delta of a record is after the others, if it is the next one.
+// Puts the delta of a record after the others, if it is the next one.
 fn push(alloc: Global, history: &mut History, bytes: &[u8]) -> Result<(), RecordFault>
     ensures ok { OnOk result (IsPushed history.old bytes.now history.new) }
     ensures refused { IfErr result (λ e. e ≡ RecordFault.Illegal → IsIllegal history.old.name history.old.deltas bytes.now) }
@@ -69,7 +69,7 @@ fn push(alloc: Global, history: &mut History, bytes: &[u8]) -> Result<(), Record
     }
 }
 
-// The deltas of the records are after one another, in a history that was empty.
+// Puts the deltas of the records one after another into a history that was empty.
 fn push_all(alloc: Global, history: &mut History, records: &[Stored]) -> Result<(), LoadFault>
     requires empty { history.old.deltas ≡ [] }
     requires gates { StandFrom (length (1 ∷ header history.old.name)) records.now }

@@ -42,7 +42,7 @@ pub(crate) fn passed(alloc: Global, ops: &Ops, since: &[AppliedDelta]) -> Result
     }
 }
 
-// So they are, where they are in normal form before.
+// The same for operations that are in normal form already.
 fn pass_rest(alloc: Global, ops: Ops, since: &[AppliedDelta]) -> Result<Ops, Memory>
     requires can { CanPass (meanings ops) since.now }
     requires normal { AreNormal ops }

@@ -32,7 +32,7 @@ impl CachedHistory {
         }
     }
 
-    // The verdict on a submission that becomes this delta, which is then after the others. The time is only spoken of.
+    // The verdict on a submission that becomes this delta, which is then after the others. Its clauses alone speak of the time.
     fn push(
         &mut self,
         alloc: Global,

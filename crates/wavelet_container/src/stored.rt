@@ -43,7 +43,7 @@ fn prepared(
     }
 }
 
-// One record more.
+// Adds one record.
 fn append<K: Disk>(alloc: Global, journal: &mut Journal<K>, bytes: &[u8]) -> Result<(), AddFault>
     requires whole { needs_repair journal.old ≡ false }
     ensures any_moment { WhereHeld journal.old
@@ -65,7 +65,7 @@ fn append<K: Disk>(alloc: Global, journal: &mut Journal<K>, bytes: &[u8]) -> Res
     }
 }
 
-// The delta is on the disk, by the bytes that were hashed, and then after the others.
+// Puts the delta on the disk, by the bytes that were hashed, and then after the others.
 fn store<K: Disk>(
     alloc: Global,
     wavelet: &mut CachedHistory,

@@ -13,7 +13,7 @@ use std::alloc::{AllocError, Global};
 use wavelet_op::{AppliedDelta, Ops, WaveletFault};
 use wavelet_state::{Back, WaveletState, apply_inverting, apply_valid, invert_valid};
 
-// So many deltas a state goes forward at most: a kept one is nearer than those that are farther.
+// The most deltas that a state goes forward: to a place that is farther, a kept state is nearer.
 const FAR: usize = 64;
 
 /// A state after some deltas of a history, with what takes the last of them back.
@@ -76,7 +76,7 @@ impl Trail {
         }
     }
 
-    // Of what takes deltas back no more is kept than goes back as far as a state goes forward.
+    // Keeps no more of what takes deltas back than reaches back as far as a state goes forward.
     fn trim(&mut self)
         requires { place_of self.old < 2 ^ 64 - 1 }
         ensures trail { (ds : List DeltaOf) → IsTrail ds self.old → IsTrail ds self.new }

@@ -1,13 +1,13 @@
 -- Acts in a row with fewer of them: neighbouring mutations of one document become one, from the left.
 --     Unfit                   two neighbours are over too many items together; or the second doesn't apply after the first,
---                             past so many items
+--                             with the number of items before the first at which they don't agree
 --     mutation d r            the mutation of a document that composition gives
 --     join a b                one mutation for two of one document, or why there is none; None for other acts
 --     bounded_join a b        the same with the bound on counts
 --     act_front, go_on        an act in front of a result; what follows a step of `join`
 --     compact_by join a as    the acts a ∷ as, where neighbours that join are joined
---     all_compact_by join as  so of a list, which may be empty
---     compact as, bounded_compact as      without the bound on counts, and with it
+--     all_compact_by join as  the same of a list, which may be empty
+--     compact as, bounded_compact as      the acts compacted: without the bound on counts, and with it
 use Rattle.std.specs.Prelude.{ℕ, cond, nat_le, List, [], ◌∷◌, Option, None, Some, Result, Ok, Err}
 use Rattle.std.specs.Result.{result_ok}
 use Rattle.doc_items.specs.Limits.{max_count}

@@ -5,7 +5,7 @@
 --     pass_one step l es      one later through the earlier ones: its result, and theirs
 --     grid_by step k ls es    the later ones, of which the first has the index k, through the earlier ones; or the index of the
 --                             one whose pass first meets a refusal, and that refusal
---     grid ls es, bounded_grid ls es      of acts: without the bound on counts, and with it
+--     grid ls es, bounded_grid ls es      the transform of lists of acts: without the bound on counts, and with it
 --     pass as deltas          acts as later ones through lists of earlier ones, one list after the other
 use Rattle.std.specs.Prelude.{ℕ, suc, List, [], ◌∷◌, Option, Some, Result, Ok, Err, option_and_then}
 use Rattle.std.specs.Result.{result_ok}

@@ -2,8 +2,8 @@
 --     IsSquare l e t u        two acts that apply at one state, which t and u are after the earlier and after the later one: their
 --                             transform is defined, each result applies to what the other act leaves, both ways round lead to
 --                             one end, and neither inserts more than its act
---     ActSquare               so it is of any two acts
---     IsGrid, DeltaSquare     so it is of any two lists of acts, and the lengths are kept
+--     ActSquare               this holds of any two acts
+--     IsGrid, DeltaSquare     the same of two lists of acts, whose lengths are kept; it holds of any two
 --     IsCompact, CompactHolds what is valid at a state is compacted, leads to the same end, and inserts no more
 --     BoundedIsExact, BoundedCompactIsExact     with the bound on counts there is no other result than without it
 --     IsWhole s, StatesHold   every document is balanced and none that is kept is empty; lists that are valid keep that

@@ -1,7 +1,7 @@
 -- Operations on their way through others.
 --     held h, act_held h, acts_held hs     the operation that is held, its act, the acts of those in a row
 --     IsSettled h          what isn't lent is in normal form
---     after o c            what an operation becomes; it stays where nothing is said
+--     after o c            what an operation becomes; it stays as it is where c is None
 --     IsCrossing l e c     what becomes of both operations, that which changes being in normal form
 --     IsCrossed l e p      both results, held
 --     earlier_fronts xs r  earlier ones that were passed already, in front of what the rest gives

@@ -1,10 +1,10 @@
 -- What `transform_op`, `transform_delta` and `compact` answer.
 --     Refuses r f           the fault f tells the refusal r: the index of a conflict, or that counts are too large
 --     IsPair l e p          the results of two operations, in normal form and structured
---     IsOpsPair ls es p     so of two lists
+--     IsOpsPair ls es p     the results of two lists of operations, likewise, each list as long as before
 --     IsCompaction os r     the compacted operations, in normal form; structured where those before are
 --     TellsUnfit r f        the fault f tells why no act takes the place of two
---     IsUnfit os f          why there are none
+--     IsUnfit os f          the fault f tells why operations aren't compacted
 --     fault_of f k, fault_of_compose f     the fault where operations on a document have no transform, or no composition
 use Rattle.std.specs.Prelude.{◌≡◌, ℕ, List, length, Result, Ok, Err}
 use Rattle.op_compose.specs.declared.fault.ComposeFault.{ComposeFault}

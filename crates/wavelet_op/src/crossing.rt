@@ -73,7 +73,7 @@ pub(crate) fn cross(
     }
 }
 
-// Two operations on roles that clash on one address, and stay on two.
+// What becomes of two operations on roles: on one address they clash, and on two both stay.
 fn stay_apart(index: u32, address: &Address, other: &Address) -> Result<Crossing, WaveletFault>
     ensures { MatchResult result
         (λ c. (same_text address.now other.now ≡ false) × (c.later ≡ None) × (c.earlier ≡ None))

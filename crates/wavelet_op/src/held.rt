@@ -34,7 +34,7 @@ impl<'a> Held<'a> {
         }
     }
 
-    /// What it becomes; it stays where nothing is said.
+    /// What the operation becomes; it stays as it is where `change` is None.
     pub fn turned(self, change: Option<WaveletOp>) -> Held<'a>
         requires normal { IfSome change IsNormal }
         requires settled { IsSettled self }

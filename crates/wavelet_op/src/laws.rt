@@ -1,7 +1,7 @@
 ghost use Rattle.wavelet_op.specs.Laws.{ActSquare, DeltaSquare, BoundedIsExact, StatesHold, PassAppends, CompactHolds, BoundedCompactIsExact};
 
 /// The law of the transform on wavelets: operations that are valid at one state have a transform, both ways round lead to one
-/// state, and nothing more is inserted; so do lists of operations. The bound on counts refuses results and gives no others.
+/// state, and nothing more is inserted; the same holds of lists of them. The bound on counts refuses results and gives no others.
 /// Operations pass through deltas in a row as through the first and then through the others. A valid list leaves every document
 /// balanced, and keeps none that is empty.
 #[tactic(auto, using(crate::proofs::Squares::act_square, crate::proofs::Grids::delta_square, crate::proofs::Grids::bounded_is_exact, crate::proofs::Grids::pass_appends, crate::proofs::Wholes::states_hold))]

@@ -3,13 +3,13 @@
 --     AreInOrder es          the names ascend; each container's history has its name, and its file is that of the name
 --     IsPlace n names i      the name belongs there among the names
 --     IsPut n f es after     the entry came to the others
---     HasDelta e, HaveADelta es    its history has a delta; so it is of each
+--     HasDelta e, HaveADelta es    the history of an entry, or of each entry, has a delta
 --     histories es           the deltas of each name
---     hosting es             so, of those that have a delta
+--     hosting es             the deltas of each name that has a delta
 --     faults_of c, faults_in es     how often disks have failed
 --     AreHeld es             over disks that tell their bytes, each history stands in a journal
 --     IsSafe c               the history stands in its file as that reads, and in each image of it, and no repair is pending
---     AreSafe es             so it is for each
+--     AreSafe es             the container of each entry is safe
 --     BeganEmpty view v P    a disk that was empty is at v now, and a crash since then left it as it was or with what has P
 --     IsWrittenOn o p P      of the container of a name before and after, if any: the file of the first, or an empty one where there was
 --                            none, was written until it was that of the second, and a crash since then left what it might have left
@@ -17,7 +17,7 @@
 --     IsFileWithin n ds o c  where it has a file: as it reads, and in each image, that stands for this history, or for it and the delta
 --     HaveRoom room es       there is room for the disk of each
 --     FitsFolder room folder e     there is room for its disk in the folder; without one, it stands in no journal
---     FitFolder room folder es     so it is for each
+--     FitFolder room folder es     each entry fits the folder in this way
 use Rattle.std.specs.Prelude.{◌≡◌, ◌==◌, ℕ, ◌+◌, ◌≤◌, Bool, true, false, List, [], ◌∷◌, length, insert, map, Option, Some, None, is_some, IfSome, string_bytes}
 use Rattle.std.specs.Cmp.Lexicographic.{pointwise, slice_cmp}
 use Rattle.std.specs.Coded.{Coded-set, coded_ℕ, coded_list, coded_bool, ×_prop, Unit-prop}

@@ -3,9 +3,9 @@
 --     IsBack f e                 the disk of the entry, if it has one, stands in the folder
 --     AreFiledApart es           no two entries have one file
 --     ArePutBack f g es          the disks of the entries were put back
---     IsOneBack f g m c          so was that of a container, into the file of this name
+--     IsOneBack f g m c          the disk of a container was put back, into the file of this name
 --     IsFileRead f g m es es'    the file was read: its history came to the others, or it stands for none
---     IsFileBack f g m           it wasn't, and reads as before
+--     IsFileBack f g m           the file wasn't read and is put back, and reads as before
 --     faults_with f es           how often the folder and the disks have failed
 --     IsFileStep f g m es es' r  what came of a file
 --     IsAllStep f g es ms r      what came of all
@@ -14,7 +14,7 @@
 --     IsStill f g                no path was entered from the folder f to the folder g, where it tells that
 --     IsStillIn o p              a folder before and after, and no path was entered; or none in both
 --     IsUsed may f g             no path was entered from f to g, and at most the files for which this holds changed
---     IsUsedIn may o p           so it is of a folder before and after; or there is none in both
+--     IsUsedIn may o p           a folder before and after was used in this way; or there is none in both
 --     IsUnmadeIn m o p           the file of this name stands in the folder as it was, or emptied; or there is no folder in both
 --     IsFirstAmong f names m k   of the files of these names this one is a journal's and refused, and none before it
 --     IsLooked f g es done       of the folder f these files were looked at, and those of the entries were read

@@ -3,7 +3,7 @@
 --     names_of hs                 the names
 --     deltas_in hs n              the deltas of the name: none where it isn't there
 --     grown_in hs n d             the delta after those of the name; a new name takes its place in byte order
---     with_added hs n o           so, where there is a delta
+--     with_added hs n o           the histories with the delta o after those of the name, where there is one
 --     judged_in hs n s t          the verdict on a submission to the name at the time t, and the delta by which its history grows
 --     after_submission hs n s t   the histories after it
 --     copy_in hs n                the history of the name: None where it isn't there

@@ -6,7 +6,7 @@
 --     fault_sums ss        how often the folders and disks of shelves have failed, added
 --     IsLike o s           a shelf without containers, over a folder like this one
 --     IsAddedTo n c ss after     one more container came to the shelf of its shard
---     ArePartsOf es ss after     so did all
+--     ArePartsOf es ss after     all entries came to the shelves of their shards
 use Rattle.std.specs.Prelude.{◌≡◌, ◌+◌, ℕ, List, [], ◌∷◌, Bool, nat_eq, cond, map, filter, set, slice_get, Option, Some, None, IsTrue, IfSome}
 use Rattle.doc_items.specs.Maps.{Key}
 use Rattle.disk_model.specs.declared.disk.Disk as disk_of

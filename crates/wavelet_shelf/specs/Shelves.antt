@@ -6,7 +6,7 @@
 --     fault_sum s            how often its folder and its disks have failed, added
 --     fault_count s          the same, but no more than the greatest u64
 --     IsKept s               over a folder whose disks tell their bytes: each history stands in a journal
---     IsSettled s            so it does, in its file as that reads and in each image of it, and no repair is pending
+--     IsSettled s            each history stands in its file as that reads, and in each image of it, and no repair is pending
 --     AreApart s             no two names have one file
 --     HasFile s m            this is the file of one of its names
 --     IsNewFile s n x t m    this is the file of a name that isn't there, and the submission's delta is accepted as its first

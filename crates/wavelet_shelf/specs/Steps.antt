@@ -1,9 +1,9 @@
 -- What a submission does.
---     IsTaken s t c c' r        a container answered it
+--     IsTaken s t c c' r        the container c answered a submission, and is c' then
 --     IsStarted n c             a container of the name with the empty history, which may stand in a journal
---     IsTakenFirst n s t c v    one without a journal answered
---     IsAnswered n s t es es' r     the container of the name did
---     IsHosted n s t a b r      the shelf did
+--     IsTakenFirst n s t c v    a new container of the name, without a journal, answered, and is c then
+--     IsAnswered n s t es es' r     the container of the name among entries answered
+--     IsHosted n s t a b r      the shelf a answered, and is b then
 use Rattle.std.specs.Prelude.{◌≡◌, ◌≢◌, ◌⊎◌, ◌==◌, ◌≤◌, ℕ, List, [], false, Result, Ok, Some, None, is_some, IsTrue, IsSome, IfOk, IfSome, OnOk, OnErr, IsErrOf}
 use Rattle.std.specs.Cmp.Lexicographic.{pointwise}
 use Rattle.std.specs.Map.{lookup, set_value}

@@ -28,7 +28,7 @@ fn is_begun_with<K: Disk>(begun: bool, filed: &Filed<K>) -> bool
 }
 
 impl<K: Disk + Drop> Containers<K> {
-    /// None.
+    /// No containers.
     pub fn new(alloc: Global) -> Containers<K>
         ensures { result.map.entries ≡ [] }
     {
@@ -38,7 +38,7 @@ impl<K: Disk + Drop> Containers<K> {
         }
     }
 
-    /// Whether the name is there.
+    /// Whether there is a container of the name.
     pub fn has(&self, name: &WaveletName) -> bool
         ensures { result ≡ is_some (lookup (pointwise ◌==◌ name.now) self.now.map.entries) }
     {
@@ -62,7 +62,7 @@ impl<K: Disk + Drop> Containers<K> {
         }
     }
 
-    /// There is room for one more. The error is want of memory.
+    /// Makes room for one more container. The error is want of memory.
     pub fn reserve(&mut self) -> Result<(), Memory>
         ensures room { OnOk result (0 < spare self.new.map) }
         ensures same { self.new.map.entries ≡ self.old.map.entries }
@@ -70,7 +70,7 @@ impl<K: Disk + Drop> Containers<K> {
         self.map.reserve(1)
     }
 
-    /// One more, into the room that is there.
+    /// Puts one more container into the room that is there.
     pub fn put(&mut self, name: WaveletName, filed: Filed<K>)
         requires named { IsNamed (name, filed) }
         requires absent { lookup (pointwise ◌==◌ name) self.old.map.entries ≡ None }

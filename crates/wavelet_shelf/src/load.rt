@@ -24,7 +24,7 @@ use std::alloc::Global;
 use wave_outside::Folder;
 
 impl<F: Folder + Drop> Shelf<F> {
-    /// Reads the wavelets' files of the folder, in byte order of their names, and has then the histories for which they stand; a file
+    /// Reads the wavelets' files of the folder, in byte order of their names; the shelf has then the histories for which they stand. A file
     /// without a header, and one that is no wavelet's, is passed over. A refusal puts every disk back, and there is no container:
     /// `Damaged` with the first file that has a journal's name and isn't the journal of a legal history of its wavelet, `Failed` where
     /// the folder or a disk failed.

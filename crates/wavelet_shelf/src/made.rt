@@ -10,7 +10,7 @@ use wave_outside::Folder;
 use wavelet_container::Container;
 
 impl<F: Folder + Drop> Shelf<F> {
-    /// No history, and no folder.
+    /// A shelf without histories and without a folder.
     pub fn new(alloc: Global) -> Shelf<F>
         ensures plain { in_folder result ≡ None }
         ensures empty { entries_of result ≡ [] }
@@ -22,7 +22,7 @@ impl<F: Folder + Drop> Shelf<F> {
         }
     }
 
-    /// No history, over a folder.
+    /// A shelf without histories, over a folder.
     pub fn over(alloc: Global, folder: F) -> Shelf<F>
         ensures folder { in_folder result ≡ Some folder }
         ensures empty { entries_of result ≡ [] }
@@ -35,7 +35,7 @@ impl<F: Folder + Drop> Shelf<F> {
         }
     }
 
-    /// Whether it is over a folder.
+    /// Whether the shelf is over a folder.
     pub fn is_stored(&self) -> bool
         ensures { result ≡ is_some (in_folder self.now) }
     {

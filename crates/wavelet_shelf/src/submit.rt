@@ -73,7 +73,7 @@ impl<F: Folder + Drop> Shelf<F> {
         self.answer(alloc, name, submission, time)
     }
 
-    // The same in one fact.
+    // `submit`, with all that it promises as one fact.
     fn answer(
         &mut self,
         alloc: Global,
@@ -90,7 +90,7 @@ impl<F: Folder + Drop> Shelf<F> {
         }
     }
 
-    // The same where the name isn't there.
+    // `answer` where the name isn't there.
     fn submit_first(
         &mut self,
         alloc: Global,
@@ -107,7 +107,7 @@ impl<F: Folder + Drop> Shelf<F> {
         }
     }
 
-    // The same where the operations decide.
+    // `answer` where the name isn't there and the operations decide.
     fn submit_new(
         &mut self,
         alloc: Global,

@@ -4,7 +4,7 @@
 --     act_at r m a               the state that an act leads to from a draft of these parts, where it applies
 --     parts, parts_code          the two parts, and the code of a state
 --     IsRefused s as f           the fault f tells the first of the acts that doesn't apply
---     IsRefusedFrom k s as f     so it does, counted from k
+--     IsRefusedFrom k s as f     the same, with the acts counted from k
 --     IsOutcome s as i t         the acts apply to s and give t, where i is None; else i is the first that doesn't, and t is s
 use Rattle.std.specs.Prelude.{◌≡◌, ℕ, ◌+◌, List, Option, None, Some, refl}
 use Rattle.std.specs.Coded.{Coded, code_by, coded_list, coded_ℕ, coded×}

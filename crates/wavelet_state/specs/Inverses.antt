@@ -4,7 +4,7 @@
 --     inverse_acts s as         what takes back acts that apply in turn: the inverses in reverse order, each at the state before its act
 --     back_at r m a             what takes an act back at a draft of these parts
 --     acts_back o               the acts of what takes back, where that is kept
---     led acts o                acts in front of them
+--     led acts o                these acts in front of those of o; None where o is None
 --     TakesBack                 the law: acts that apply in turn, and then what takes them back, lead to the state before them
 use Rattle.std.specs.Prelude.{◌≡◌, List, [], ◌∷◌, ◌++◌, Option, None, Some}
 use Rattle.std.specs.Option.{option_map, option_map_or}

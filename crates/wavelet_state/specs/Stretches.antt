@@ -1,7 +1,6 @@
 -- The stretch of a document that replacements lie in, and what puts a document back.
 --     first_from rs, last_end p rs     the place where the first replacement begins, and where the last one ends
 --     stretch from count items         that many items from a place on
---     IsSpan s rs                      the span of the replacements
 --     Restores back after before       put in, the replacement makes of the items after an edit those before it
 use Rattle.std.specs.Prelude.{◌≡◌, ℕ, ◌+◌, ◌≤◌, List, [], ◌∷◌, length, take, drop}
 use Rattle.doc_items.specs.declared.item.Item.{Item}

@@ -59,7 +59,8 @@ pub fn apply_valid(alloc: Global, state: &mut WaveletState, ops: &Ops) -> Result
     }
 }
 
-/// The same, with what takes them back.
+/// Applies operations that are valid at the state, and gives what takes them back. After want of memory, the only error, the state is
+/// as it was.
 pub fn invert_valid(alloc: Global, state: &mut WaveletState, ops: &Ops) -> Result<Back, Memory>
     requires { run state.old (meanings ops.now) ≢ None }
     ensures ok { OnOk result (run state.old (meanings ops.now) ≡ Some state.new) }

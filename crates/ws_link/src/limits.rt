@@ -28,7 +28,7 @@ pub struct Limits {
 }
 
 impl Limits {
-    /// Those of a program to which only clients come.
+    /// The limits of a program to which only clients come.
     pub const fn for_clients() -> Limits {
         Limits {
             accepted: CLIENT_MESSAGE,
@@ -37,7 +37,7 @@ impl Limits {
         }
     }
 
-    /// Those of a program to which other servers come, too.
+    /// The limits of a program to which other servers come, too.
     pub const fn for_peers() -> Limits {
         Limits {
             accepted: PEER_MESSAGE,

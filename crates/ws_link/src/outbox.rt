@@ -43,7 +43,7 @@ impl Outbox {
     ghost use Rattle.ws_link.specs.Outboxes.{contents};
     ghost use Rattle.ws_link.specs.declared.outbox.Unkept.TheVariants.{Full};
 
-    /// One that may hold so many bytes.
+    /// An outbox that may hold so many bytes.
     pub(crate) fn new(alloc: Global, most: usize) -> Outbox
         ensures { (contents result ≡ []) × (result.most ≡ most) }
     {

@@ -1,6 +1,6 @@
 //! How long who looks waits where nothing came.
 
-/// Grows with each wait in a row, up to a limit. All times are in milliseconds.
+/// How long a wait may last, which grows with each wait in a row, up to a limit. All times are in milliseconds.
 #[derive(Clone, Copy)]
 pub struct Patience {
     next: u64,
@@ -9,18 +9,18 @@ pub struct Patience {
 }
 
 impl Patience {
-    /// That of a link which doesn't wait by itself, since its owner waits elsewhere.
+    /// The patience of a link which doesn't wait by itself, since its owner waits elsewhere.
     pub const fn none() -> Patience {
         Patience::between(0, 0)
     }
 
-    /// That of a link which is all that its owner listens to, with its bell: these end each wait, so that a short one would only
+    /// The patience of a link which is all that its owner listens to, with its bell: these end each wait, so that a short one would only
     /// look in vain.
     pub const fn of_session() -> Patience {
         Patience::between(250, 1_000)
     }
 
-    /// That of a link whose owner also looks elsewhere, where no bell is rung.
+    /// The patience of a link whose owner also looks elsewhere, where no bell is rung.
     pub const fn of_terminal() -> Patience {
         Patience::between(1, 50)
     }

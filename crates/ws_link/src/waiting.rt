@@ -37,7 +37,7 @@ impl Drop for Waiting {
 }
 
 impl Waiting {
-    /// One without a bell.
+    /// A place to wait, without a bell.
     pub(crate) fn new<R: Net>(rt: &R, alloc: Global) -> io::Result<Waiting> {
         let poll = Poll::new(rt)?;
         let events = Events::with_capacity(alloc, EVENTS)?;
